@@ -35,6 +35,7 @@ copied_front bytes into new at n rest is e copied =
     let left : rest ≡ drop at bytes = is ∙ take_rest bytes at in
     let le : n ≤ length rest = omega arith in
     let front : take n new ≡ take n rest = ap (take n) copied ∙ take_at (take n rest) (drop n into) n (length-take-le n rest le) in
-    rw (← drop-drop n at bytes, ← left)
-    (sym (ap (λ l. l ++ drop n rest) front ∙ take-append-drop n rest),
-     λ none some. drop_all n rest (omega (arith, ap length copied, length-append (take n rest) (drop n into), length-take n rest, length-drop n into)))
+    rw (← drop-drop n at bytes, ← left) (
+      sym (ap (λ l. l ++ drop n rest) front ∙ take-append-drop n rest),
+      λ none some. drop_all n rest (omega (arith, ap length copied, length-append (take n rest) (drop n into), length-take n rest, length-drop n into)),
+    )

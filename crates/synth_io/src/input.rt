@@ -48,12 +48,15 @@ fn take_piece<S: Source>(
     requires within { room ≤ length piece.old }
     ensures bound { IfOk result (λ count. count ≤ room) }
     ensures count { IfOk result (λ count. vec_len bytes.new ≡ vec_len bytes.old + count) }
-    ensures moved { OnOk result (Moves (S.left source.old) (S.left source.new) bytes.old.items bytes.new.items) }
+    ensures moved { OnOk result
+        (Moves (S.left source.old) (S.left source.new) bytes.old.items bytes.new.items) }
     ensures end { IfOk result (λ count. count ≡ 0 → IsAtEnd (S.left source.new)) }
     ensures lost { OnErr result (TakesAtMost room (S.left source.old) (S.left source.new)) }
     ensures long { result ≡ Err InputError.TooLong → ⊥ }
-    ensures failed { result ≡ Err InputError.Failed → HasRisen (S.faults source.old) (S.faults source.new) }
-    ensures same { (result ≡ Err InputError.Failed → ⊥) → S.faults source.new ≡ S.faults source.old }
+    ensures failed { result ≡ Err InputError.Failed
+        → HasRisen (S.faults source.old) (S.faults source.new) }
+    ensures same { (result ≡ Err InputError.Failed → ⊥)
+        → S.faults source.new ≡ S.faults source.old }
 {
     let Ok(count) = source.read(&mut piece[..room]) else {
         return Err(InputError::Failed);
@@ -72,9 +75,12 @@ pub fn read_input<S: Source>(alloc: Global, source: &mut S) -> Result<Text, Inpu
     ensures whole { IfOk result (λ bytes. Consumes (S.left source.old) (S.left source.new) bytes
         × IsAtEnd (S.left source.new) × (length bytes ≤ LIMIT)) }
     ensures taken { TakesAtMost (LIMIT + 1) (S.left source.old) (S.left source.new) }
-    ensures long { result ≡ Err InputError.TooLong → TakesJust (LIMIT + 1) (S.left source.old) (S.left source.new) }
-    ensures failed { result ≡ Err InputError.Failed → HasRisen (S.faults source.old) (S.faults source.new) }
-    ensures same { (result ≡ Err InputError.Failed → ⊥) → S.faults source.new ≡ S.faults source.old }
+    ensures long { result ≡ Err InputError.TooLong
+        → TakesJust (LIMIT + 1) (S.left source.old) (S.left source.new) }
+    ensures failed { result ≡ Err InputError.Failed
+        → HasRisen (S.faults source.old) (S.faults source.new) }
+    ensures same { (result ≡ Err InputError.Failed → ⊥)
+        → S.faults source.new ≡ S.faults source.old }
 {
     let mut bytes = Vec::new(alloc);
     let Ok(mut piece) = zeros(alloc, PIECE) else {

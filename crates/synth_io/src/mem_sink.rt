@@ -29,16 +29,29 @@ impl Model for MemSink {
 
     ghost Value = { Store };
 
-    ghost view = { λ sink. record { held = sink.bytes.items; room = sink.room; fails = sink.fails.items; calls = sink.calls; faults = sink.faults } };
+    ghost view = { λ sink. record {
+      held = sink.bytes.items;
+      room = sink.room;
+      fails = sink.fails.items;
+      calls = sink.calls;
+      faults = sink.faults;
+    } };
 
-    ghost invariant = { λ sink. (vec_len sink.bytes ≤ sink.room) × (sink.room ≤ vec_capacity sink.bytes) };
+    ghost invariant = { λ sink.
+        (vec_len sink.bytes ≤ sink.room) × (sink.room ≤ vec_capacity sink.bytes) };
 }
 
 impl MemSink {
     /// The sink for so many bytes whose writes with these numbers fail. It takes the memory for
     /// them here, so that no write takes any.
     pub fn make(alloc: Global, room: u32, fails: Vec<u64>) -> Result<MemSink, Memory>
-        ensures value { IfOk result (λ sink. sink ≡ record { held = []; room = room; fails = fails.items; calls = 0; faults = 0 }) }
+        ensures value { IfOk result (λ sink. sink ≡ record {
+          held = [];
+          room = room;
+          fails = fails.items;
+          calls = 0;
+          faults = 0;
+        }) }
     {
         Ok(MemSink {
             bytes: Vec::with_capacity(alloc, room as usize)?,

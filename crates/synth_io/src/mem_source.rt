@@ -26,13 +26,23 @@ impl Model for MemSource {
 
     ghost Value = { Supply };
 
-    ghost view = { λ source. record { left = source.bytes; fails = source.fails.items; calls = source.calls; faults = source.faults } };
+    ghost view = { λ source. record {
+      left = source.bytes;
+      fails = source.fails.items;
+      calls = source.calls;
+      faults = source.faults;
+    } };
 }
 
 impl MemSource {
     /// The source of these bytes whose reads with these numbers fail. It takes no memory.
     pub fn make(bytes: Text, fails: Vec<u64>) -> MemSource
-        ensures value { result ≡ record { left = bytes; fails = fails.items; calls = 0; faults = 0 } }
+        ensures value { result ≡ record {
+          left = bytes;
+          fails = fails.items;
+          calls = 0;
+          faults = 0;
+        } }
     {
         MemSource {
             bytes: SureSource::make(bytes),

@@ -21,7 +21,10 @@ impl<R: Read> Model for StdSource<R> {
 
     ghost Value = { Told };
 
-    ghost view = { λ source. record { content = R.remaining source.reader; faults = source.faults } };
+    ghost view = { λ source. record {
+      content = R.remaining source.reader;
+      faults = source.faults;
+    } };
 }
 
 impl<R: Read> StdSource<R> {
@@ -65,7 +68,10 @@ impl<W: Write> Model for StdSink<W> {
 
     ghost Value = { Told };
 
-    ghost view = { λ sink. record { content = W.contents sink.writer; faults = sink.faults } };
+    ghost view = { λ sink. record {
+      content = W.contents sink.writer;
+      faults = sink.faults;
+    } };
 }
 
 impl<W: Write> StdSink<W> {
