@@ -71,7 +71,10 @@ pub struct SureSink;
 
 impl SureSink {
     /// The sink, which takes no memory.
-    pub fn make() -> SureSink {
+    pub fn make() -> SureSink
+        ensures untold { ⟦<SureSink as Sink>⟧.held result ≡ None }
+        ensures no_fault { ⟦<SureSink as Sink>⟧.faults result ≡ 0 }
+    {
         SureSink
     }
 }
