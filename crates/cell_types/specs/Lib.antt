@@ -1,2 +1,6 @@
 pub mod Names
 pub mod Word
+pub mod Gate
+pub mod Storage
+pub mod Memory
+pub mod Unsupported

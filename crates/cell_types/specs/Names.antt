@@ -1,5 +1,6 @@
--- tables from names to what they name
-use Rattle.std.specs.Prelude.{ℕ, List, [], ◌∷◌, Option, Some, None, if◌then◌else◌, length, take, drop}
+-- tables of names
+use Rattle.std.specs.Prelude.{ℕ, Bool, List, [], ◌∷◌, Option, Some, None, if◌then◌else◌, length, take, drop}
+use Rattle.std.specs.List.{list_any}
 use Rattle.std.specs.Str.{bytes_eq}
 
 -- what the first row with this name names
@@ -14,3 +15,7 @@ prefixed (row ∷ rows) text =
     if bytes_eq (take (length row.0) text) row.0
     then Some (row.1, drop (length row.0) text)
     else prefixed rows text
+
+-- the name is one of these
+abbrev pub is_among : List (List ℕ) → List ℕ → Bool
+is_among names name = list_any (λ text. bytes_eq name text) names

@@ -2,9 +2,17 @@
 //! pins give it.
 #![tactic(auto)]
 
+mod gate;
+mod memory;
 mod names;
+mod storage;
+mod unsupported;
 mod word;
 
+pub use gate::GateKind;
+pub use memory::MemoryKind;
+pub use storage::StorageKind;
+pub use unsupported::is_unsupported;
 pub use word::{
     ArithKind, BitwiseKind, DivisionKind, EqualKind, FoldKind, LogicKind, OrderKind, ShiftKind,
     UnaryKind, WordKind,
