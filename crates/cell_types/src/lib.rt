@@ -3,15 +3,20 @@
 #![tactic(auto)]
 
 mod gate;
+mod letters;
+mod level;
 mod memory;
 mod names;
 mod storage;
+mod storage_gate;
 mod unsupported;
 mod word;
 
 pub use gate::GateKind;
+pub use level::Level;
 pub use memory::MemoryKind;
 pub use storage::StorageKind;
+pub use storage_gate::StorageGate;
 pub use unsupported::is_unsupported;
 pub use word::{
     ArithKind, BitwiseKind, DivisionKind, EqualKind, FoldKind, LogicKind, OrderKind, ShiftKind,
