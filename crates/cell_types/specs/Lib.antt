@@ -4,4 +4,5 @@ pub mod Gate
 pub mod Storage
 pub mod Letters
 pub mod Memory
+pub mod Kind
 pub mod Unsupported

@@ -3,6 +3,7 @@
 #![tactic(auto)]
 
 mod gate;
+mod kind;
 mod letters;
 mod level;
 mod memory;
@@ -13,6 +14,7 @@ mod unsupported;
 mod word;
 
 pub use gate::GateKind;
+pub use kind::{CellKind, kind_of};
 pub use level::Level;
 pub use memory::MemoryKind;
 pub use storage::StorageKind;
