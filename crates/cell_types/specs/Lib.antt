@@ -6,3 +6,7 @@ pub mod Letters
 pub mod Memory
 pub mod Kind
 pub mod Unsupported
+pub mod ParamName
+pub mod PinName
+pub mod Params
+pub mod Pins
