@@ -10,3 +10,4 @@ pub mod ParamName
 pub mod PinName
 pub mod Params
 pub mod Pins
+pub mod Number

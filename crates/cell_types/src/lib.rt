@@ -8,6 +8,7 @@ mod letters;
 mod level;
 mod memory;
 mod names;
+mod number;
 mod param_name;
 mod params;
 mod pin_name;
