@@ -11,3 +11,4 @@ pub mod PinName
 pub mod Params
 pub mod Pins
 pub mod Number
+pub mod Given

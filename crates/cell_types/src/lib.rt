@@ -3,6 +3,7 @@
 #![tactic(auto)]
 
 mod gate;
+mod given;
 mod kind;
 mod letters;
 mod level;
@@ -19,6 +20,7 @@ mod unsupported;
 mod word;
 
 pub use gate::GateKind;
+pub use given::{Param, PinWidth};
 pub use kind::{CellKind, kind_of};
 pub use level::Level;
 pub use memory::MemoryKind;
