@@ -12,3 +12,4 @@ pub mod Params
 pub mod Pins
 pub mod Number
 pub mod Given
+pub mod Widths

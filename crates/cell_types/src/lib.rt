@@ -17,6 +17,7 @@ mod pins;
 mod storage;
 mod storage_gate;
 mod unsupported;
+mod widths;
 mod word;
 
 pub use gate::GateKind;
