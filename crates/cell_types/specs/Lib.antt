@@ -13,3 +13,5 @@ pub mod Pins
 pub mod Number
 pub mod Given
 pub mod Widths
+pub mod Reading
+pub mod Fault

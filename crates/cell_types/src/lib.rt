@@ -2,6 +2,7 @@
 //! pins give it.
 #![tactic(auto)]
 
+mod fault;
 mod gate;
 mod given;
 mod kind;
@@ -14,12 +15,14 @@ mod param_name;
 mod params;
 mod pin_name;
 mod pins;
+mod reading;
 mod storage;
 mod storage_gate;
 mod unsupported;
 mod widths;
 mod word;
 
+pub use fault::CellFault;
 pub use gate::GateKind;
 pub use given::{Param, PinWidth};
 pub use kind::{CellKind, kind_of};
