@@ -15,3 +15,5 @@ pub mod Given
 pub mod Widths
 pub mod Reading
 pub mod Fault
+pub mod Levels
+pub mod Shape
