@@ -1,0 +1,4 @@
+pub mod Orders
+pub mod Tables
+pub mod Lists
+pub mod Numbers

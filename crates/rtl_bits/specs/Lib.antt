@@ -1,0 +1,3 @@
+pub mod Knowledge
+pub mod Tables
+pub mod Numbers

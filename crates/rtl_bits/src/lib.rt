@@ -2,10 +2,12 @@
 #![tactic(auto)]
 
 mod bit;
+mod bits;
+pub mod laws;
 mod memory;
 mod seq;
 
-pub use bit::Bit;
+pub use bit::{Bit, bit_and, bit_mux, bit_not, bit_or, bit_xor, merge};
 pub use memory::Memory;
 pub use seq::{Copied, Seq};
 
