@@ -1,7 +1,17 @@
--- a product of numbers that are cut off at a bound
-use Rattle.std.proofs.Common.{◌≡◌, ℕ, ◌+◌, ◌*◌, ◌≤◌, ◌<◌, min, Bool, true, false, ltb, zero, suc, refl, sym, ◌∙◌, arith}
+-- numbers by their digits, and products of numbers that are cut off at a bound
+use Rattle.std.proofs.Common.{◌≡◌, ℕ, ◌+◌, ◌*◌, ◌≤◌, ◌<◌, min, Bool, true, false, ltb, zero, suc, List, [], ◌∷◌, drop, refl, ◌∙◌, add-one, arith}
 use Rattle.std.proofs.Math.Nat.{le-mul_of_pos_right, mul_comm}
 use Rattle.std.proofs.lemmas.Bool.{ltb-true, ltb-false}
+use Rattle.rtl_bits.specs.declared.bit.Bit.{Bit}
+use Rattle.rtl_bits.specs.Numbers.{number_of}
+use Rattle.cell_types.specs.Number.{digit_at}
+
+-- a number from its lowest digit and the rest
+pub number_of_drop : (bits : List Bit) (at : ℕ) → number_of (drop at bits) ≡ digit_at bits at + 2 * number_of (drop (at + 1) bits)
+number_of_drop [] zero = refl
+number_of_drop [] (suc at) = rw add-one refl
+number_of_drop (bit ∷ bits) zero = refl
+number_of_drop (bit ∷ bits) (suc at) = rw add-one (rw add-one at (number_of_drop bits at))
 
 -- one factor passes the bound, so that the product does, where it is not 0
 min_product_over : (a b m : ℕ) → 0 < m → m ≤ a → min (min a m * min b m) m ≡ min (a * b) m

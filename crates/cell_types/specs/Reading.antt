@@ -1,6 +1,6 @@
 -- how the value of each parameter is read
 use Rattle.std.specs.Prelude.{Bool, true, List, ◌&&◌, ◌==◌, length, nat_lt}
-use Rattle.std.specs.List.{list_all}
+use Rattle.rtl_bits.specs.Knowledge.{all_known}
 use Rattle.cell_types.specs.declared.given.Param.{Param}
 use Rattle.cell_types.specs.declared.kind.CellKind.{CellKind}
 use Rattle.cell_types.specs.declared.kind.CellKind.TheVariants.{Memory}
@@ -10,7 +10,6 @@ use Rattle.cell_types.specs.declared.param_name.ParamName.TheVariants as Param
 use Rattle.cell_types.specs.declared.reading.Reading.{Reading}
 use Rattle.cell_types.specs.declared.reading.Reading.TheVariants.{Width, Number, Word, Any}
 use Rattle.cell_types.specs.Given.{number_in, value_in}
-use Rattle.cell_types.specs.Number.{is_known}
 
 -- what the name alone asks of the value
 abbrev pub own_reading : ParamName → Reading
@@ -40,8 +39,8 @@ reading_of _ name = own_reading name
 
 -- the value is as its reading asks
 abbrev pub is_read_as : Reading → List Param → ParamName → Bool
-is_read_as Width params name = list_all is_known (value_in params name) && nat_lt 0 (number_in params name)
-is_read_as Number params name = list_all is_known (value_in params name)
+is_read_as Width params name = all_known (value_in params name) && nat_lt 0 (number_in params name)
+is_read_as Number params name = all_known (value_in params name)
 is_read_as Word params name = length (value_in params name) == number_in params Param.Width
 is_read_as Any params name = true
 
