@@ -1,0 +1,5 @@
+//! The top call.
+
+ghost use Rattle.std.specs.Prelude.{◌≡◌};
+
+pub fn run() {}
