@@ -37,13 +37,20 @@ unfoldable pub gates_from : ℕ → ℕ → List SigBit → List SigBit → List
 gates_from n i a b [] = []
 gates_from n i a b (y ∷ ys) = and_gate (n + 1) (operand_bit a i) (operand_bit b i) y ∷ gates_from (n + 1) (i + 1) a b ys
 
--- the cells of a module where n is the greatest number so far: each `$and` gives its gates, and any other cell stays
+-- the gates of a cell where n is the greatest number so far; any other cell than `$and` stays
+unfoldable pub gates_of : ℕ → Cell → List Cell
+gates_of n cell = if bytes_eq cell.kind_name (codes "$and")
+    then gates_from n 0 (pin_signal (codes "\\A") cell.pins) (pin_signal (codes "\\B") cell.pins) (pin_signal (codes "\\Y") cell.pins)
+    else cell ∷ []
+
+-- how many numbers the gates of a cell take
+unfoldable pub numbers_of : Cell → ℕ
+numbers_of cell = if bytes_eq cell.kind_name (codes "$and") then length (pin_signal (codes "\\Y") cell.pins) else 0
+
+-- the gates of the cells of a module where n is the greatest number so far
 unfoldable pub mapped_cells : ℕ → List Cell → List Cell
 mapped_cells n [] = []
-mapped_cells n (cell ∷ cells) = if bytes_eq cell.kind_name (codes "$and")
-    then gates_from n 0 (pin_signal (codes "\\A") cell.pins) (pin_signal (codes "\\B") cell.pins) (pin_signal (codes "\\Y") cell.pins)
-      ++ mapped_cells (n + length (pin_signal (codes "\\Y") cell.pins)) cells
-    else cell ∷ mapped_cells n cells
+mapped_cells n (cell ∷ cells) = gates_of n cell ++ mapped_cells (n + numbers_of cell) cells
 
 -- a module with its gates; numbers go on from the greatest in the module
 abbrev pub mapped : Module → Module

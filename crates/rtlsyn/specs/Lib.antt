@@ -1,3 +1,3 @@
 pub mod Fresh
 pub mod Gates
-
+pub mod Replies

@@ -7,6 +7,8 @@ use Rattle.rtl_read.specs.Form.{first_form}
 use Rattle.rtl_write.specs.Text.{text_of}
 use Rattle.rtlsyn.specs.declared.program.Mode.{Mode}
 use Rattle.rtlsyn.specs.declared.program.Mode.TheVariants.{Synth}
+use Rattle.rtlsyn.specs.declared.program.Status.{Status}
+use Rattle.rtlsyn.specs.declared.program.Status.TheVariants as statuses
 use Rattle.rtlsyn.specs.Gates.{netlist_of}
 
 -- a reply, and whether it is an error
@@ -41,3 +43,21 @@ HasAnswered mode error before had has = IfSome before (λ input. Appends had has
 -- a front of the reply was written
 abbrev pub HasBegun : Mode → Option (List ℕ) → Option (List ℕ) → Option (List ℕ) → Type 0
 HasBegun mode before had has = IfSome before (λ input. (n : ℕ) × Appends had has (take n (reply_to mode input).text))
+
+-- the whole reply was written, or memory was wanting
+abbrev pub IsCompleted : Status → Type 0
+IsCompleted statuses.Done = Unit {0}
+IsCompleted statuses.Refused = Unit {0}
+IsCompleted statuses.Usage = ⊥
+IsCompleted statuses.ReadFault = ⊥
+IsCompleted statuses.WriteFault = ⊥
+IsCompleted statuses.Memory = Unit {0}
+
+-- the exit status
+abbrev pub exit_code : Status → ℕ
+exit_code statuses.Done = 0
+exit_code statuses.Refused = 1
+exit_code statuses.Usage = 2
+exit_code statuses.ReadFault = 3
+exit_code statuses.WriteFault = 4
+exit_code statuses.Memory = 5

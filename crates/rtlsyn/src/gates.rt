@@ -1,7 +1,7 @@
 //! The gates of a module's `$and` cells.
 
 ghost use Rattle.std.specs.Prelude.{◌≡◌, ◌≤◌, ◌+◌, ◌++◌, ◌∷◌, [], IfOk, OnOk, map, length};
-ghost use Rattle.rtlsyn.specs.Gates.{pin_signal, operand_bit, bit_pin, and_gate, gates_from, mapped_cells, mapped, netlist_of};
+ghost use Rattle.rtlsyn.specs.Gates.{pin_signal, operand_bit, bit_pin, and_gate, gates_from, gates_of, numbers_of, mapped_cells, mapped, netlist_of};
 
 use crate::fresh::{fresh_name, greatest_number};
 use rtl_bits::{Bit, Copied, Memory, Seq, Text};
@@ -68,6 +68,7 @@ fn and_gate(alloc: Global, number: u64, a: SigBit, b: SigBit, y: SigBit) -> Resu
 
 impl Netlist {
     /// Puts a gate for each bit of the result last.
+    #[tactic(auto, using(crate::proofs::GateLemmas::gate_goes, crate::proofs::GateLemmas::no_gates))]
     fn put_gates(
         &mut self,
         alloc: Global,
@@ -79,7 +80,8 @@ impl Netlist {
         ensures number { OnOk result (self.new.number ≡ self.old.number + length ys.now) }
     {
         for (i, y) in ys.iter().enumerate() {
-            let made = self.cells.as_slice().len();
+            // Fewer than 2^63 cells are there, so the sum fits.
+            let _made = self.cells.as_slice().len();
             let number = self.number + 1;
             let gate = and_gate(alloc, number, operand_bit(a, i), operand_bit(b, i), *y)?;
             self.cells.push(gate)?;
@@ -87,9 +89,26 @@ impl Netlist {
         }
         Ok(())
     }
+
+    /// Puts the gates of the cell last, or the cell itself where it is no `$and`.
+    #[tactic(auto, unfolding(crate::specs::Gates::gates_of, crate::specs::Gates::numbers_of))]
+    fn put_cell(&mut self, alloc: Global, cell: &Cell) -> Result<(), Memory>
+        ensures cells { OnOk result (self.new.cells ≡ self.old.cells ++ gates_of self.old.number cell.now) }
+        ensures number { OnOk result (self.new.number ≡ self.old.number + numbers_of cell.now) }
+    {
+        if cell.kind_name.as_slice() != b"$and".as_slice() {
+            return self.cells.push(cell.copy()?);
+        }
+        let pins = cell.pins.as_slice();
+        let a = pin_signal(b"\\A", pins);
+        let b = pin_signal(b"\\B", pins);
+        let y = pin_signal(b"\\Y", pins);
+        self.put_gates(alloc, a, b, y)
+    }
 }
 
-/// The cells of a module with the gates of its `$and` cells.
+/// The gates of the cells of a module where `number` is the greatest number so far.
+#[tactic(auto, using(crate::proofs::GateLemmas::cell_goes, crate::proofs::GateLemmas::no_cells))]
 fn mapped_cells(alloc: Global, number: u32, cells: &[Cell]) -> Result<Seq<Cell>, Memory>
     requires small { number ≤ 999999999 }
     ensures value { IfOk result (λ all. all ≡ mapped_cells number cells.now) }
@@ -99,15 +118,7 @@ fn mapped_cells(alloc: Global, number: u32, cells: &[Cell]) -> Result<Seq<Cell>,
         number: u64::from(number),
     };
     for cell in cells {
-        if cell.kind_name.as_slice() == b"$and".as_slice() {
-            let pins = cell.pins.as_slice();
-            let a = pin_signal(b"\\A", pins);
-            let b = pin_signal(b"\\B", pins);
-            let y = pin_signal(b"\\Y", pins);
-            netlist.put_gates(alloc, a, b, y)?;
-        } else {
-            netlist.cells.push(cell.copy()?)?;
-        }
+        netlist.put_cell(alloc, cell)?;
     }
     Ok(netlist.cells)
 }
