@@ -11,5 +11,6 @@ empty_module id = record {
   wires = [];
   memories = [];
   cells = [];
+  processes = [];
   links = [];
 }

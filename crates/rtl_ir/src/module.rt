@@ -4,6 +4,7 @@ ghost use Rattle.std.specs.Prelude.{◌≡◌, IfOk};
 ghost use Rattle.rtl_ir.specs.Empty.{empty_module};
 
 use crate::cell::Cell;
+use crate::process::Process;
 use crate::store::Store;
 use crate::value::{Attribute, Value};
 use crate::wire::Wire;
@@ -35,6 +36,7 @@ pub struct Module {
     pub wires: Seq<Wire>,
     pub memories: Seq<Store>,
     pub cells: Seq<Cell>,
+    pub processes: Seq<Process>,
     pub links: Seq<Link>,
 }
 
@@ -56,6 +58,7 @@ impl Module {
             wires: Seq::make(alloc),
             memories: Seq::make(alloc),
             cells: Seq::make(alloc),
+            processes: Seq::make(alloc),
             links: Seq::make(alloc),
         })
     }
@@ -92,6 +95,7 @@ impl Copied for Module {
             wires: self.wires.copy()?,
             memories: self.memories.copy()?,
             cells: self.cells.copy()?,
+            processes: self.processes.copy()?,
             links: self.links.copy()?,
         })
     }

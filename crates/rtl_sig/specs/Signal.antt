@@ -1,8 +1,8 @@
 -- Parts and extensions of signals.
-use Rattle.std.specs.Prelude.{ℕ, ◌-◌, Bool, true, false, List, [], ◌∷◌, ◌++◌, length, take, slice_get, unwrap_or, replicate}
+use Rattle.std.specs.Prelude.{ℕ, ◌-◌, Bool, true, false, List, ◌++◌, length, take, slice_get, unwrap_or, replicate}
 use Rattle.rtl_bits.specs.declared.bit.Bit.TheVariants.{S0}
 use Rattle.rtl_sig.specs.declared.sig.SigBit.{SigBit}
-use Rattle.rtl_sig.specs.declared.sig.SigBit.TheVariants.{Fixed, Wire}
+use Rattle.rtl_sig.specs.declared.sig.SigBit.TheVariants.{Fixed}
 
 -- what fills a signal up: its top bit where it is signed, else 0
 abbrev pub fill_of : List SigBit → Bool → SigBit

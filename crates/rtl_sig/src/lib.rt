@@ -1,8 +1,10 @@
-//! Signals: bits of wires and constants, and lists of them.
+//! Names and their numbers, and signals: lists of bits of wires and constants.
 #![tactic(auto)]
 
 mod fault;
+mod names;
 mod sig;
 
 pub use fault::SigFault;
+pub use names::{NameId, Names};
 pub use sig::{SigBit, SigSpec, WireBit};

@@ -58,6 +58,17 @@ impl Copied for SigSpec {
     }
 }
 
+/// The signal of the bits below, and the bits above on top of them.
+fn joined(alloc: Global, below: &[SigBit], above: &[SigBit]) -> Result<SigSpec, Memory>
+    requires room { length below.now + length above.now ≤ MAX_WIDTH }
+    ensures value { IfOk result (λ whole. whole ≡ below.now ++ above.now) }
+{
+    let mut bits = Vec::with_capacity(alloc, below.len() + above.len())?;
+    bits.extend_from_slice(below)?;
+    bits.extend_from_slice(above)?;
+    Ok(SigSpec::from_vec(bits))
+}
+
 impl SigSpec {
     /// The signal of no bits. It takes no memory.
     pub fn make(alloc: Global) -> SigSpec
@@ -122,10 +133,7 @@ impl SigSpec {
         if bits.len() < at + width {
             return Err(SigFault::Range);
         }
-        match SigSpec::from_slice(self.bits.allocator(), &bits[at..at + width]) {
-            Ok(part) => Ok(part),
-            Err(Memory) => Err(SigFault::Memory),
-        }
+        Ok(SigSpec::from_slice(self.bits.allocator(), &bits[at..at + width])?)
     }
 
     /// This signal with another one on top of it.
@@ -140,12 +148,7 @@ impl SigSpec {
         if below.len() > MAX_WIDTH || above.len() > MAX_WIDTH - below.len() {
             return Err(SigFault::Width);
         }
-        let mut bits = Vec::with_capacity(self.bits.allocator(), below.len() + above.len()).map_err(
-            |_| SigFault::Memory,
-        )?;
-        bits.extend_from_slice(below).map_err(|_| SigFault::Memory)?;
-        bits.extend_from_slice(above).map_err(|_| SigFault::Memory)?;
-        Ok(SigSpec::from_vec(bits))
+        Ok(joined(self.bits.allocator(), below, above)?)
     }
 
     /// This signal cut to `width` bits, or filled up with its top bit where `signed`, else with

@@ -1,0 +1,125 @@
+-- Tests of the texts that keys hold, and where a name stands.
+use Rattle.std.proofs.Common.{◌≡◌, ℕ, ◌+◌, Bool, true, false, not, cond, ◌||◌, List, [], ◌∷◌, ◌++◌, Some, None, Vec, Global, map, length, position, nat_lt, slice_get, refl, sym, ◌∙◌, ap, arith, true≢false}
+use Rattle.std.proofs.lemmas.List.{length-map, map-append, append-nil, append_assoc}
+use borrow.Author.Tests.{ltb-true}
+use Rattle.indexmap.specs.IndexSet.{insert_key}
+use Rattle.std.proofs.lemmas.Grind.{common_steps}
+use Rattle.std.proofs.lemmas.Slice.Eq.{bytes_eq-Decides}
+use Rattle.std.specs.List.{list_any, position_or_len, IsDistinct, AllByRecursion}
+use Rattle.std.specs.Str.{bytes_eq}
+use Rattle.rtl_sig.specs.Names.{number_of, next_number_of, with_name}
+
+module _ {A B : Type 0} (g : A → B) where
+  pub position_or_len-map : (f : B → Bool) (xs : List A) → position_or_len (λ x. f (g x)) xs ≡ position_or_len f (map g xs)
+  position_or_len-map f [] = refl
+  position_or_len-map f (x ∷ xs) = ap (λ n. cond (not (f (g x))) (1 + n) 0) (position_or_len-map f xs)
+
+  pub position-map : (f : B → Bool) (xs : List A) → position (λ x. f (g x)) xs ≡ position f (map g xs)
+  position-map f xs = rw (position_or_len-map f xs, length-map xs g) refl
+
+  pub list_any-map : (f : B → Bool) (xs : List A) → list_any (λ x. f (g x)) xs ≡ list_any f (map g xs)
+  list_any-map f [] = refl
+  list_any-map f (x ∷ xs) = ap (λ b. f (g x) || b) (list_any-map f xs)
+
+  AllByRecursion-map : (P : B → Type 0) (xs : List A) → AllByRecursion (λ x. P (g x)) xs → AllByRecursion P (map g xs)
+  AllByRecursion-map P [] h = h
+  AllByRecursion-map P (x ∷ xs) h = (h.0, AllByRecursion-map P xs h.1)
+
+  pub IsDistinct-map : (e : B → B → Bool) (xs : List A) → IsDistinct (λ x y. e (g x) (g y)) xs → IsDistinct e (map g xs)
+  unfolding IsDistinct
+  IsDistinct-map e [] h = h
+  IsDistinct-map e (x ∷ xs) h = (AllByRecursion-map (λ y. e (g x) y ≡ false) xs h.0, IsDistinct-map e xs h.1)
+
+-- a known name stands at its number
+pub slice_get-known : (name : List ℕ) (names : List (List ℕ)) → list_any (bytes_eq name) names ≡ true → slice_get names (next_number_of names name) ≡ Some name
+slice_get-known name [] h = cc
+slice_get-known name (x ∷ xs) h = by (bytes_eq name x) refl (slice_get-known name xs)
+  where
+    by : (b : Bool) → bytes_eq name x ≡ b → (list_any (bytes_eq name) xs ≡ true → slice_get xs (next_number_of xs name) ≡ Some name)
+        → slice_get (x ∷ xs) (next_number_of (x ∷ xs) name) ≡ Some name
+    by true e ih = rw e (ap Some (sym ((bytes_eq-Decides name x).0 e)))
+    by false e ih = let known : list_any (bytes_eq name) xs ≡ true = rw e at h in let at = ih known in grind (arith, common_steps)
+
+-- the next number is behind all others
+pub next_number_of-new : (name : List ℕ) (names : List (List ℕ)) → list_any (bytes_eq name) names ≡ false → next_number_of names name ≡ length names
+next_number_of-new name [] h = refl
+next_number_of-new name (x ∷ xs) h = by (bytes_eq name x) refl (next_number_of-new name xs)
+  where
+    by : (b : Bool) → bytes_eq name x ≡ b → (list_any (bytes_eq name) xs ≡ false → next_number_of xs name ≡ length xs) → next_number_of (x ∷ xs) name ≡ length (x ∷ xs)
+    by true e ih = absurd (true≢false (rw e at h))
+    by false e ih = rw e (let new : list_any (bytes_eq name) xs ≡ false = rw e at h in let n = ih new in omega arith)
+
+slice_get-end : (names : List (List ℕ)) (name : List ℕ) → slice_get (names ++ name ∷ []) (length names) ≡ Some name
+slice_get-end [] name = refl
+slice_get-end (x ∷ xs) name = slice_get-end xs name
+
+-- a name that was seen stands at its number
+pub slice_get-with_name : (names : List (List ℕ)) (name : List ℕ) → slice_get (with_name names name) (next_number_of names name) ≡ Some name
+slice_get-with_name names name = by (list_any (bytes_eq name) names) refl
+  where
+    by : (b : Bool) → list_any (bytes_eq name) names ≡ b → slice_get (with_name names name) (next_number_of names name) ≡ Some name
+    by true e = rw e (slice_get-known name names e)
+    by false e = rw (e, next_number_of-new name names e) (slice_get-end names name)
+
+-- what the number of a known name says
+pub record IsKnownAt (names : List (List ℕ)) (name : List ℕ) (index : ℕ) : Type 0 where
+  pub number : index ≡ next_number_of names name
+  pub stays : names ≡ with_name names name
+  pub text : slice_get names index ≡ Some name
+
+pub IsKnownAt-number_of : (names : List (List ℕ)) (name : List ℕ) (index : ℕ) → Some index ≡ number_of names name → IsKnownAt names name index
+IsKnownAt-number_of names name index h = by (list_any (bytes_eq name) names) refl (nat_lt (next_number_of names name) (length names)) refl
+  where
+    by : (b : Bool) → list_any (bytes_eq name) names ≡ b → (t : Bool) → nat_lt (next_number_of names name) (length names) ≡ t → IsKnownAt names name index
+    by b e false f = absurd (let k : Some index ≡ None = rw f at h in cc)
+    by false e true f = absurd (let n = next_number_of-new name names e in let k = ltb-true _ _ f in omega arith)
+    by true e true f =
+        let k : Some index ≡ Some (next_number_of names name) = rw f at h in
+        let n : index ≡ next_number_of names name = cc in
+        record { number = n; stays = rw e refl; text = rw n (slice_get-known name names e) }
+
+-- the text that a key holds
+abbrev pub text_of : Vec ℕ Global → List ℕ
+text_of key = key.items
+
+-- keys that hold names: as the keys are, so are the names
+module _ {K : Type 0} (text : K → List ℕ) (keys : List K) where
+  pub number_of-map : (name : List ℕ) → position (λ k. bytes_eq name (text k)) keys ≡ number_of (map text keys) name
+  number_of-map name = position-map text (bytes_eq name) keys
+
+  pub next_number_of-map : (key : K) → position_or_len (λ k. bytes_eq (text key) (text k)) keys ≡ next_number_of (map text keys) (text key)
+  next_number_of-map key = position_or_len-map text (bytes_eq (text key)) keys
+
+  pub with_name-map : (key : K) → map text (insert_key (λ x y. bytes_eq (text x) (text y)) keys key) ≡ with_name (map text keys) (text key)
+  with_name-map key = by (list_any (λ k. bytes_eq (text key) (text k)) keys) refl
+    where
+      by : (b : Bool) → list_any (λ k. bytes_eq (text key) (text k)) keys ≡ b → map text (insert_key (λ x y. bytes_eq (text x) (text y)) keys key) ≡ with_name (map text keys) (text key)
+      by true e = let f = sym (list_any-map text (bytes_eq (text key)) keys) ∙ e in rw (e, f) refl
+      by false e = let f = sym (list_any-map text (bytes_eq (text key)) keys) ∙ e in rw (e, f) (map-append text keys (key ∷ []))
+
+-- the names once all of these are seen
+abbrev pub with_all : List (List ℕ) → List (List ℕ) → List (List ℕ)
+with_all names [] = names
+with_all names (x ∷ xs) = with_all (with_name names x) xs
+
+differs_back : (x y : List ℕ) → bytes_eq x y ≡ false → bytes_eq y x ≡ false
+differs_back x y h = by (bytes_eq y x) refl
+  where
+    by : (b : Bool) → bytes_eq y x ≡ b → bytes_eq y x ≡ false
+    by true e = absurd (true≢false (sym ((bytes_eq-Decides x y).1 (sym ((bytes_eq-Decides y x).0 e))) ∙ h))
+    by false e = e
+
+at_middle : {A : Type 0} (P : A → Type 0) (xs : List A) (y : A) (ys : List A) → AllByRecursion P (xs ++ y ∷ ys) → P y
+at_middle P [] y ys h = h.0
+at_middle P (x ∷ xs) y ys h = at_middle P xs y ys h.1
+
+is_new : (xs : List (List ℕ)) (y : List ℕ) (ys : List (List ℕ)) → IsDistinct bytes_eq (xs ++ y ∷ ys) → list_any (bytes_eq y) xs ≡ false
+unfolding IsDistinct
+is_new [] y ys h = refl
+is_new (x ∷ xs) y ys h = rw (differs_back x y (at_middle (λ z. bytes_eq x z ≡ false) xs y ys h.0)) (is_new xs y ys h.1)
+
+-- distinct names that are seen in turn stand one after another
+pub with_all-distinct : (xs ys : List (List ℕ)) → IsDistinct bytes_eq (xs ++ ys) → with_all xs ys ≡ xs ++ ys
+with_all-distinct xs [] h = sym (append-nil xs)
+with_all-distinct xs (y ∷ ys) h =
+    rw (is_new xs y ys h) (with_all-distinct (xs ++ y ∷ []) ys (rw append_assoc h) ∙ append_assoc xs (y ∷ []) ys)

@@ -1,0 +1,13 @@
+use Rattle.std.proofs.Common.{◌∙◌}
+use Rattle.rtl_sig.proofs.NamesLemmas.{text_of, number_of-map, IsKnownAt-number_of}
+use Rattle.rtl_sig.proofs.names.Names.find.Goals as goal
+
+pub returns-in_err-index-clause-number : goal.returns-in_err-index-clause-number
+returns-in_err-index-clause-number c =
+    rw (c.from_residual.ensures, ← c.self.view_is) (c.in_err-index.ensures.index ∙ number_of-map text_of c.self.inside.seen.keys c.args.name.now)
+
+pub returns-clause-number : goal.returns-clause-number
+returns-clause-number c = rw (← c.self.view_is) (c.in_ok-index.ensures.index ∙ number_of-map text_of c.self.inside.seen.keys c.args.name.now)
+
+pub returns-clause-text : goal.returns-clause-text
+returns-clause-text c = (IsKnownAt-number_of c.args.self.now c.args.name.now c.in_ok-index.index (returns-clause-number c)).text
