@@ -90,6 +90,7 @@ fn with_cells(
         wires,
         memories: Seq::make(alloc),
         cells,
+        processes: Seq::make(alloc),
         links: Seq::make(alloc),
     })
 }

@@ -7,6 +7,7 @@ use Rattle.rtl_read.specs.Numbers.{decimal_of, is_digits}
 use Rattle.rtl_ir.specs.declared.wire.Wire.{Wire}
 use Rattle.rtl_ir.specs.declared.store.Store.{Store}
 use Rattle.rtl_ir.specs.declared.cell.Cell.{Cell}
+use Rattle.rtl_ir.specs.declared.process.Process.{Process}
 use Rattle.rtl_ir.specs.declared.module.Module.{Module}
 
 -- the made name of this number
@@ -26,6 +27,6 @@ fresh_number name = if bytes_eq (take 5 name) (codes "$syn$") && is_plain_number
 abbrev pub greatest_of : List (List ℕ) → ℕ
 greatest_of names = fold max 0 (map fresh_number names)
 
--- the names of a module's wires, memories and cells
+-- the names of a module's wires, memories, cells and processes
 abbrev pub names_of : Module → List (List ℕ)
-names_of m = map (λ (w : Wire). w.name) m.wires ++ map (λ (s : Store). s.name) m.memories ++ map (λ (c : Cell). c.name) m.cells
+names_of m = map (λ (w : Wire). w.name) m.wires ++ map (λ (s : Store). s.name) m.memories ++ map (λ (c : Cell). c.name) m.cells ++ map (λ (p : Process). p.name) m.processes

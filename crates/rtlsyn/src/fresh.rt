@@ -49,7 +49,7 @@ fn fresh_number(name: &[u8]) -> u32
     plain_number(&name[PREFIX.len()..]).unwrap_or(0)
 }
 
-/// The greatest number of the made names of the module's wires, memories and cells.
+/// The greatest number of the made names of the module's wires, memories, cells and processes.
 pub fn greatest_number(module: &Module) -> u32
     ensures value { result ≡ greatest_of (names_of «module».now) }
     ensures small { result ≤ 999999999 }
@@ -63,6 +63,9 @@ pub fn greatest_number(module: &Module) -> u32
     }
     for cell in module.cells.as_slice() {
         greatest = fresh_number(cell.name.as_slice()).max(greatest);
+    }
+    for process in module.processes.as_slice() {
+        greatest = fresh_number(process.name.as_slice()).max(greatest);
     }
     greatest
 }

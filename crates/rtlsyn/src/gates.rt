@@ -135,6 +135,7 @@ fn mapped(alloc: Global, module: &Module) -> Result<Module, Memory>
         wires: module.wires.copy()?,
         memories: module.memories.copy()?,
         cells: mapped_cells(alloc, number, module.cells.as_slice())?,
+        processes: module.processes.copy()?,
         links: module.links.copy()?,
     })
 }
