@@ -1,0 +1,17 @@
+//! The tokens of RTLIL text, each with its place, and the values that they write.
+//!
+//! `next_token` reads one token. `int_of`, `value_width`, `is_signed`, `bits_of` and `chars_of` say what a token's text stands for.
+#![tactic(auto)]
+
+mod number;
+mod place;
+mod scan;
+mod string;
+mod token;
+mod value;
+
+pub use number::int_of;
+pub use place::Place;
+pub use string::chars_of;
+pub use token::{LexFault, Token, TokenKind, next_token};
+pub use value::{is_signed, value_width};
