@@ -14,4 +14,4 @@ pub use number::int_of;
 pub use place::Place;
 pub use string::chars_of;
 pub use token::{LexFault, Token, TokenKind, next_token};
-pub use value::{is_signed, value_width};
+pub use value::{bits_of, is_signed, value_width};

@@ -1,7 +1,8 @@
 //! Values: a width, an apostrophe, an optional `s`, and bits.
 
-ghost use Rattle.std.specs.Prelude.{◌≡◌, ◌<◌, ◌≤◌, ◌^◌, length, MatchOption, IfOk};
-ghost use Rattle.rtl_lex.specs.Values.{sign_len, tail_of, written_of, width_of, is_signed, bit_of, fill_of};
+ghost use Rattle.std.specs.Prelude.{◌≡◌, ◌<◌, ◌≤◌, ◌^◌, length, map, reverse, MatchOption, IfOk};
+ghost use Rattle.std.specs.List.{slice_index_or};
+ghost use Rattle.rtl_lex.specs.Values.{sign_len, tail_of, written_of, width_of, is_signed, bit_of, fill_of, bits_of};
 
 use crate::number::decimal;
 use crate::scan::digits;
@@ -78,4 +79,35 @@ fn fill_of(written: &[u8]) -> Bit
         Bit::S1 => Bit::S0,
         top => top,
     }
+}
+
+/// The bit of a value at a place, where the place is counted from bit 0.
+fn bit_at(written: &[u8], fill: Bit, at: usize) -> Bit
+    ensures { result ≡ slice_index_or (map bit_of (reverse written.now)) at fill }
+{
+    if at < written.len() {
+        bit_of(written[written.len() - 1 - at])
+    } else {
+        fill
+    }
+}
+
+/// The bits of a value token's text, bit 0 first, as many as its width.
+///
+/// The last written bit is bit 0. Missing bits are filled in above the written ones: with 0 above a
+/// top 1, with x where none is written, else with the top written bit. Of more bits than the width
+/// the top ones are cut off. `width` is what `value_width` gives, which a caller tests first: the
+/// list takes memory for so many bits.
+#[tactic(auto, using(crate::proofs::Filling::fitted_more))]
+pub fn bits_of(alloc: Global, text: &[u8], width: u32) -> Result<Bits, Memory>
+    requires { width ≡ width_of text.now }
+    ensures value { IfOk result (λ bits. bits ≡ bits_of text.now) }
+{
+    let written = written_of(text);
+    let fill = fill_of(written);
+    let mut bits = Vec::with_capacity(alloc, width as usize)?;
+    for at in 0..width as usize {
+        bits.push(bit_at(written, fill, at))?;
+    }
+    Ok(Bits::from_vec(bits))
 }
