@@ -1,7 +1,7 @@
 //! Places in a text.
 
-ghost use Rattle.std.specs.Prelude.{◌≡◌, ◌+◌, ◌<◌, ◌≤◌, ◌^◌, length, take, drop};
-ghost use Rattle.rtl_lex.specs.Place.{moved, IsPlaceIn};
+ghost use Rattle.std.specs.Prelude.{◌≡◌, ℕ, List, ◌+◌, ◌<◌, ◌≤◌, ◌^◌, length, take, drop};
+ghost use Rattle.rtl_lex.specs.Place.{moved, start, IsPlaceIn};
 
 use std::fmt::{self, Formatter, Write};
 
@@ -17,12 +17,17 @@ pub struct Place {
 }
 
 impl Place {
-    /// The place of the first byte.
-    pub const START: Place = Place {
-        at: 0,
-        line: 1,
-        column: 1,
-    };
+    /// The place where every text begins: no byte stands before it, in line 1 and column 1.
+    pub fn start() -> Place
+        ensures value { result ≡ start }
+        ensures place { (text : List ℕ) → IsPlaceIn text result }
+    {
+        Place {
+            at: 0,
+            line: 1,
+            column: 1,
+        }
+    }
 }
 
 impl fmt::Display for Place {
