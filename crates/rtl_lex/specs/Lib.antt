@@ -5,3 +5,5 @@ pub mod Numbers
 pub mod Strings
 pub mod Values
 pub mod Tokens
+pub mod Sorts
+pub mod Items

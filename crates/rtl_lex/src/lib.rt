@@ -3,15 +3,19 @@
 //! `next_token` reads one token. `int_of`, `value_width`, `is_signed`, `bits_of` and `chars_of` say what a token's text stands for.
 #![tactic(auto)]
 
+mod item;
 mod number;
 mod place;
 mod scan;
+mod sort;
 mod string;
 mod token;
 mod value;
 
+pub use item::{Item, Next, item_of, next_item};
 pub use number::int_of;
 pub use place::Place;
+pub use sort::{Sort, sort_of};
 pub use string::chars_of;
 pub use token::{LexFault, Token, TokenKind, next_token};
 pub use value::{bits_of, is_signed, value_width};
