@@ -2,3 +2,5 @@ pub mod Places
 pub mod Digits
 pub mod Spelling
 pub mod Filling
+pub mod TokenLemmas
+pub mod ItemLemmas
