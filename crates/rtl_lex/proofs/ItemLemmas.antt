@@ -1,6 +1,7 @@
 -- Laws of the items of a text.
-use Rattle.std.proofs.Common.{◌≡◌, ℕ, zero, suc, ◌+◌, ◌*◌, ◌-◌, ◌<◌, ◌≤◌, List, [], ◌∷◌, length, take, drop, length-drop, Option, Some, None, Result, Ok, Err, Bool, true, false, refl, sym, ap, subst, ◌∙◌, arith, inl, inr}
+use Rattle.std.proofs.Common.{◌≡◌, ℕ, zero, suc, ◌+◌, ◌*◌, ◌-◌, ◌<◌, ◌≤◌, List, [], ◌∷◌, length, drop, length-drop, Option, None, Result, Ok, Err, Bool, true, false, refl, sym, ap, subst, ◌∙◌, arith}
 use Rattle.std.specs.Prelude.{◌==◌, ◌&&◌, if◌then◌else◌}
+use Rattle.std.proofs.lemmas.List.{drop-drop}
 use Rattle.rtl_lex.specs.declared.sort.Sort.TheVariants as sorts
 use Rattle.rtl_lex.specs.declared.place.Place.{Place}
 use Rattle.rtl_lex.specs.declared.token.LexFault.{LexFault}
@@ -20,19 +21,19 @@ first_is : (i : Seen) (others : List Seen) (bytes : List ℕ) (from : Place) (li
 first_is i others bytes from line ended read e t a =
     subst (λ (b : Bool). IsFirst b read from i others (Rest others bytes from)) e (subst (λ (r : Result Piece LexFault). IsFirst (line && length bytes == 0) r from i others (Rest others bytes from)) t a)
 
-pub at_end : (items : List Seen) (bytes : List ℕ) (from : Place) (line : Bool) → (line && length bytes == 0) ≡ true → AreItems items bytes from line → items ≡ (last_item sorts.Finish from) ∷ []
+pub at_end : (items : List Seen) (bytes : List ℕ) (from : Place) (line : Bool) → (line && length bytes == 0) ≡ true → AreItems items bytes from line → items ≡ last_item sorts.Finish from ∷ []
 at_end [] bytes from line e a = absurd a
 at_end (i ∷ others) bytes from line e a =
     let f = first_is i others bytes from line true (token_at bytes from) e refl a in
     cc (f.0, f.1)
 
-pub at_bad : (items : List Seen) (bytes : List ℕ) (from p : Place) (line : Bool) → (line && length bytes == 0) ≡ false → token_at bytes from ≡ Err (faults.Lex p) → AreItems items bytes from line → items ≡ (last_item sorts.Bad p) ∷ []
+pub at_bad : (items : List Seen) (bytes : List ℕ) (from p : Place) (line : Bool) → (line && length bytes == 0) ≡ false → token_at bytes from ≡ Err (faults.Lex p) → AreItems items bytes from line → items ≡ last_item sorts.Bad p ∷ []
 at_bad [] bytes from p line e t a = absurd a
 at_bad (i ∷ others) bytes from p line e t a =
     let f = first_is i others bytes from line false (Err (faults.Lex p)) e t a in
     cc (f.0, f.1)
 
-pub at_big : (items : List Seen) (bytes : List ℕ) (from p : Place) (line : Bool) → (line && length bytes == 0) ≡ false → token_at bytes from ≡ Err (faults.Int p) → AreItems items bytes from line → items ≡ (last_item sorts.Int p) ∷ []
+pub at_big : (items : List Seen) (bytes : List ℕ) (from p : Place) (line : Bool) → (line && length bytes == 0) ≡ false → token_at bytes from ≡ Err (faults.Int p) → AreItems items bytes from line → items ≡ last_item sorts.Int p ∷ []
 at_big [] bytes from p line e t a = absurd a
 at_big (i ∷ others) bytes from p line e t a =
     let f = first_is i others bytes from line false (Err (faults.Int p)) e t a in
@@ -44,25 +45,12 @@ at_token (i ∷ others) bytes from line t e r a =
     let f = first_is i others bytes from line false (Ok t) e r a in
     (others, ap (λ (x : Seen). x ∷ others) f.0, f.1)
 
-abbrev nothing : List ℕ
-nothing = []
+drop_forward : (text : List ℕ) (m n : ℕ) → m ≤ n → drop (n - m) (drop m text) ≡ drop n text
+drop_forward text m n le =
+    let there : m + (n - m) ≡ n = omega arith in
+    drop-drop (n - m) m text ∙ ap (λ (k : ℕ). drop k text) there
 
-drop_nil : (n : ℕ) → drop n nothing ≡ nothing
-drop_nil zero = refl
-drop_nil (suc n) = refl
-
-drop_none : (m n : ℕ) → drop m (drop n nothing) ≡ nothing
-drop_none m n = ap (drop m) (drop_nil n) ∙ drop_nil m
-
-pub drop_forward : (text : List ℕ) (m n : ℕ) → m ≤ n → drop (n - m) (drop m text) ≡ drop n text
-drop_forward [] m n le = drop_none (n - m) m ∙ sym (drop_nil n)
-drop_forward (b ∷ text) zero n le = ap (λ (k : ℕ). drop k (b ∷ text)) (omega arith)
-drop_forward (b ∷ text) (suc m) zero le = absurd (omega arith)
-drop_forward (b ∷ text) (suc m) (suc n) le =
-    let k : suc n - suc m ≡ n - m = omega arith in
-    ap (λ (k : ℕ). drop k (drop m text)) k ∙ drop_forward text m n (omega arith)
-
--- ---- each text has items
+-- each text has items
 
 at_most_one : (b : Bool) → (if b then 0 else 1) ≤ 1
 at_most_one true = omega arith
@@ -97,9 +85,9 @@ more_of bytes from line ended read e r on = build ended read e r on
     back b x i others e r f = subst (λ (y : Result Piece LexFault). IsFirst (line && length bytes == 0) y from i others (Rest others bytes from)) (sym r) (subst (λ (c : Bool). IsFirst c x from i others (Rest others bytes from)) (sym e) f)
 
     build : (b : Bool) (x : Result Piece LexFault) → (line && length bytes == 0) ≡ b → token_at bytes from ≡ x → ((t : Piece) → b ≡ false → x ≡ Ok t → HasItems (drop (t.next.at - from.at) bytes) t.next (is_line t.kind)) → HasItems bytes from line
-    build true x e r on = ((last_item sorts.Finish from) ∷ [], back true x (last_item sorts.Finish from) [] e r (refl, refl))
-    build false (Err (faults.Lex p)) e r on = ((last_item sorts.Bad p) ∷ [], back false (Err (faults.Lex p)) (last_item sorts.Bad p) [] e r (refl, refl))
-    build false (Err (faults.Int p)) e r on = ((last_item sorts.Int p) ∷ [], back false (Err (faults.Int p)) (last_item sorts.Int p) [] e r (refl, refl))
+    build true x e r on = (last_item sorts.Finish from ∷ [], back true x (last_item sorts.Finish from) [] e r (refl, refl))
+    build false (Err (faults.Lex p)) e r on = (last_item sorts.Bad p ∷ [], back false (Err (faults.Lex p)) (last_item sorts.Bad p) [] e r (refl, refl))
+    build false (Err (faults.Int p)) e r on = (last_item sorts.Int p ∷ [], back false (Err (faults.Int p)) (last_item sorts.Int p) [] e r (refl, refl))
     build false (Ok t) e r on =
         let others = on t refl refl in
         (item_of t ∷ others.0, back false (Ok t) (item_of t) others.0 e r (refl, others.1))
@@ -113,12 +101,26 @@ has_more (suc n) bytes from line lt =
 pub has_items : (text : List ℕ) → HasItems text start false
 has_items text = has_more (2 * length text + 2) text start false (omega arith)
 
+-- a text has one list of items
+
+same_first : (i j : Seen) (is js : List Seen) (bytes : List ℕ) (from : Place) (ended : Bool) (read : Result Piece LexFault) → ((t : Piece) → Rest is bytes from t → Rest js bytes from t → is ≡ js) → IsFirst ended read from i is (Rest is bytes from) → IsFirst ended read from j js (Rest js bytes from) → i ∷ is ≡ j ∷ js
+same_first i j is js bytes from true read on f g = cc (f.0, f.1, g.0, g.1)
+same_first i j is js bytes from false (Err (faults.Lex p)) on f g = cc (f.0, f.1, g.0, g.1)
+same_first i j is js bytes from false (Err (faults.Int p)) on f g = cc (f.0, f.1, g.0, g.1)
+same_first i j is js bytes from false (Ok t) on f g = cc (f.0, g.0, on t f.1 g.1)
+
+pub same_items : (is js : List Seen) (bytes : List ℕ) (from : Place) (line : Bool) → AreItems is bytes from line → AreItems js bytes from line → is ≡ js
+same_items [] js bytes from line f g = absurd f
+same_items (i ∷ is) [] bytes from line f g = absurd g
+same_items (i ∷ is) (j ∷ js) bytes from line f g =
+    same_first i j is js bytes from (line && length bytes == 0) (token_at bytes from) (λ t a b. same_items is js (drop (t.next.at - from.at) bytes) t.next (is_line t.kind) a b) f g
 
 -- where no other item follows, the items are this one
 pub last_leads : (items : List Seen) (i first : Seen) (rest : Option (Place × Bool)) (text : List ℕ) → i ≡ first → rest ≡ None → items ≡ first ∷ [] → Leads items i rest text
 last_leads items i first rest text is none all =
     subst (λ (r : Option (Place × Bool)). Leads items i r text) (sym none) (all ∙ ap (λ (x : Seen). x ∷ []) (sym is))
 
+-- where a token stands, the items are it and those behind it
 pub ok_leads : (items : List Seen) (text : List ℕ) (from : Place) (line last : Bool) (t : Piece) (i : Seen) → (line && length (drop from.at text) == 0) ≡ false → token_at (drop from.at text) from ≡ Ok t → from.at ≤ t.next.at → i ≡ item_of t → last ≡ is_line t.kind → AreItems items (drop from.at text) from line → (others : List Seen) × (items ≡ i ∷ others) × AreItems others (drop t.next.at text) t.next last
 ok_leads items text from line last t i e read le is end all =
     let more = at_token items _ _ _ _ e read all in

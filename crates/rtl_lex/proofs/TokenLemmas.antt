@@ -1,5 +1,5 @@
 -- Laws of the tokens of a text.
-use Rattle.std.proofs.Common.{◌≡◌, ℕ, zero, suc, ◌+◌, ◌-◌, ◌<◌, ◌≤◌, List, [], ◌∷◌, length, take, drop, length-drop, Option, Some, None, Result, Ok, Err, Bool, true, false, refl, sym, ap, ◌∙◌, arith, inl, inr}
+use Rattle.std.proofs.Common.{◌≡◌, ℕ, ◌+◌, ◌-◌, ◌<◌, ◌≤◌, List, [], ◌∷◌, length, take, drop, length-drop, Option, Some, None, Result, Ok, Err, Bool, true, false, refl, sym, ap, ◌∙◌, arith, inl, inr}
 use Rattle.std.specs.Prelude.{if◌then◌else◌}
 use Rattle.std.proofs.lemmas.Bool.{cases_lt}
 use Rattle.std.proofs.lemmas.Bool.Decides.{nat_tests}
@@ -8,10 +8,10 @@ use Rattle.rtl_lex.specs.declared.place.Place.{Place}
 use Rattle.rtl_lex.specs.declared.token.LexFault.{LexFault}
 use Rattle.rtl_lex.specs.declared.token.LexFault.TheVariants as faults
 use Rattle.rtl_lex.specs.declared.token.TokenKind.{TokenKind}
-use Rattle.rtl_lex.specs.declared.token.TokenKind.TheVariants.{Word, Mark, Id, Value, Int, Chars, Line}
+use Rattle.rtl_lex.specs.declared.token.TokenKind.TheVariants.{Line}
 use Rattle.rtl_lex.specs.Place.{moved}
 use Rattle.rtl_lex.specs.Gaps.{gap}
-use Rattle.rtl_lex.specs.Tokens.{Piece, token_at, front, made, begun, is_over}
+use Rattle.rtl_lex.specs.Tokens.{Piece, token_at, front, begun, is_over}
 use Rattle.rtl_lex.proofs.Places.{moved-near}
 
 -- the first token of bytes that are not empty is not empty
@@ -70,4 +70,3 @@ token_further bytes from t e =
       ];
       line = λ z. sym m.2 ∙ front_none rest m.0 m.1 (omega (arith, n3));
     }
-

@@ -1,5 +1,5 @@
 -- What stands between tokens.
-use Rattle.std.specs.Prelude.{ℕ, ◌+◌, List, [], ◌∷◌, Bool, true, false, ◌==◌, ◌||◌, if◌then◌else◌}
+use Rattle.std.specs.Prelude.{ℕ, ◌+◌, List, [], ◌∷◌, Bool, false, ◌==◌, ◌||◌, if◌then◌else◌}
 use Rattle.rtl_lex.specs.Bytes.{is_blank, is_end}
 
 -- whether a gap goes on over this byte; over: it takes ends of lines too; note: a comment is open

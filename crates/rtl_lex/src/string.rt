@@ -31,7 +31,11 @@ fn escape(bytes: &[u8]) -> Option<(u8, usize)>
         48..=55 => {
             let count = octals(bytes);
             let char = octal(&bytes[..count])?;
-            if char == 0 { None } else { Some((char, count + 1)) }
+            if char == 0 {
+                None
+            } else {
+                Some((char, count + 1))
+            }
         }
         b'n' => Some((b'\n', 2)),
         b't' => Some((b'\t', 2)),

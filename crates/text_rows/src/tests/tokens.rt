@@ -109,10 +109,7 @@ fn gaps(rt: HostRuntime) -> Result<(), Fail> {
             ("a\r\nb", "word 1:1 line 1:2 word 2:1 line 2:2"),
             ("a\rb", "word 1:1 line 1:2 word 1:3 line 1:4"),
             ("\n\na", "line 1:1 word 3:1 line 3:2"),
-            (
-                "a\n\n # b\n\tc\n",
-                "word 1:1 line 1:2 word 4:2 line 4:3",
-            ),
+            ("a\n\n # b\n\tc\n", "word 1:1 line 1:2 word 4:2 line 4:3"),
             ("\"a\nb\" c", "chars 1:1 word 2:4 line 2:5"),
         ],
     )

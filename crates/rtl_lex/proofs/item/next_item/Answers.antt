@@ -1,4 +1,4 @@
-use Rattle.std.proofs.Common.{◌≡◌, drop, sym, ap, ◌∙◌, Result, Ok, Err}
+use Rattle.std.proofs.Common.{◌≡◌, drop, sym, ap, ◌∙◌, Result, Err}
 use Rattle.rtl_lex.specs.declared.token.LexFault.{LexFault}
 use Rattle.rtl_lex.specs.declared.token.LexFault.TheVariants as faults
 use Rattle.rtl_lex.specs.Tokens.{Piece, token_at}

@@ -1,4 +1,4 @@
-use Rattle.std.proofs.Common.{arith, rules, sym, ◌∙◌}
+use Rattle.std.proofs.Common.{rules, sym, ◌∙◌}
 use Rattle.rtl_lex.proofs.Spelling.{spelt_len_more}
 use Rattle.rtl_lex.proofs.string.string_len.Goals as goal
 
