@@ -1,6 +1,5 @@
 -- The numbers that digits write.
-use Rattle.std.specs.Prelude.{ℕ, ◌+◌, ◌-◌, ◌*◌, ◌^◌, ℤ, pos, negsuc, List, [], ◌∷◌, Option, Some, None, Bool, ◌==◌, nat_lt, if◌then◌else◌, fold}
-use Rattle.std.proofs.Common.{neg_ℤ}
+use Rattle.std.specs.Prelude.{ℕ, ◌+◌, ◌-◌, ◌*◌, ◌^◌, ℤ, pos, negsuc, neg_ℤ, List, [], ◌∷◌, Option, Some, None, Bool, ◌==◌, nat_lt, if◌then◌else◌, fold}
 
 -- the number that digits stand for in a base, the first on top
 abbrev pub number_in : ℕ → List ℕ → ℕ
