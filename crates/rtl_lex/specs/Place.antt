@@ -1,5 +1,6 @@
 -- Places in a text.
-use Rattle.std.specs.Prelude.{◌≡◌, ℕ, ◌+◌, ◌≤◌, List, [], ◌∷◌, length, take, ◌==◌, if◌then◌else◌}
+use Rattle.std.specs.Prelude.{◌≡◌, ℕ, ◌+◌, ◌≤◌, List, [], ◌∷◌, length, take, ◌==◌, if◌then◌else◌, ◌++◌, codes}
+use Rattle.std.specs.Fmt.{decimal}
 use Rattle.rtl_lex.specs.declared.place.Place.{Place}
 
 -- the place behind a byte
@@ -18,3 +19,7 @@ start = record { at = 0; line = 1; column = 1 }
 pub record IsPlaceIn (text : List ℕ) (p : Place) : Type 0 where
   pub within : p.at ≤ length text
   pub is : p ≡ moved start (take p.at text)
+
+-- a place as it is printed: the line, a colon and the column
+abbrev pub place_text : Place → List ℕ
+place_text p = decimal p.line ++ codes ":" ++ decimal p.column

@@ -31,6 +31,11 @@ impl Place {
 }
 
 impl fmt::Display for Place {
+    ghost use Rattle.std.specs.Prelude.{Some};
+    ghost use Rattle.rtl_lex.specs.Place.{place_text};
+
+    ghost output = { λ place. Some (place_text place) };
+
     fn fmt<W: Write>(&self, f: &mut Formatter<W>) -> fmt::Result {
         write!(f, "{}:{}", self.line, self.column)
     }

@@ -17,7 +17,7 @@ fn sorts_of(alloc: Global, text: &[u8]) -> Result<String, AllocError> {
     let mut shown = String::new(alloc);
     let mut place = Place::start();
     let mut line = false;
-    for _ in 0..=2 * text.len() {
+    for _ in 0..=2 * text.len() + 1 {
         let next = next_item(text, place, line);
         show(&mut shown, &next.item)?;
         let Some((behind, ended)) = next.rest else {
