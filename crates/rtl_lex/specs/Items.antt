@@ -19,6 +19,7 @@ pub record Seen : Type 0 where
   pub number : Option ℤ
   pub place : Place
 
+-- an item of the code as it is seen here
 abbrev pub as_seen : Item → Seen
 as_seen i = record { sort = i.sort; text = i.text.now; number = i.number; place = i.place }
 
@@ -35,6 +36,7 @@ item_of t = record { sort = sort_of t.kind t.text; text = t.text; number = numbe
 abbrev pub last_item : Sort → Place → Seen
 last_item sort place = record { sort = sort; text = []; number = None; place = place }
 
+-- whether a token is an end of line
 abbrev pub is_line : TokenKind → Bool
 is_line Line = true
 is_line kind = false

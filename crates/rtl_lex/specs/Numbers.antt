@@ -5,9 +5,11 @@ use Rattle.std.specs.Prelude.{ℕ, ◌+◌, ◌-◌, ◌*◌, ◌^◌, ℤ, pos,
 abbrev pub number_in : ℕ → List ℕ → ℕ
 number_in base digits = fold (λ n b. n * base + (b - 48)) 0 digits
 
+-- the number of decimal digits
 abbrev pub decimal : List ℕ → ℕ
 decimal digits = number_in 10 digits
 
+-- the number of octal digits
 abbrev pub octal : List ℕ → ℕ
 octal digits = number_in 8 digits
 

@@ -12,6 +12,7 @@ abbrev pub moved : Place → List ℕ → Place
 moved p [] = p
 moved p (b ∷ bs) = moved (behind p b) bs
 
+-- the place where a text begins
 abbrev pub start : Place
 start = record { at = 0; line = 1; column = 1 }
 

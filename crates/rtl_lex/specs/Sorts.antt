@@ -63,6 +63,7 @@ event_word text =
 unfoldable pub word_sort : List ℕ → Sort
 word_sort text = unwrap_or (option_or (module_word text) (option_or (option_word text) (option_or (process_word text) (event_word text)))) sorts.Other
 
+-- the sort of a mark
 unfoldable pub mark_sort : List ℕ → Sort
 mark_sort text =
     if bytes_eq text (codes "[") then sorts.OpenIndex

@@ -56,6 +56,7 @@ pub record Piece : Type 0 where
   pub place : Place
   pub next : Place
 
+-- a token by its piece
 abbrev pub piece : Token → Piece
 piece t = record { kind = t.kind; text = t.text.now; place = t.place; next = t.next }
 

@@ -18,6 +18,7 @@ tail_of text = drop (prefix_len is_digit text + 1) text
 abbrev pub sign_len : List ℕ → ℕ
 sign_len bytes = if slice_index bytes 0 == 115 then 1 else 0
 
+-- whether a value has its `s`
 abbrev pub is_signed : List ℕ → Bool
 is_signed text = sign_len (tail_of text) == 1
 

@@ -9,7 +9,7 @@ pub fn decimal(digits: &[u8]) -> Option<u32>
 {
     let mut number: u64 = 0;
     for digit in digits {
-        number = number * 10 + u64::from(digit.saturating_sub(48));
+        number = number * 10 + u64::from(digit.saturating_sub(b'0'));
         if number >= 1 << 32 {
             return None;
         }
@@ -23,7 +23,7 @@ pub fn octal(digits: &[u8]) -> Option<u8>
 {
     let mut number: u32 = 0;
     for digit in digits {
-        number = number * 8 + u32::from(digit.saturating_sub(48));
+        number = number * 8 + u32::from(digit.saturating_sub(b'0'));
         if number >= 1 << 8 {
             return None;
         }

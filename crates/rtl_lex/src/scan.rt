@@ -9,34 +9,43 @@ pub fn letters(bytes: &[u8]) -> usize
     ensures run { result ≡ prefix_len is_lower bytes.now }
     ensures within { result ≤ length bytes.now }
 {
-    bytes.iter().take_while(|b| **b >= 97 && **b <= 122).count()
+    bytes
+        .iter()
+        .take_while(|b| **b >= b'a' && **b <= b'z')
+        .count()
 }
 
 pub fn digits(bytes: &[u8]) -> usize
     ensures run { result ≡ prefix_len is_digit bytes.now }
     ensures within { result ≤ length bytes.now }
 {
-    bytes.iter().take_while(|b| **b >= 48 && **b <= 57).count()
+    bytes
+        .iter()
+        .take_while(|b| **b >= b'0' && **b <= b'9')
+        .count()
 }
 
 pub fn name_bytes(bytes: &[u8]) -> usize
     ensures run { result ≡ prefix_len is_name bytes.now }
     ensures within { result ≤ length bytes.now }
 {
-    bytes.iter().take_while(|b| **b > 32).count()
+    bytes.iter().take_while(|b| **b > b' ').count()
 }
 
-/// The bytes of bits, `0 1 x z m -`.
+fn is_bit(byte: u8) -> bool
+    ensures { result ≡ is_bit byte }
+{
+    match byte {
+        b'0' | b'1' | b'x' | b'z' | b'm' | b'-' => true,
+        _ => false,
+    }
+}
+
 pub fn bits(bytes: &[u8]) -> usize
     ensures run { result ≡ prefix_len is_bit bytes.now }
     ensures within { result ≤ length bytes.now }
 {
-    bytes
-        .iter()
-        .take_while(|b| {
-            **b == 48 || **b == 49 || **b == 120 || **b == 122 || **b == 109 || **b == 45
-        })
-        .count()
+    bytes.iter().take_while(|b| is_bit(**b)).count()
 }
 
 fn in_gap(over: bool, note: bool, byte: u8) -> bool

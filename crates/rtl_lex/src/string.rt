@@ -15,7 +15,10 @@ fn octals(bytes: &[u8]) -> usize
     ensures within { result ≤ length bytes.now }
 {
     let first = &bytes[..bytes.len().min(3)];
-    first.iter().take_while(|b| **b >= 48 && **b <= 55).count()
+    first
+        .iter()
+        .take_while(|b| **b >= b'0' && **b <= b'7')
+        .count()
 }
 
 /// The character of the escape that stands behind a backslash, and how many bytes write it, the
@@ -28,7 +31,7 @@ fn escape(bytes: &[u8]) -> Option<(u8, usize)>
         return None;
     }
     match bytes[0] {
-        48..=55 => {
+        b'0'..=b'7' => {
             let count = octals(bytes);
             let char = octal(&bytes[..count])?;
             if char == 0 {

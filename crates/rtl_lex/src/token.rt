@@ -111,15 +111,14 @@ fn front(bytes: &[u8]) -> Option<(TokenKind, usize)>
     if bytes.is_empty() {
         return Some((TokenKind::Line, 0));
     }
-    let first = bytes[0];
-    match first {
-        10 | 13 => Some((TokenKind::Line, gap(bytes, true))),
-        97..=122 => Some((TokenKind::Word, letters(bytes))),
-        91 | 93 | 123 | 125 | 58 | 44 => Some((TokenKind::Mark, 1)),
-        92 | 36 => name_front(&bytes[1..]),
-        34 => string_front(&bytes[1..]),
-        45 => minus_front(&bytes[1..]),
-        48..=57 => Some(number_front(bytes)),
+    match bytes[0] {
+        b'\n' | b'\r' => Some((TokenKind::Line, gap(bytes, true))),
+        b'a'..=b'z' => Some((TokenKind::Word, letters(bytes))),
+        b'[' | b']' | b'{' | b'}' | b':' | b',' => Some((TokenKind::Mark, 1)),
+        b'\\' | b'$' => name_front(&bytes[1..]),
+        b'"' => string_front(&bytes[1..]),
+        b'-' => minus_front(&bytes[1..]),
+        b'0'..=b'9' => Some(number_front(bytes)),
         _ => None,
     }
 }
