@@ -2,8 +2,79 @@
 
 use rtl_lex::{LexFault, Place, TokenKind, next_token};
 use std::alloc::{AllocError, Global};
-use std::process::Abort;
 use std::test::*;
+
+/// A row is a text and its tokens, parted by byte 1; rows are parted by byte 2.
+///
+/// In order: tokens as long as they can be; blanks, comments and ends of lines; bytes at which no
+/// token begins; faults of strings and of integers.
+#[rattlefmt::skip]
+const ROWS: &[u8] = b"\
+wire width\x01word 1:1 word 1:6 line 1:11\x02\
+wire2\x01word 1:1 int 1:5 line 1:6\x02\
+wire width2input1\\a\x01word 1:1 word 1:6 int 1:11 word 1:12 int 1:17 id 1:18 line 1:20\x02\
+\\a \\b$c\x01id 1:1 id 1:4 line 1:8\x02\
+$0\\q[0:0] x\x01id 1:1 word 1:11 line 1:12\x02\
+\\a [3:0]\x01id 1:1 mark 1:4 int 1:5 mark 1:6 int 1:7 mark 1:8 line 1:9\x02\
+{}:,[]\x01mark 1:1 mark 1:2 mark 1:3 mark 1:4 mark 1:5 mark 1:6 line 1:7\x02\
+2'01x\x01value 1:1 line 1:6\x02\
+12'\x01value 1:1 line 1:4\x02\
+4's1-zm\x01value 1:1 line 1:8\x02\
+2'ss\x01value 1:1 word 1:4 line 1:5\x02\
+1'12\x01value 1:1 int 1:4 line 1:5\x02\
+1'1-2\x01value 1:1 int 1:5 line 1:6\x02\
+-2\x01int 1:1 line 1:3\x02\
+a-1\x01word 1:1 int 1:2 line 1:4\x02\
+1-2\x01int 1:1 int 1:2 line 1:4\x02\
+2147483647 -2147483648\x01int 1:1 int 1:12 line 1:23\x02\
+\"a\"\"b\"\x01chars 1:1 chars 1:4 line 1:7\x02\
+\"a#\\\"b\" c\x01chars 1:1 word 1:9 line 1:10\x02\
+\"\\377\"\x01chars 1:1 line 1:7\x02\
+\\\xc3\xa9 x\x01id 1:1 word 1:5 line 1:6\x02\
+\x01line 1:1\x02\
+\x20 \t\x01line 1:4\x02\
+# b\x01line 1:4\x02\
+a # b\x01word 1:1 line 1:6\x02\
+a#\\b\x01word 1:1 line 1:5\x02\
+a # b\nc\x01word 1:1 line 1:6 word 2:1 line 2:2\x02\
+a # b\rc\x01word 1:1 line 1:6 word 1:7 line 1:8\x02\
+a\r\nb\x01word 1:1 line 1:2 word 2:1 line 2:2\x02\
+a\rb\x01word 1:1 line 1:2 word 1:3 line 1:4\x02\
+\n\na\x01line 1:1 word 3:1 line 3:2\x02\
+a\n\n # b\n\tc\n\x01word 1:1 line 1:2 word 4:2 line 4:3\x02\
+\"a\nb\" c\x01chars 1:1 word 2:4 line 2:5\x02\
+@\x01none 1:1\x02\
+wire @\x01word 1:1 none 1:6\x02\
+A\x01none 1:1\x02\
+a_b\x01word 1:1 none 1:2\x02\
+a\nB\x01word 1:1 line 1:2 none 2:1\x02\
+\0\x01none 1:1\x02\
+\x0b\x01none 1:1\x02\
+\xc3\xa9\x01none 1:1\x02\
+\\\x01none 1:1\x02\
+\\ a\x01none 1:1\x02\
+$\n\x01none 1:1\x02\
+-\x01none 1:1\x02\
+--1\x01none 1:1\x02\
+- 1\x01none 1:1\x02\
+1-\x01int 1:1 none 1:2\x02\
+-2'0\x01int 1:1 none 1:3\x02\
+'1\x01none 1:1\x02\
+2's'\x01value 1:1 none 1:4\x02\
+(a)\x01none 1:1\x02\
+\"\\400\"\x01none 1:1\x02\
+a \"\\0\"\x01word 1:1 none 1:3\x02\
+\"\\000\"\x01none 1:1\x02\
+\"abc\x01none 1:1\x02\
+\"abc\\\"\x01none 1:1\x02\
+\"abc\\\x01none 1:1\x02\
+\"\x01none 1:1\x02\
+\"a\0b\"\x01none 1:1\x02\
+\"\\\0\"\x01none 1:1\x02\
+\"a\n\\777\"\x01none 1:1\x02\
+2147483648\x01range 1:1\x02\
+-2147483649\x01range 1:1\x02\
+module \\m\n  wire width 99999999999 \\a\n\x01word 1:1 id 1:8 line 1:10 word 2:3 word 2:8 range 2:14";
 
 fn name(kind: TokenKind) -> &'static str {
     match kind {
@@ -43,131 +114,21 @@ fn tokens_of(alloc: Global, text: &[u8]) -> Result<String, AllocError> {
     Ok(shown)
 }
 
-fn compare(rt: &impl Abort, alloc: Global, rows: &[(&str, &str)]) -> Result<(), Fail> {
-    for (text, tokens) in rows {
-        let found = tokens_of(alloc, text.as_bytes())?;
-        assert_eq!(rt; found.as_str().trim_start(), *tokens, "{text:?}");
+#[test]
+fn tokens(rt: HostRuntime) -> Result<(), Fail> {
+    let mut count: u32 = 0;
+    for row in ROWS.split(|byte| *byte == 2) {
+        let mut fields = row.split(|byte| *byte == 1);
+        let text = fields.next().ok_or("a text")?;
+        let tokens = fields.next().ok_or("its tokens")?;
+        let found = tokens_of(rt.alloc(), text)?;
+        assert_eq!(rt;
+            found.as_str().trim_start().as_bytes(),
+            tokens,
+            "row {count}"
+        );
+        count = count.saturating_add(1);
     }
+    assert_eq!(rt; count, 65);
     Ok(())
-}
-
-/// Each token is as long as it can be, and blanks between tokens are not needed.
-#[test]
-fn longest(rt: HostRuntime) -> Result<(), Fail> {
-    compare(
-        &rt,
-        rt.alloc(),
-        &[
-            ("wire width", "word 1:1 word 1:6 line 1:11"),
-            ("wire2", "word 1:1 int 1:5 line 1:6"),
-            (
-                "wire width2input1\\a",
-                "word 1:1 word 1:6 int 1:11 word 1:12 int 1:17 id 1:18 line 1:20",
-            ),
-            ("\\a \\b$c", "id 1:1 id 1:4 line 1:8"),
-            ("$0\\q[0:0] x", "id 1:1 word 1:11 line 1:12"),
-            (
-                "\\a [3:0]",
-                "id 1:1 mark 1:4 int 1:5 mark 1:6 int 1:7 mark 1:8 line 1:9",
-            ),
-            (
-                "{}:,[]",
-                "mark 1:1 mark 1:2 mark 1:3 mark 1:4 mark 1:5 mark 1:6 line 1:7",
-            ),
-            ("2'01x", "value 1:1 line 1:6"),
-            ("12'", "value 1:1 line 1:4"),
-            ("4's1-zm", "value 1:1 line 1:8"),
-            ("2'ss", "value 1:1 word 1:4 line 1:5"),
-            ("1'12", "value 1:1 int 1:4 line 1:5"),
-            ("1'1-2", "value 1:1 int 1:5 line 1:6"),
-            ("-2", "int 1:1 line 1:3"),
-            ("a-1", "word 1:1 int 1:2 line 1:4"),
-            ("1-2", "int 1:1 int 1:2 line 1:4"),
-            ("2147483647 -2147483648", "int 1:1 int 1:12 line 1:23"),
-            ("\"a\"\"b\"", "chars 1:1 chars 1:4 line 1:7"),
-            ("\"a#\\\"b\" c", "chars 1:1 word 1:9 line 1:10"),
-            ("\"\\377\"", "chars 1:1 line 1:7"),
-            ("\\\u{e9} x", "id 1:1 word 1:5 line 1:6"),
-        ],
-    )
-}
-
-/// Blanks, comments and ends of lines. LF alone begins a line.
-#[test]
-fn gaps(rt: HostRuntime) -> Result<(), Fail> {
-    compare(
-        &rt,
-        rt.alloc(),
-        &[
-            ("", "line 1:1"),
-            ("  \t", "line 1:4"),
-            ("# b", "line 1:4"),
-            ("a # b", "word 1:1 line 1:6"),
-            ("a#\\b", "word 1:1 line 1:5"),
-            ("a # b\nc", "word 1:1 line 1:6 word 2:1 line 2:2"),
-            ("a # b\rc", "word 1:1 line 1:6 word 1:7 line 1:8"),
-            ("a\r\nb", "word 1:1 line 1:2 word 2:1 line 2:2"),
-            ("a\rb", "word 1:1 line 1:2 word 1:3 line 1:4"),
-            ("\n\na", "line 1:1 word 3:1 line 3:2"),
-            ("a\n\n # b\n\tc\n", "word 1:1 line 1:2 word 4:2 line 4:3"),
-            ("\"a\nb\" c", "chars 1:1 word 2:4 line 2:5"),
-        ],
-    )
-}
-
-/// Bytes at which no token begins.
-#[test]
-fn bad_bytes(rt: HostRuntime) -> Result<(), Fail> {
-    compare(
-        &rt,
-        rt.alloc(),
-        &[
-            ("@", "none 1:1"),
-            ("wire @", "word 1:1 none 1:6"),
-            ("A", "none 1:1"),
-            ("a_b", "word 1:1 none 1:2"),
-            ("a\nB", "word 1:1 line 1:2 none 2:1"),
-            ("\0", "none 1:1"),
-            ("\x0b", "none 1:1"),
-            ("\u{e9}", "none 1:1"),
-            ("\\", "none 1:1"),
-            ("\\ a", "none 1:1"),
-            ("$\n", "none 1:1"),
-            ("-", "none 1:1"),
-            ("--1", "none 1:1"),
-            ("- 1", "none 1:1"),
-            ("1-", "int 1:1 none 1:2"),
-            ("-2'0", "int 1:1 none 1:3"),
-            ("'1", "none 1:1"),
-            ("2's'", "value 1:1 none 1:4"),
-            ("(a)", "none 1:1"),
-        ],
-    )
-}
-
-/// Faults of strings stand at the first byte of the string, and of integers at the integer.
-#[test]
-fn bad_tokens(rt: HostRuntime) -> Result<(), Fail> {
-    compare(
-        &rt,
-        rt.alloc(),
-        &[
-            ("\"\\400\"", "none 1:1"),
-            ("a \"\\0\"", "word 1:1 none 1:3"),
-            ("\"\\000\"", "none 1:1"),
-            ("\"abc", "none 1:1"),
-            ("\"abc\\\"", "none 1:1"),
-            ("\"abc\\", "none 1:1"),
-            ("\"", "none 1:1"),
-            ("\"a\0b\"", "none 1:1"),
-            ("\"\\\0\"", "none 1:1"),
-            ("\"a\n\\777\"", "none 1:1"),
-            ("2147483648", "range 1:1"),
-            ("-2147483649", "range 1:1"),
-            (
-                "module \\m\n  wire width 99999999999 \\a\n",
-                "word 1:1 id 1:8 line 1:10 word 2:3 word 2:8 range 2:14",
-            ),
-        ],
-    )
 }
