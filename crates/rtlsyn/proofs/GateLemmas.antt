@@ -21,8 +21,8 @@ gate_goes cells all n i a b ys d lt before =
     let y = get_or ys i d in
     let front : drop i ys ≡ y ∷ drop (i + 1) ys = rw add-one (drop-cons ys i d lt) in
     append_assoc cells (and_gate (n + 1) (operand_bit a i) (operand_bit b i) y ∷ []) (gates_from (n + 1) (i + 1) a b (drop (i + 1) ys))
-      ∙ ap (λ (gates : List Cell). cells ++ gates) (sym (ap (gates_from n i a b) front ∙ gates_of_bit n i a b (drop (i + 1) ys) y))
-      ∙ before
+    ∙ ap (λ (gates : List Cell). cells ++ gates) (sym (ap (gates_from n i a b) front ∙ gates_of_bit n i a b (drop (i + 1) ys) y))
+    ∙ before
 
 pub no_cells : (n : ℕ) → mapped_cells n [] ≡ []
 unfolding mapped_cells
@@ -40,8 +40,8 @@ cell_goes done all cells n k d lt before =
     let cell = get_or cells k d in
     let front : drop k cells ≡ cell ∷ drop (k + 1) cells = rw add-one (drop-cons cells k d lt) in
     append_assoc done (gates_of n cell) (mapped_cells (n + numbers_of cell) (drop (k + 1) cells))
-      ∙ ap (λ (gates : List Cell). done ++ gates) (sym (ap (mapped_cells n) front ∙ gates_of_cell n cell (drop (k + 1) cells)))
-      ∙ before
+    ∙ ap (λ (gates : List Cell). done ++ gates) (sym (ap (mapped_cells n) front ∙ gates_of_cell n cell (drop (k + 1) cells)))
+    ∙ before
 
 -- no bit is left
 pub gates_end : (cells all : List Cell) (n i : ℕ) (a b ys : List SigBit) → length ys ≤ i → cells ++ gates_from n i a b (drop i ys) ≡ all → cells ≡ all

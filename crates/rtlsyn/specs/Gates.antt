@@ -25,12 +25,12 @@ bit_pin name bit = record { name = name; sig = bit ∷ [] }
 -- the gate of this number that drives y with a and b
 abbrev pub and_gate : ℕ → SigBit → SigBit → SigBit → Cell
 and_gate n a b y = record {
-    kind_name = codes "$_AND_";
-    name = fresh_name n;
-    params = [];
-    pins = bit_pin (codes "\\A") a ∷ bit_pin (codes "\\B") b ∷ bit_pin (codes "\\Y") y ∷ [];
-    attributes = [];
-  }
+  kind_name = codes "$_AND_";
+  name = fresh_name n;
+  params = [];
+  pins = bit_pin (codes "\\A") a ∷ bit_pin (codes "\\B") b ∷ bit_pin (codes "\\Y") y ∷ [];
+  attributes = [];
+}
 
 -- a gate for each bit of the result from bit i on: each takes the next number, and has bit i of both operands
 unfoldable pub gates_from : ℕ → ℕ → List SigBit → List SigBit → List SigBit → List Cell

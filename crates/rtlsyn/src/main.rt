@@ -4,14 +4,15 @@
 mod fresh;
 mod gates;
 mod program;
+#[cfg(test)]
+mod tests;
 
 use program::{Status, run};
 use std::alloc::Global;
-use std::env;
-use std::io;
 use std::io::ErrorKind;
 use std::process::ExitCode;
 use std::rt::Env;
+use std::{env, io};
 use synth_io::{StdSink, StdSource};
 
 /// The program's arguments without its own name. One that is no text has no meaning.
