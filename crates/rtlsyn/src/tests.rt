@@ -6,7 +6,7 @@ ghost use Rattle.std.specs.Prelude.{◌≡◌};
 ghost use Rattle.rtlsyn.specs.Replies.{IsCompleted};
 
 use super::program::{Status, run};
-use first_form::FIRST_FORM;
+use first_form::{FIRST_ROWS, FOURTH_ROWS, SECOND_ROWS, THIRD_ROWS};
 use rtl_bits::Text;
 use std::alloc::{AllocError, Global};
 use std::fmt::Write;
@@ -51,20 +51,32 @@ fn status_of(digit: &[u8]) -> Status {
     }
 }
 
-#[test]
-fn texts_have_their_netlists(rt: HostRuntime) -> Result<(), Fail> {
-    let mut accepted = 0u32;
+/// Runs the rows, and gives how many there are and how many are accepted.
+fn run_rows(rt: &impl Abort, alloc: Global, table: &[u8]) -> Result<(u32, u32), Fail> {
     let mut rows = 0u32;
-    for row in FIRST_FORM.split(|b| *b == 254) {
-        let fields: Vec<&[u8]> = row.split(|b| *b == 255).collect(rt.alloc())?;
+    let mut accepted = 0u32;
+    for row in table.split(|b| *b == 254) {
+        let fields: Vec<&[u8]> = row.split(|b| *b == 255).collect(alloc)?;
         if let [input, output, status] = fields.as_slice() {
             let status = status_of(status);
-            answers(&rt, rt.alloc(), "a row", input, output, status)?;
+            answers(rt, alloc, "a row", input, output, status)?;
             rows = rows.saturating_add(1);
             if status == Status::Done {
                 accepted = accepted.saturating_add(1);
             }
         }
+    }
+    Ok((rows, accepted))
+}
+
+#[test]
+fn texts_have_their_netlists(rt: HostRuntime) -> Result<(), Fail> {
+    let mut rows = 0u32;
+    let mut accepted = 0u32;
+    for table in [FIRST_ROWS, SECOND_ROWS, THIRD_ROWS, FOURTH_ROWS] {
+        let (more, taken) = run_rows(&rt, rt.alloc(), table)?;
+        rows = rows.saturating_add(more);
+        accepted = accepted.saturating_add(taken);
     }
     assert_eq!(rt; (rows, accepted), (348, 142));
     Ok(())
@@ -278,9 +290,9 @@ fn words_have_no_meaning(rt: HostRuntime) -> Result<(), Fail> {
     Ok(())
 }
 
-/// So many spaces.
-fn spaces(alloc: Global, count: usize) -> Result<Vec<u8>, AllocError> {
-    vec![in alloc; b' '; count]
+/// So many letters.
+fn letters(alloc: Global, count: usize) -> Result<Vec<u8>, AllocError> {
+    vec![in alloc; b'x'; count]
 }
 
 #[test]
@@ -290,7 +302,7 @@ fn input_is_too_long(rt: HostRuntime) -> Result<(), Fail> {
         ("the longest input", 67_108_864, "error 2 1:1\n"),
         ("one byte more", 67_108_865, "error 17 input\n"),
     ] {
-        let mut source = SureSource::make(Text::from_vec(spaces(alloc, count)?));
+        let mut source = SureSource::make(Text::from_vec(letters(alloc, count)?));
         let mut sink = MemSink::make(alloc, 100, Vec::new(alloc))?;
         let status = run(alloc, &[], &mut source, &mut sink);
         assert_eq!(rt; status, Status::Refused, "{row}");
