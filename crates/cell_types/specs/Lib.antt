@@ -17,3 +17,4 @@ pub mod Reading
 pub mod Fault
 pub mod Levels
 pub mod Shape
+pub mod Bounds
