@@ -1,15 +1,15 @@
 -- a cell without faults has a shape within bounds
-use Rattle.std.proofs.Common.{◌≡◌, ℕ, ◌+◌, ◌*◌, ◌<◌, ◌≤◌, ◌-◌, ◌^◌, ◌&&◌, ◌||◌, min, not, Bool, true, false, ltb, List, [], ◌∷◌, Option, Some, None, refl, sym, ◌∙◌, arith}
+use Rattle.std.proofs.Common.{◌≡◌, ◌<◌, ◌&&◌, ◌||◌, not, Bool, true, false, ltb, length, List, [], ◌∷◌, refl}
 use Rattle.std.specs.List.{list_all, list_any}
-use Rattle.std.proofs.lemmas.Bool.{ltb-true, ltb-false}
+use Rattle.std.proofs.lemmas.Bool.{eqb-true, ltb-true}
 use Rattle.rtl_bits.specs.Knowledge.{all_known}
 use Rattle.cell_types.specs.declared.given.Param.{Param}
 use Rattle.cell_types.specs.declared.given.PinWidth.{PinWidth}
 use Rattle.cell_types.specs.declared.kind.CellKind.{CellKind}
-use Rattle.cell_types.specs.declared.kind.CellKind.TheVariants as Cell
 use Rattle.cell_types.specs.declared.param_name.ParamName.{ParamName}
+use Rattle.cell_types.specs.declared.param_name.ParamName.TheVariants as P
 use Rattle.cell_types.specs.declared.reading.Reading.TheVariants as Read
-use Rattle.cell_types.specs.Fault.{are_params_good, are_pins_good, fault_of, has_no_meaning, is_bad, is_given, is_wide, has_param}
+use Rattle.cell_types.specs.Fault.{are_params_good, are_pins_good, has_no_meaning, is_bad, is_given, has_param}
 use Rattle.cell_types.specs.Given.{number_in, value_in}
 use Rattle.cell_types.specs.Params.{params_of}
 use Rattle.cell_types.specs.Reading.{is_readable, is_read_as, reading_of}
@@ -57,3 +57,9 @@ positive kind params name reads given =
     let readable = (and_true _ (is_readable kind params name) given).1 in
     let known : is_read_as Read.Width params name ≡ true = rw reads at readable in
     ltb-true 0 (number_in params name) (and_true (all_known (value_in params name)) (ltb 0 (number_in params name)) known).1
+
+pub filling : (kind : CellKind) (params : List Param) (name : ParamName) → reading_of kind name ≡ Read.Word → is_given kind params name ≡ true → length (value_in params name) ≡ number_in params P.Width
+filling kind params name reads given =
+    let readable = (and_true _ (is_readable kind params name) given).1 in
+    let known : is_read_as Read.Word params name ≡ true = rw reads at readable in
+    eqb-true (length (value_in params name)) (number_in params P.Width) known

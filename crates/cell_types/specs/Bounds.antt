@@ -1,12 +1,15 @@
 -- what the shapes of cells keep to
-use Rattle.std.specs.Prelude.{◌≡◌, ℕ, ◌+◌, ◌*◌, ◌<◌, ◌≤◌, ⊤}
+use Rattle.std.specs.Prelude.{◌≡◌, ℕ, ◌+◌, ◌*◌, ◌<◌, ◌≤◌, length, ⊤}
 use Rattle.cell_types.specs.declared.kind.CellKind.{CellKind}
 use Rattle.cell_types.specs.declared.kind.CellKind.TheVariants as Cell
 use Rattle.cell_types.specs.declared.shape.Shape.{Shape}
 use Rattle.cell_types.specs.declared.shape.Widths.{Widths}
+use Rattle.cell_types.specs.declared.storage.StorageKind.{StorageKind}
+use Rattle.cell_types.specs.declared.storage.StorageKind.TheVariants.{Adff, Adffe, Adlatch, Sdff, Sdffe, Sdffce}
 use Rattle.cell_types.specs.declared.word.WordKind.{WordKind}
 use Rattle.cell_types.specs.declared.word.WordKind.TheVariants.{Unary, Fold, Bitwise, Logic, Equal, Order, Arith, Division, Shift, Mux, Pmux, Slice, Concat}
 use Rattle.cell_types.specs.Fault.{limit_of}
+use Rattle.cell_types.specs.StorageGate.{kind_of_gate}
 
 -- a width of at least 1 and at most a limit
 abbrev pub IsWithin : ℕ → ℕ → Type 0
@@ -36,12 +39,22 @@ AreWordWidths Pmux w offset = IsWithin 4096 w.a × (w.b ≡ w.a * w.s) × IsWith
 AreWordWidths Slice w offset = OneOperand 4096 w × (offset + w.y ≤ w.a)
 AreWordWidths Concat w offset = IsWithin 4096 w.a × IsWithin 4096 w.b × (w.y ≡ w.a + w.b) × (w.y ≤ 4096)
 
+-- the reset that a storage cell has sets each of its bits
+abbrev pub ResetsFit : StorageKind → Shape → Type 0
+ResetsFit Adff shape = length shape.resets.arst ≡ shape.width
+ResetsFit Adffe shape = length shape.resets.arst ≡ shape.width
+ResetsFit Adlatch shape = length shape.resets.arst ≡ shape.width
+ResetsFit Sdff shape = length shape.resets.srst ≡ shape.width
+ResetsFit Sdffe shape = length shape.resets.srst ≡ shape.width
+ResetsFit Sdffce shape = length shape.resets.srst ≡ shape.width
+ResetsFit _ shape = ⊤
+
 -- what the shape of a kind keeps to
 abbrev pub KindKeeps : CellKind → Shape → Type 0
 KindKeeps (Cell.Word kind) shape = AreWordWidths kind shape.widths shape.offset
 KindKeeps (Cell.Gate _) shape = shape.widths ≡ record { a = 1; b = 1; s = 1; y = 1 }
-KindKeeps (Cell.Storage _) shape = IsWithin 4096 shape.width
-KindKeeps (Cell.StorageGate _) shape = shape.width ≡ 1
+KindKeeps (Cell.Storage kind) shape = IsWithin 4096 shape.width × ResetsFit kind shape
+KindKeeps (Cell.StorageGate gate) shape = (shape.width ≡ 1) × ResetsFit (kind_of_gate gate) shape
 KindKeeps (Cell.Memory _) shape = IsWithin 4096 shape.width
 
 -- the shape keeps to what its kind asks

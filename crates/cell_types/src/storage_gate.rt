@@ -3,9 +3,11 @@
 ghost use Rattle.std.specs.Prelude.{◌≡◌, ◌∷◌, ◌++◌, [], Some, IfOk, codes};
 ghost use Rattle.cell_types.specs.Kind.{kind_of};
 ghost use Rattle.cell_types.specs.Letters.{value_of};
+ghost use Rattle.cell_types.specs.StorageGate.{kind_of_gate};
 
 use crate::kind::CellKind;
 use crate::level::Level;
+use crate::storage::StorageKind;
 use rtl_bits::{Memory, Text};
 use std::alloc::Global;
 
@@ -83,6 +85,31 @@ impl StorageGate {
             StorageGate::Dlatchsr { en, set, clr } =>
                 lettered(alloc, b"$_DLATCHSR_", &[en.letter(), set.letter(), clr.letter()]),
             StorageGate::Sr { set, clr } => lettered(alloc, b"$_SR_", &[set.letter(), clr.letter()]),
+        }
+    }
+
+    /// The storage cell on words that keeps a bit in the same way.
+    #[rattlefmt::skip]
+    pub fn kind(self) -> StorageKind
+        ensures value { result ≡ kind_of_gate self }
+    {
+        match self {
+            StorageGate::Ff => StorageKind::Ff,
+            StorageGate::Dff { .. } => StorageKind::Dff,
+            StorageGate::Dffe { .. } => StorageKind::Dffe,
+            StorageGate::Adff { .. } => StorageKind::Adff,
+            StorageGate::Adffe { .. } => StorageKind::Adffe,
+            StorageGate::Sdff { .. } => StorageKind::Sdff,
+            StorageGate::Sdffe { .. } => StorageKind::Sdffe,
+            StorageGate::Sdffce { .. } => StorageKind::Sdffce,
+            StorageGate::Dffsr { .. } => StorageKind::Dffsr,
+            StorageGate::Dffsre { .. } => StorageKind::Dffsre,
+            StorageGate::Aldff { .. } => StorageKind::Aldff,
+            StorageGate::Aldffe { .. } => StorageKind::Aldffe,
+            StorageGate::Dlatch { .. } => StorageKind::Dlatch,
+            StorageGate::Adlatch { .. } => StorageKind::Adlatch,
+            StorageGate::Dlatchsr { .. } => StorageKind::Dlatchsr,
+            StorageGate::Sr { .. } => StorageKind::Sr,
         }
     }
 }
