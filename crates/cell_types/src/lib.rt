@@ -1,0 +1,24 @@
+//! The cell library: the kinds of cells, their names, and the shape that a cell's parameters and
+//! pins give it.
+#![tactic(auto)]
+
+mod gate;
+mod letters;
+mod level;
+mod memory;
+mod names;
+mod storage;
+mod storage_gate;
+mod unsupported;
+mod word;
+
+pub use gate::GateKind;
+pub use level::Level;
+pub use memory::MemoryKind;
+pub use storage::StorageKind;
+pub use storage_gate::StorageGate;
+pub use unsupported::is_unsupported;
+pub use word::{
+    ArithKind, BitwiseKind, DivisionKind, EqualKind, FoldKind, LogicKind, OrderKind, ShiftKind,
+    UnaryKind, WordKind,
+};
