@@ -4,4 +4,9 @@ pub mod Gate
 pub mod Storage
 pub mod Letters
 pub mod Memory
+pub mod Kind
 pub mod Unsupported
+pub mod ParamName
+pub mod PinName
+pub mod Params
+pub mod Pins

@@ -2,7 +2,9 @@
 
 ghost use Rattle.std.specs.Prelude.{◌≡◌, Some};
 ghost use Rattle.cell_types.specs.Gate.{gate_of};
+ghost use Rattle.cell_types.specs.Kind.{kind_of};
 
+use crate::kind::CellKind;
 use crate::names::find_named;
 
 /// A combinational cell of one bit: in the Yosys manual, "Gate-level cells", the section
@@ -61,7 +63,7 @@ pub(crate) fn gate_named(name: &[u8]) -> Option<GateKind>
 impl GateKind {
     /// The name of the cell.
     pub fn name(self) -> &'static [u8]
-        ensures value { gate_of result.now ≡ Some self }
+        ensures value { kind_of result.now ≡ Some (CellKind.Gate self) }
     {
         match self {
             GateKind::Buf => b"$_BUF_",

@@ -3,18 +3,28 @@
 #![tactic(auto)]
 
 mod gate;
+mod kind;
 mod letters;
 mod level;
 mod memory;
 mod names;
+mod param_name;
+mod params;
+mod pin_name;
+mod pins;
 mod storage;
 mod storage_gate;
 mod unsupported;
 mod word;
 
 pub use gate::GateKind;
+pub use kind::{CellKind, kind_of};
 pub use level::Level;
 pub use memory::MemoryKind;
+pub use param_name::ParamName;
+pub use params::params_of;
+pub use pin_name::PinName;
+pub use pins::pins_of;
 pub use storage::StorageKind;
 pub use storage_gate::StorageGate;
 pub use unsupported::is_unsupported;

@@ -2,7 +2,9 @@
 
 ghost use Rattle.std.specs.Prelude.{◌≡◌, Some};
 ghost use Rattle.cell_types.specs.Memory.{memory_of};
+ghost use Rattle.cell_types.specs.Kind.{kind_of};
 
+use crate::kind::CellKind;
 use crate::names::find_named;
 
 /// A port of a memory or its start words: in the Yosys manual, "Word-level cells", the section
@@ -40,7 +42,7 @@ pub(crate) fn memory_named(name: &[u8]) -> Option<MemoryKind>
 impl MemoryKind {
     /// The name of the cell.
     pub fn name(self) -> &'static [u8]
-        ensures value { memory_of result.now ≡ Some self }
+        ensures value { kind_of result.now ≡ Some (CellKind.Memory self) }
     {
         match self {
             MemoryKind::Memrd => b"$memrd",

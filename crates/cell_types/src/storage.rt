@@ -2,7 +2,9 @@
 
 ghost use Rattle.std.specs.Prelude.{◌≡◌, Some};
 ghost use Rattle.cell_types.specs.Storage.{storage_of};
+ghost use Rattle.cell_types.specs.Kind.{kind_of};
 
+use crate::kind::CellKind;
 use crate::names::find_named;
 
 /// A storage cell of any width: in the Yosys manual, "Word-level cells", the section "Registers".
@@ -72,7 +74,7 @@ pub(crate) fn storage_named(name: &[u8]) -> Option<StorageKind>
 impl StorageKind {
     /// The name of the cell.
     pub fn name(self) -> &'static [u8]
-        ensures value { storage_of result.now ≡ Some self }
+        ensures value { kind_of result.now ≡ Some (CellKind.Storage self) }
     {
         match self {
             StorageKind::Ff => b"$ff",

@@ -1,8 +1,10 @@
 //! Storage gates.
 
 ghost use Rattle.std.specs.Prelude.{◌≡◌, ◌∷◌, ◌++◌, [], Some, IfOk, codes};
-ghost use Rattle.cell_types.specs.Letters.{storage_gate_of, value_of};
+ghost use Rattle.cell_types.specs.Kind.{kind_of};
+ghost use Rattle.cell_types.specs.Letters.{value_of};
 
+use crate::kind::CellKind;
 use crate::level::Level;
 use rtl_bits::{Memory, Text};
 use std::alloc::Global;
@@ -49,7 +51,7 @@ pub enum StorageGate {
 impl StorageGate {
     /// The name of the cell.
     pub fn name(self, alloc: Global) -> Result<Text, Memory>
-        ensures value { IfOk result (λ name. storage_gate_of name ≡ Some self) }
+        ensures value { IfOk result (λ name. kind_of name ≡ Some (CellKind.StorageGate self)) }
     {
         match self {
             StorageGate::Ff => lettered(alloc, b"$_FF", &[]),

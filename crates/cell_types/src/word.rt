@@ -1,8 +1,10 @@
 //! Combinational cells on words.
 
 ghost use Rattle.std.specs.Prelude.{◌≡◌, Some};
+ghost use Rattle.cell_types.specs.Kind.{kind_of};
 ghost use Rattle.cell_types.specs.Word.{word_of};
 
+use crate::kind::CellKind;
 use crate::names::find_named;
 
 /// A word made of one word, bit by bit or as a number.
@@ -193,7 +195,7 @@ pub(crate) fn word_named(name: &[u8]) -> Option<WordKind>
 impl UnaryKind {
     /// The name of the cell.
     pub fn name(self) -> &'static [u8]
-        ensures value { word_of result.now ≡ Some (WordKind.Unary self) }
+        ensures value { kind_of result.now ≡ Some (CellKind.Word (WordKind.Unary self)) }
     {
         match self {
             UnaryKind::Not => b"$not",
@@ -206,7 +208,7 @@ impl UnaryKind {
 impl FoldKind {
     /// The name of the cell.
     pub fn name(self) -> &'static [u8]
-        ensures value { word_of result.now ≡ Some (WordKind.Fold self) }
+        ensures value { kind_of result.now ≡ Some (CellKind.Word (WordKind.Fold self)) }
     {
         match self {
             FoldKind::And => b"$reduce_and",
@@ -222,7 +224,7 @@ impl FoldKind {
 impl BitwiseKind {
     /// The name of the cell.
     pub fn name(self) -> &'static [u8]
-        ensures value { word_of result.now ≡ Some (WordKind.Bitwise self) }
+        ensures value { kind_of result.now ≡ Some (CellKind.Word (WordKind.Bitwise self)) }
     {
         match self {
             BitwiseKind::And => b"$and",
@@ -236,7 +238,7 @@ impl BitwiseKind {
 impl LogicKind {
     /// The name of the cell.
     pub fn name(self) -> &'static [u8]
-        ensures value { word_of result.now ≡ Some (WordKind.Logic self) }
+        ensures value { kind_of result.now ≡ Some (CellKind.Word (WordKind.Logic self)) }
     {
         match self {
             LogicKind::And => b"$logic_and",
@@ -248,7 +250,7 @@ impl LogicKind {
 impl EqualKind {
     /// The name of the cell.
     pub fn name(self) -> &'static [u8]
-        ensures value { word_of result.now ≡ Some (WordKind.Equal self) }
+        ensures value { kind_of result.now ≡ Some (CellKind.Word (WordKind.Equal self)) }
     {
         match self {
             EqualKind::Eq => b"$eq",
@@ -260,7 +262,7 @@ impl EqualKind {
 impl OrderKind {
     /// The name of the cell.
     pub fn name(self) -> &'static [u8]
-        ensures value { word_of result.now ≡ Some (WordKind.Order self) }
+        ensures value { kind_of result.now ≡ Some (CellKind.Word (WordKind.Order self)) }
     {
         match self {
             OrderKind::Lt => b"$lt",
@@ -274,7 +276,7 @@ impl OrderKind {
 impl ArithKind {
     /// The name of the cell.
     pub fn name(self) -> &'static [u8]
-        ensures value { word_of result.now ≡ Some (WordKind.Arith self) }
+        ensures value { kind_of result.now ≡ Some (CellKind.Word (WordKind.Arith self)) }
     {
         match self {
             ArithKind::Add => b"$add",
@@ -287,7 +289,7 @@ impl ArithKind {
 impl DivisionKind {
     /// The name of the cell.
     pub fn name(self) -> &'static [u8]
-        ensures value { word_of result.now ≡ Some (WordKind.Division self) }
+        ensures value { kind_of result.now ≡ Some (CellKind.Word (WordKind.Division self)) }
     {
         match self {
             DivisionKind::Div => b"$div",
@@ -301,7 +303,7 @@ impl DivisionKind {
 impl ShiftKind {
     /// The name of the cell.
     pub fn name(self) -> &'static [u8]
-        ensures value { word_of result.now ≡ Some (WordKind.Shift self) }
+        ensures value { kind_of result.now ≡ Some (CellKind.Word (WordKind.Shift self)) }
     {
         match self {
             ShiftKind::Shl => b"$shl",
@@ -317,7 +319,7 @@ impl ShiftKind {
 impl WordKind {
     /// The name of the cell.
     pub fn name(self) -> &'static [u8]
-        ensures value { word_of result.now ≡ Some self }
+        ensures value { kind_of result.now ≡ Some (CellKind.Word self) }
     {
         match self {
             WordKind::Unary(kind) => kind.name(),
