@@ -9,7 +9,8 @@ use Rattle.cell_types.specs.declared.gate.GateKind.TheVariants.{Buf, Not, And, N
 use Rattle.cell_types.specs.declared.storage.StorageKind.{StorageKind}
 use Rattle.cell_types.specs.declared.storage.StorageKind.TheVariants.{Ff, Dff, Dffe, Sdff, Sdffe, Sdffce, Adff, Adffe, Aldff, Aldffe, Dffsr, Dffsre, Dlatch, Adlatch, Dlatchsr, Sr}
 use Rattle.cell_gate.specs.declared.pins.Pins.{Pins}
-use Rattle.cell_gate.specs.declared.levels.Levels.{Levels}
+use Rattle.cell_gate.specs.declared.store.Levels.{Levels}
+use Rattle.cell_gate.specs.declared.store.Store.{Store}
 use Rattle.cell_gate.specs.Gates.{output_of}
 use Rattle.cell_gate.specs.Control.{active_of, pick_of, edge_of, was_of, IsCertain, IsImpossible}
 use Rattle.cell_gate.specs.Storage.{acting_of, clocked_of, enabled_of, set_or_cleared_of, register_of, enabled_register_of, latch_of, next_of, stored_of, IsRegister, IsQuiet}
@@ -93,12 +94,14 @@ next_plain Dlatchsr v p n = mux_of_plain _ S0 n.clr
 next_plain Sr v p n = mux_of_plain _ S0 n.clr
 next_plain kind v p n = mux_of_plain _ _ _
 
-pub stored_holds : (kind : StorageKind) (levels : Levels) (value : Bit) (before now : Pins) (first : Bool) → IsRegister kind → IsQuiet kind (acting_of levels now) → IsImpossible (active_of levels.clk (was_of first before.clk)) (active_of levels.clk now.clk) → stored_of kind levels value before now first ≡ seen_of before.q
-stored_holds kind levels value before now first r q i =
-    next_holds kind value (acting_of levels (record before { clk = was_of first before.clk })) (acting_of levels now) r q i
+pub stored_holds : (store : Store) (before now : Pins) (first : Bool) → IsRegister store.kind → IsQuiet store.kind (acting_of store.levels now) → IsImpossible (active_of store.levels.clk (was_of first before.clk)) (active_of store.levels.clk now.clk) → stored_of store before now first ≡ seen_of before.q
+stored_holds store before now first r q i =
+    next_holds store.kind store.value
+        (acting_of store.levels (record before { clk = was_of first before.clk }))
+        (acting_of store.levels now) r q i
 
-pub stored_plain : (kind : StorageKind) (levels : Levels) (value : Bit) (before now : Pins) (first : Bool) → IsPlain (stored_of kind levels value before now first)
-stored_plain kind levels value before now first = next_plain kind value _ _
+pub stored_plain : (store : Store) (before now : Pins) (first : Bool) → IsPlain (stored_of store before now first)
+stored_plain store before now first = next_plain store.kind store.value _ _
 
 pub output_plain : (kind : GateKind) (a b s : Bit) → IsPlain (output_of kind a b s)
 output_plain Buf a b s = seen_of_plain a

@@ -11,7 +11,8 @@ use Rattle.cell_types.specs.declared.level.Level.TheVariants.{Low, High}
 use Rattle.cell_types.specs.declared.storage.StorageKind.{StorageKind}
 use Rattle.cell_types.specs.declared.storage.StorageKind.TheVariants.{Ff, Dff, Dffe, Sdff, Sdffe, Sdffce, Adff, Adffe, Aldff, Aldffe, Dffsr, Dffsre, Dlatch, Adlatch, Dlatchsr, Sr}
 use Rattle.cell_gate.specs.declared.pins.Pins.{Pins}
-use Rattle.cell_gate.specs.declared.levels.Levels.{Levels}
+use Rattle.cell_gate.specs.declared.store.Levels.{Levels}
+use Rattle.cell_gate.specs.declared.store.Store.{Store}
 use Rattle.cell_gate.specs.Gates.{output_of}
 use Rattle.cell_gate.specs.Control.{active_of, pick_of, edge_of, was_of}
 use Rattle.cell_gate.specs.Storage.{acting_of, clocked_of, enabled_of, set_or_cleared_of, register_of, enabled_register_of, latch_of, next_of, stored_of, PinsBelow, IsPinMonotone}
@@ -116,14 +117,14 @@ first_kept order k first p p' h = record {
   d = h.d;
   q = h.q }
 
-stored_kept : (order : Bit → Bit → Type 0) → Keeps order → (kind : StorageKind) (levels : Levels) (value : Bit) (first : Bool) → IsPinMonotone order (λ before now. stored_of kind levels value before now first)
-stored_kept order k kind levels value first p p' n n' h i =
+stored_kept : (order : Bit → Bit → Type 0) → Keeps order → (store : Store) (first : Bool) → IsPinMonotone order (λ before now. stored_of store before now first)
+stored_kept order k store first p p' n n' h i =
     next_kept order k _ _ _ _
-        (acting_kept order k levels _ _ (first_kept order k first p p' h))
-        (acting_kept order k levels n n' i) kind value
+        (acting_kept order k store.levels _ _ (first_kept order k first p p' h))
+        (acting_kept order k store.levels n n' i) store.kind store.value
 
-pub stored_below : (kind : StorageKind) (levels : Levels) (value : Bit) (first : Bool) → IsPinMonotone Below (λ before now. stored_of kind levels value before now first)
+pub stored_below : (store : Store) (first : Bool) → IsPinMonotone Below (λ before now. stored_of store before now first)
 stored_below = stored_kept Below below_kept
 
-pub stored_flat : (kind : StorageKind) (levels : Levels) (value : Bit) (first : Bool) → IsPinMonotone FlatBelow (λ before now. stored_of kind levels value before now first)
+pub stored_flat : (store : Store) (first : Bool) → IsPinMonotone FlatBelow (λ before now. stored_of store before now first)
 stored_flat = stored_kept FlatBelow flat_kept

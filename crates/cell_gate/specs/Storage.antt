@@ -7,7 +7,8 @@ use Rattle.rtl_bits.specs.Tables.{seen_of}
 use Rattle.cell_types.specs.declared.storage.StorageKind.{StorageKind}
 use Rattle.cell_types.specs.declared.storage.StorageKind.TheVariants.{Ff, Dff, Dffe, Sdff, Sdffe, Sdffce, Adff, Adffe, Aldff, Aldffe, Dffsr, Dffsre, Dlatch, Adlatch, Dlatchsr, Sr}
 use Rattle.cell_gate.specs.declared.pins.Pins.{Pins}
-use Rattle.cell_gate.specs.declared.levels.Levels.{Levels}
+use Rattle.cell_gate.specs.declared.store.Levels.{Levels}
+use Rattle.cell_gate.specs.declared.store.Store.{Store}
 use Rattle.cell_gate.specs.Control.{active_of, pick_of, edge_of, was_of}
 
 -- the pins with each control as whether it is active
@@ -70,11 +71,11 @@ next_of Sr value before now = set_or_cleared_of now before.q
 
 -- the output of a storage bit, of its pins in the step before and now, and of whether the step is
 -- the first, in which the clock of the step before counts as x
-abbrev pub stored_of : StorageKind → Levels → Bit → Pins → Pins → Bool → Bit
-stored_of kind levels value before now first =
-    next_of kind value
-        (acting_of levels (record before { clk = was_of first before.clk }))
-        (acting_of levels now)
+abbrev pub stored_of : Store → Pins → Pins → Bool → Bit
+stored_of store before now first =
+    next_of store.kind store.value
+        (acting_of store.levels (record before { clk = was_of first before.clk }))
+        (acting_of store.levels now)
 
 -- a kind is a register where it has a clock
 abbrev pub IsRegister : StorageKind → Type 0

@@ -7,9 +7,9 @@ ghost use Rattle.cell_gate.specs.Gates.{output_of};
 ghost use Rattle.cell_gate.specs.Control.{active_of, was_of, IsImpossible};
 ghost use Rattle.cell_gate.specs.Storage.{acting_of, stored_of, IsRegister, IsQuiet, IsPinMonotone};
 
-use crate::levels::Levels;
 use crate::pins::Pins;
-use cell_types::{GateKind, StorageKind};
+use crate::store::Store;
+use cell_types::GateKind;
 use rtl_bits::Bit;
 
 /// Each gate keeps both orders of knowledge.
@@ -24,12 +24,12 @@ pub fn gates_are_monotone()
 #[tactic(auto, using(crate::proofs::Monotone::stored_below, crate::proofs::Monotone::stored_flat))]
 pub fn storage_is_monotone()
     ensures below {
-        (kind : StorageKind) (levels : Levels) (value : Bit) (first : Bool) →
-        IsPinMonotone Below (λ before now. stored_of kind levels value before now first)
+        (store : Store) (first : Bool) →
+        IsPinMonotone Below (λ before now. stored_of store before now first)
     }
     ensures flat {
-        (kind : StorageKind) (levels : Levels) (value : Bit) (first : Bool) →
-        IsPinMonotone FlatBelow (λ before now. stored_of kind levels value before now first)
+        (store : Store) (first : Bool) →
+        IsPinMonotone FlatBelow (λ before now. stored_of store before now first)
     }
 {
 }
@@ -39,10 +39,10 @@ pub fn storage_is_monotone()
 #[tactic(auto, using(crate::proofs::Edges::stored_holds))]
 pub fn registers_hold()
     ensures held {
-        (kind : StorageKind) (levels : Levels) (value : Bit) (before now : Pins) (first : Bool) →
-        IsRegister kind → IsQuiet kind (acting_of levels now) →
-        IsImpossible (active_of levels.clk (was_of first before.clk)) (active_of levels.clk now.clk) →
-        stored_of kind levels value before now first ≡ seen_of before.q
+        (store : Store) (before now : Pins) (first : Bool) →
+        IsRegister store.kind → IsQuiet store.kind (acting_of store.levels now) →
+        IsImpossible (active_of store.levels.clk (was_of first before.clk)) (active_of store.levels.clk now.clk) →
+        stored_of store before now first ≡ seen_of before.q
     }
 {
 }
@@ -52,8 +52,8 @@ pub fn registers_hold()
 pub fn outputs_are_plain()
     ensures gate { (kind : GateKind) (a b s : Bit) → IsPlain (output_of kind a b s) }
     ensures storage {
-        (kind : StorageKind) (levels : Levels) (value : Bit) (before now : Pins) (first : Bool) →
-        IsPlain (stored_of kind levels value before now first)
+        (store : Store) (before now : Pins) (first : Bool) →
+        IsPlain (stored_of store before now first)
     }
 {
 }

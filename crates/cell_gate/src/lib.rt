@@ -4,12 +4,12 @@
 mod control;
 mod gate;
 pub mod laws;
-mod levels;
 mod pins;
 mod storage;
+mod store;
 
 pub use control::{active, clock_before, edge, pick};
-pub use gate::gate_output;
-pub use levels::Levels;
+pub use gate::gate_value;
 pub use pins::Pins;
 pub use storage::stored;
+pub use store::{Levels, Store};

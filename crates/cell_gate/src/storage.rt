@@ -4,26 +4,19 @@ ghost use Rattle.std.specs.Prelude.{◌≡◌};
 ghost use Rattle.cell_gate.specs.Storage.{acting_of, clocked_of, enabled_of, enabled_register_of, latch_of, next_of, register_of, set_or_cleared_of, stored_of};
 
 use crate::control::{active, clock_before, edge, pick};
-use crate::levels::Levels;
 use crate::pins::Pins;
+use crate::store::{Levels, Store};
 use cell_types::StorageKind;
 use rtl_bits::Bit;
 
 /// What the bit holds, of its pins in the step before and now.
-pub fn stored(
-    kind: StorageKind,
-    levels: Levels,
-    value: Bit,
-    before: &Pins,
-    now: &Pins,
-    first: bool,
-) -> Bit
-    ensures value { result ≡ stored_of kind levels value before.now now.now first }
+pub fn stored(store: Store, before: &Pins, now: &Pins, first: bool) -> Bit
+    ensures value { result ≡ stored_of store before.now now.now first }
 {
     let clk = clock_before(first, before.clk);
-    let before = acting(levels, Pins { clk, ..*before });
-    let now = acting(levels, *now);
-    next(kind, value, before, now)
+    let before = acting(store.levels, Pins { clk, ..*before });
+    let now = acting(store.levels, *now);
+    next(store.kind, store.value, before, now)
 }
 
 /// The pins, with each control as whether it is active.
