@@ -10,3 +10,5 @@ pub mod ParamName
 pub mod PinName
 pub mod Params
 pub mod Pins
+pub mod Number
+pub mod Given

@@ -3,11 +3,13 @@
 #![tactic(auto)]
 
 mod gate;
+mod given;
 mod kind;
 mod letters;
 mod level;
 mod memory;
 mod names;
+mod number;
 mod param_name;
 mod params;
 mod pin_name;
@@ -18,6 +20,7 @@ mod unsupported;
 mod word;
 
 pub use gate::GateKind;
+pub use given::{Param, PinWidth};
 pub use kind::{CellKind, kind_of};
 pub use level::Level;
 pub use memory::MemoryKind;
