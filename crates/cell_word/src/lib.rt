@@ -1,0 +1,9 @@
+//! The values of combinational cells on words.
+#![tactic(auto)]
+
+mod arithmetic;
+mod bitwise;
+mod choice;
+mod folds;
+mod integer;
+mod words;
