@@ -4,7 +4,7 @@ use Rattle.std.specs.Str.{bytes_eq}
 use Rattle.rtl_bits.specs.declared.bit.Bit.{Bit}
 use Rattle.cell_types.specs.declared.given.Param.{Param}
 use Rattle.cell_types.specs.declared.param_name.ParamName.{ParamName}
-use Rattle.cell_types.specs.Number.{number_of}
+use Rattle.rtl_bits.specs.Numbers.{number_of}
 use Rattle.cell_types.specs.ParamName.{param_text}
 
 -- the value of a parameter, no bits where it is not given

@@ -12,3 +12,8 @@ pub mod Params
 pub mod Pins
 pub mod Number
 pub mod Given
+pub mod Widths
+pub mod Reading
+pub mod Fault
+pub mod Levels
+pub mod Shape

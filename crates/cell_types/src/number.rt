@@ -1,8 +1,9 @@
 //! The numbers that lists of bits stand for.
 
 ghost use Rattle.std.specs.Prelude.{◌≡◌, ◌+◌, ◌^◌, length, min, nat_lt, drop};
-ghost use Rattle.std.specs.List.{list_all};
-ghost use Rattle.cell_types.specs.Number.{digit_of, is_known, number_of};
+ghost use Rattle.rtl_bits.specs.Knowledge.{all_known};
+ghost use Rattle.rtl_bits.specs.Numbers.{number_of};
+ghost use Rattle.cell_types.specs.Number.{digit_at};
 
 use rtl_bits::Bit;
 
@@ -11,10 +12,14 @@ pub(crate) const MANY: u128 = 1 << 64;
 
 /// Whether all bits are known.
 pub(crate) fn is_number(bits: &[Bit]) -> bool
-    ensures value { result ≡ list_all is_known bits.now }
+    ensures value { result ≡ all_known bits.now }
 {
-    bits.iter()
-        .all(|bit| matches!(*bit, Bit::S0 | Bit::S1))
+    for bit in bits {
+        if !bit.known() {
+            return false;
+        }
+    }
+    true
 }
 
 /// The number that known bits stand for, or `MANY` where it is greater.
@@ -31,6 +36,7 @@ pub(crate) fn number(bits: &[Bit]) -> u128
 }
 
 /// Whether a number is less than the sum of two others, however many bits they have.
+#[tactic(auto, using(crate::proofs::NumberLemmas::number_of_drop))]
 pub(crate) fn is_passed(bound: &[Bit], low: &[Bit], more: &[Bit]) -> bool
     ensures value {
         result ≡ nat_lt (number_of bound.now) (number_of low.now + number_of more.now)
@@ -48,7 +54,7 @@ pub(crate) fn is_passed(bound: &[Bit], low: &[Bit], more: &[Bit]) -> bool
 }
 
 fn digit(bits: &[Bit], at: usize) -> u128
-    ensures value { result ≡ digit_of bits.now at }
+    ensures value { result ≡ digit_at bits.now at }
 {
     match bits.get(at).copied().unwrap_or(Bit::S0) {
         Bit::S1 => 1,

@@ -35,6 +35,16 @@ impl Copied for u8 {
     }
 }
 
+impl Copied for u32 {
+    fn copy(&self) -> Result<u32, Memory> {
+        Ok(*self)
+    }
+
+    fn copy_all(items: &[u32], alloc: Global) -> Result<Vec<u32>, Memory> {
+        Ok(Vec::from_slice(alloc, items)?)
+    }
+}
+
 impl Copied for Bit {
     fn copy(&self) -> Result<Bit, Memory> {
         Ok(*self)

@@ -1,5 +1,5 @@
 use Rattle.std.proofs.Common.{◌≡◌, ◌≤◌, ◌^◌, length, min, drop}
-use Rattle.cell_types.specs.Number.{number_of}
+use Rattle.rtl_bits.specs.Numbers.{number_of}
 use Rattle.cell_types.proofs.number.number.Given as goal
 
 -- the number of the bits from `at` on

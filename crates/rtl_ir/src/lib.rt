@@ -1,0 +1,20 @@
+//! The records of a design, as a text gives them.
+#![tactic(auto)]
+
+mod cell;
+mod machine;
+mod module;
+mod plan;
+mod ports;
+mod store;
+mod value;
+mod wire;
+
+pub use cell::{Cell, CellParam, Pin};
+pub use machine::Machine;
+pub use module::{Design, Link, Module, Parameter};
+pub use plan::{MemPlan, ReadPort, WritePort};
+pub use ports::{ModulePorts, PortLine, PortTable};
+pub use store::Store;
+pub use value::{Attribute, Value};
+pub use wire::{Role, Wire};

@@ -1,0 +1,6 @@
+pub mod Words
+pub mod Numbers
+pub mod Answers
+pub mod Wires
+pub mod Cells
+pub mod Form

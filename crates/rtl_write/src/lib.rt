@@ -1,0 +1,10 @@
+//! The canonical text of designs and of their parts.
+#![tactic(auto)]
+
+mod constant;
+mod run;
+mod signal;
+mod statement;
+mod whole;
+
+pub use whole::{body_text, module_text, write};

@@ -1,0 +1,16 @@
+-- How much was taken of what a source has left.
+use Rattle.std.specs.Prelude.{◌≡◌, ℕ, ◌≤◌, List, ◌++◌, length}
+use Rattle.std.specs.declared.option.Option.{Option}
+use Rattle.std.specs.Io.KnownBytes.{Consumes}
+
+-- what was taken is what the list grew by
+abbrev pub Moves : Option (List ℕ) → Option (List ℕ) → List ℕ → List ℕ → Type 0
+Moves before after old new = (bytes : List ℕ) × Consumes before after bytes × (new ≡ old ++ bytes)
+
+-- at most this many bytes were taken
+abbrev pub TakesAtMost : ℕ → Option (List ℕ) → Option (List ℕ) → Type 0
+TakesAtMost limit before after = (bytes : List ℕ) × Consumes before after bytes × (length bytes ≤ limit)
+
+-- just this many bytes were taken
+abbrev pub TakesJust : ℕ → Option (List ℕ) → Option (List ℕ) → Type 0
+TakesJust count before after = (bytes : List ℕ) × Consumes before after bytes × (length bytes ≡ count)
