@@ -1,5 +1,5 @@
 -- Edges, and what a register holds at an impossible one.
-use Rattle.std.proofs.Common.{◌≡◌, refl, sym, ◌∙◌, ap, subst, ◌⊎◌, inl, inr, ◌↔◌, Bool, true, false}
+use Rattle.std.proofs.Common.{ℕ, ◌≡◌, refl, sym, ◌∙◌, ap, subst, ◌⊎◌, inl, inr, ◌↔◌, Bool, true, false}
 use Rattle.rtl_bits.specs.declared.bit.Bit.{Bit}
 use Rattle.rtl_bits.specs.declared.bit.Bit.TheVariants.{S0, S1, X, Z, M, Dash}
 use Rattle.rtl_bits.specs.Tables.{seen_of, not_of, and_of, merge_of, mux_of, IsPlain}
@@ -9,11 +9,13 @@ use Rattle.cell_types.specs.declared.gate.GateKind.TheVariants.{Buf, Not, And, N
 use Rattle.cell_types.specs.declared.storage.StorageKind.{StorageKind}
 use Rattle.cell_types.specs.declared.storage.StorageKind.TheVariants.{Ff, Dff, Dffe, Sdff, Sdffe, Sdffce, Adff, Adffe, Aldff, Aldffe, Dffsr, Dffsre, Dlatch, Adlatch, Dlatchsr, Sr}
 use Rattle.cell_gate.specs.declared.pins.Pins.{Pins}
-use Rattle.cell_gate.specs.declared.store.Levels.{Levels}
+use Rattle.cell_types.specs.declared.levels.Levels.{Levels}
 use Rattle.cell_gate.specs.declared.store.Store.{Store}
 use Rattle.cell_gate.specs.Gates.{output_of}
 use Rattle.cell_gate.specs.Control.{active_of, pick_of, edge_of, was_of, IsCertain, IsImpossible}
-use Rattle.cell_gate.specs.Storage.{acting_of, clocked_of, enabled_of, set_or_cleared_of, register_of, enabled_register_of, latch_of, next_of, stored_of, IsRegister, IsQuiet}
+use Rattle.cell_types.specs.declared.shape.Shape.{Shape}
+use Rattle.cell_gate.specs.Store.{store_of, storage_kind}
+use Rattle.cell_gate.specs.Storage.{acting_of, clocked_of, enabled_of, set_or_cleared_of, register_of, enabled_register_of, latch_of, next_of, stored_of, store_bit_of, IsRegister, IsQuiet}
 
 certain_from : (was is : Bit) → edge_of was is ≡ S1 → IsCertain was is
 certain_from S0 S1 e = (refl, refl)
@@ -112,3 +114,9 @@ output_plain AndNot a b s = and_of_plain _ _
 output_plain OrNot a b s = or_of_plain _ _
 output_plain Mux a b s = mux_of_plain a b s
 output_plain kind a b s = not_of_plain _
+
+pub bit_holds : (shape : Shape) (at : ℕ) (before now : Pins) (first : Bool) → IsRegister (storage_kind shape.kind) → IsQuiet (storage_kind shape.kind) (acting_of shape.levels now) → IsImpossible (active_of shape.levels.clk (was_of first before.clk)) (active_of shape.levels.clk now.clk) → store_bit_of shape at before now first ≡ seen_of before.q
+bit_holds shape at = stored_holds (store_of shape at)
+
+pub bit_plain : (shape : Shape) (at : ℕ) (before now : Pins) (first : Bool) → IsPlain (store_bit_of shape at before now first)
+bit_plain shape at = stored_plain (store_of shape at)

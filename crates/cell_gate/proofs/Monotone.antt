@@ -1,5 +1,5 @@
 -- Gates and storage bits keep the orders of knowledge, since they are made of functions that do.
-use Rattle.std.proofs.Common.{◌≡◌, refl, Bool, true, false}
+use Rattle.std.proofs.Common.{ℕ, Bool, true, false}
 use Rattle.rtl_bits.specs.declared.bit.Bit.{Bit}
 use Rattle.rtl_bits.specs.declared.bit.Bit.TheVariants.{S0, S1, X}
 use Rattle.rtl_bits.specs.Knowledge.{Below, FlatBelow, IsMonotone3}
@@ -11,11 +11,13 @@ use Rattle.cell_types.specs.declared.level.Level.TheVariants.{Low, High}
 use Rattle.cell_types.specs.declared.storage.StorageKind.{StorageKind}
 use Rattle.cell_types.specs.declared.storage.StorageKind.TheVariants.{Ff, Dff, Dffe, Sdff, Sdffe, Sdffce, Adff, Adffe, Aldff, Aldffe, Dffsr, Dffsre, Dlatch, Adlatch, Dlatchsr, Sr}
 use Rattle.cell_gate.specs.declared.pins.Pins.{Pins}
-use Rattle.cell_gate.specs.declared.store.Levels.{Levels}
+use Rattle.cell_types.specs.declared.levels.Levels.{Levels}
 use Rattle.cell_gate.specs.declared.store.Store.{Store}
 use Rattle.cell_gate.specs.Gates.{output_of}
 use Rattle.cell_gate.specs.Control.{active_of, pick_of, edge_of, was_of}
-use Rattle.cell_gate.specs.Storage.{acting_of, clocked_of, enabled_of, set_or_cleared_of, register_of, enabled_register_of, latch_of, next_of, stored_of, PinsBelow, IsPinMonotone}
+use Rattle.cell_types.specs.declared.shape.Shape.{Shape}
+use Rattle.cell_gate.specs.Store.{store_of}
+use Rattle.cell_gate.specs.Storage.{acting_of, clocked_of, enabled_of, set_or_cleared_of, register_of, enabled_register_of, latch_of, next_of, stored_of, store_bit_of, PinsBelow, IsPinMonotone}
 
 output_kept : (order : Bit → Bit → Type 0) → Keeps order → (kind : GateKind) → IsMonotone3 order (output_of kind)
 output_kept order k Buf a a' b b' s s' h i j = k.seen _ _ h
@@ -123,8 +125,8 @@ stored_kept order k store first p p' n n' h i =
         (acting_kept order k store.levels _ _ (first_kept order k first p p' h))
         (acting_kept order k store.levels n n' i) store.kind store.value
 
-pub stored_below : (store : Store) (first : Bool) → IsPinMonotone Below (λ before now. stored_of store before now first)
-stored_below = stored_kept Below below_kept
+pub bit_below : (shape : Shape) (at : ℕ) (first : Bool) → IsPinMonotone Below (λ before now. store_bit_of shape at before now first)
+bit_below shape at first = stored_kept Below below_kept (store_of shape at) first
 
-pub stored_flat : (store : Store) (first : Bool) → IsPinMonotone FlatBelow (λ before now. stored_of store before now first)
-stored_flat = stored_kept FlatBelow flat_kept
+pub bit_flat : (shape : Shape) (at : ℕ) (first : Bool) → IsPinMonotone FlatBelow (λ before now. store_bit_of shape at before now first)
+bit_flat shape at first = stored_kept FlatBelow flat_kept (store_of shape at) first

@@ -1,5 +1,5 @@
 -- The values of one bit of a storage cell.
-use Rattle.std.specs.Prelude.{◌≡◌, Bool}
+use Rattle.std.specs.Prelude.{◌≡◌, ℕ, Bool}
 use Rattle.rtl_bits.specs.declared.bit.Bit.{Bit}
 use Rattle.rtl_bits.specs.declared.bit.Bit.TheVariants.{S0, S1}
 use Rattle.rtl_bits.specs.Knowledge.{Below}
@@ -7,9 +7,11 @@ use Rattle.rtl_bits.specs.Tables.{seen_of}
 use Rattle.cell_types.specs.declared.storage.StorageKind.{StorageKind}
 use Rattle.cell_types.specs.declared.storage.StorageKind.TheVariants.{Ff, Dff, Dffe, Sdff, Sdffe, Sdffce, Adff, Adffe, Aldff, Aldffe, Dffsr, Dffsre, Dlatch, Adlatch, Dlatchsr, Sr}
 use Rattle.cell_gate.specs.declared.pins.Pins.{Pins}
-use Rattle.cell_gate.specs.declared.store.Levels.{Levels}
+use Rattle.cell_types.specs.declared.levels.Levels.{Levels}
+use Rattle.cell_types.specs.declared.shape.Shape.{Shape}
 use Rattle.cell_gate.specs.declared.store.Store.{Store}
 use Rattle.cell_gate.specs.Control.{active_of, pick_of, edge_of, was_of}
+use Rattle.cell_gate.specs.Store.{store_of}
 
 -- the pins with each control as whether it is active
 abbrev pub acting_of : Levels → Pins → Pins
@@ -76,6 +78,10 @@ stored_of store before now first =
     next_of store.kind store.value
         (acting_of store.levels (record before { clk = was_of first before.clk }))
         (acting_of store.levels now)
+
+-- the output of a storage cell at a place
+abbrev pub store_bit_of : Shape → ℕ → Pins → Pins → Bool → Bit
+store_bit_of shape at before now first = stored_of (store_of shape at) before now first
 
 -- a kind is a register where it has a clock
 abbrev pub IsRegister : StorageKind → Type 0

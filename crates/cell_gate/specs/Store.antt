@@ -1,64 +1,61 @@
--- The bit that a storage gate holds.
-use Rattle.std.specs.Prelude.{Bool, if◌then◌else◌}
+-- How one bit of a storage cell works.
+use Rattle.std.specs.Prelude.{ℕ, slice_index_or}
 use Rattle.rtl_bits.specs.declared.bit.Bit.{Bit}
-use Rattle.rtl_bits.specs.declared.bit.Bit.TheVariants.{S0, S1, X}
-use Rattle.cell_types.specs.declared.level.Level.{Level}
-use Rattle.cell_types.specs.declared.level.Level.TheVariants.{High}
+use Rattle.rtl_bits.specs.declared.bit.Bit.TheVariants.{X}
+use Rattle.cell_types.specs.declared.kind.CellKind.{CellKind}
+use Rattle.cell_types.specs.declared.kind.CellKind.TheVariants.{Storage, StorageGate}
+use Rattle.cell_types.specs.declared.shape.Resets.{Resets}
+use Rattle.cell_types.specs.declared.shape.Shape.{Shape}
 use Rattle.cell_types.specs.declared.storage.StorageKind.{StorageKind}
-use Rattle.cell_types.specs.declared.storage.StorageKind.TheVariants as Kind
-use Rattle.cell_types.specs.declared.storage_gate.StorageGate.{StorageGate}
-use Rattle.cell_types.specs.declared.storage_gate.StorageGate.TheVariants.{Ff, Dff, Dffe, Adff, Adffe, Sdff, Sdffe, Sdffce, Dffsr, Dffsre, Aldff, Aldffe, Dlatch, Adlatch, Dlatchsr, Sr}
-use Rattle.cell_gate.specs.declared.store.Levels.{Levels}
+use Rattle.cell_types.specs.declared.storage.StorageKind.TheVariants.{Ff, Dff, Dffe, Sdff, Sdffe, Sdffce, Adff, Adffe, Aldff, Aldffe, Dffsr, Dffsre, Dlatch, Adlatch, Dlatchsr, Sr}
+use Rattle.cell_types.specs.declared.storage_gate.StorageGate.{StorageGate as AnyGate}
+use Rattle.cell_types.specs.declared.storage_gate.StorageGate.TheVariants as Gate
 use Rattle.cell_gate.specs.declared.store.Store.{Store}
 
--- what a gate says of pins that it lacks
-abbrev pub high : Levels
-high = record {
-  clk = High;
-  en = High;
-  arst = High;
-  srst = High;
-  aload = High;
-  set = High;
-  clr = High }
+-- the kind of storage cell that has the meaning of a gate
+abbrev pub gate_kind : AnyGate → StorageKind
+gate_kind Gate.Ff = Ff
+gate_kind (Gate.Dff _) = Dff
+gate_kind (Gate.Dffe _ _) = Dffe
+gate_kind (Gate.Adff _ _ _) = Adff
+gate_kind (Gate.Adffe _ _ _ _) = Adffe
+gate_kind (Gate.Sdff _ _ _) = Sdff
+gate_kind (Gate.Sdffe _ _ _ _) = Sdffe
+gate_kind (Gate.Sdffce _ _ _ _) = Sdffce
+gate_kind (Gate.Dffsr _ _ _) = Dffsr
+gate_kind (Gate.Dffsre _ _ _ _) = Dffsre
+gate_kind (Gate.Aldff _ _) = Aldff
+gate_kind (Gate.Aldffe _ _ _) = Aldffe
+gate_kind (Gate.Dlatch _) = Dlatch
+gate_kind (Gate.Adlatch _ _ _) = Adlatch
+gate_kind (Gate.Dlatchsr _ _ _) = Dlatchsr
+gate_kind (Gate.Sr _ _) = Sr
 
--- the bit of a value
-abbrev pub bit_of : Bool → Bit
-bit_of value = if value then S1 else S0
+-- a cell is a storage cell, on words or of one bit
+abbrev pub IsStorage : CellKind → Type 0
+IsStorage (Storage kind) = Unit {0}
+IsStorage (StorageGate gate) = Unit {0}
+IsStorage kind = ⊥
 
--- a bit without a reset
-abbrev pub plain_of : StorageKind → Levels → Store
-plain_of kind levels = record { kind = kind; levels = levels; value = X }
+-- its kind; that of any other cell is `$ff`, which nothing reads
+abbrev pub storage_kind : CellKind → StorageKind
+storage_kind (Storage kind) = kind
+storage_kind (StorageGate gate) = gate_kind gate
+storage_kind kind = Ff
 
--- a bit whose reset gives this value
-abbrev pub reset_of : StorageKind → Levels → Bool → Store
-reset_of kind levels value = record { kind = kind; levels = levels; value = bit_of value }
+-- the bit that the reset of a kind gives at a place
+abbrev pub reset_at : StorageKind → Resets → ℕ → Bit
+reset_at Adff resets at = slice_index_or resets.arst at X
+reset_at Adffe resets at = slice_index_or resets.arst at X
+reset_at Adlatch resets at = slice_index_or resets.arst at X
+reset_at Sdff resets at = slice_index_or resets.srst at X
+reset_at Sdffe resets at = slice_index_or resets.srst at X
+reset_at Sdffce resets at = slice_index_or resets.srst at X
+reset_at kind resets at = X
 
--- the kind of a storage gate, the levels that its letters say, and the value of its reset
-abbrev pub store_of_gate : StorageGate → Store
-store_of_gate Ff = plain_of Kind.Ff high
-store_of_gate (Dff clk) = plain_of Kind.Dff (record high { clk = clk })
-store_of_gate (Dffe clk en) = plain_of Kind.Dffe (record high { clk = clk; en = en })
-store_of_gate (Adff clk arst value) =
-    reset_of Kind.Adff (record high { clk = clk; arst = arst }) value
-store_of_gate (Adffe clk arst value en) =
-    reset_of Kind.Adffe (record high { clk = clk; arst = arst; en = en }) value
-store_of_gate (Sdff clk srst value) =
-    reset_of Kind.Sdff (record high { clk = clk; srst = srst }) value
-store_of_gate (Sdffe clk srst value en) =
-    reset_of Kind.Sdffe (record high { clk = clk; srst = srst; en = en }) value
-store_of_gate (Sdffce clk srst value en) =
-    reset_of Kind.Sdffce (record high { clk = clk; srst = srst; en = en }) value
-store_of_gate (Dffsr clk set clr) =
-    plain_of Kind.Dffsr (record high { clk = clk; set = set; clr = clr })
-store_of_gate (Dffsre clk set clr en) =
-    plain_of Kind.Dffsre (record high { clk = clk; set = set; clr = clr; en = en })
-store_of_gate (Aldff clk aload) = plain_of Kind.Aldff (record high { clk = clk; aload = aload })
-store_of_gate (Aldffe clk aload en) =
-    plain_of Kind.Aldffe (record high { clk = clk; aload = aload; en = en })
-store_of_gate (Dlatch en) = plain_of Kind.Dlatch (record high { en = en })
-store_of_gate (Adlatch en arst value) =
-    reset_of Kind.Adlatch (record high { en = en; arst = arst }) value
-store_of_gate (Dlatchsr en set clr) =
-    plain_of Kind.Dlatchsr (record high { en = en; set = set; clr = clr })
-store_of_gate (Sr set clr) = plain_of Kind.Sr (record high { set = set; clr = clr })
+-- the bit of a storage cell at a place
+abbrev pub store_of : Shape → ℕ → Store
+store_of shape at = record {
+  kind = storage_kind shape.kind;
+  levels = shape.levels;
+  value = reset_at (storage_kind shape.kind) shape.resets at }

@@ -11,5 +11,4 @@ mod store;
 pub use control::{active, clock_before, edge, pick};
 pub use gate::gate_value;
 pub use pins::Pins;
-pub use storage::stored;
-pub use store::{Levels, Store};
+pub use storage::store_bit;

@@ -1,16 +1,31 @@
 //! One bit of a storage cell.
 
 ghost use Rattle.std.specs.Prelude.{◌≡◌};
-ghost use Rattle.cell_gate.specs.Storage.{acting_of, clocked_of, enabled_of, enabled_register_of, latch_of, next_of, register_of, set_or_cleared_of, stored_of};
+ghost use Rattle.cell_gate.specs.Storage.{acting_of, clocked_of, enabled_of, enabled_register_of, latch_of, next_of, register_of, set_or_cleared_of, store_bit_of, stored_of};
+ghost use Rattle.cell_gate.specs.Store.{IsStorage};
 
 use crate::control::{active, clock_before, edge, pick};
 use crate::pins::Pins;
-use crate::store::{Levels, Store};
-use cell_types::StorageKind;
+use crate::store::{Store, store_of};
+use cell_types::{Levels, Shape, StorageKind};
 use rtl_bits::Bit;
 
+/// The output of a storage cell at a place, of that bit's pins in the step before and now; `first`
+/// says that the step is the first. In the Yosys manual, "Word-level cells", the section
+/// "Registers", and "Gate-level cells", the sections "Flip-flop cells" and "Latch cells".
+///
+/// An edge of the clock is certain, impossible or open, as the two steps say; in the first step the
+/// clock of the step before is not known. Where a control or an edge is open, the bit is what its
+/// two outcomes have in common. A place past the width has x for the value of a reset.
+pub fn store_bit(shape: &Shape, at: u32, before: &Pins, now: &Pins, first: bool) -> Bit
+    requires storage { IsStorage shape.now.kind }
+    ensures value { result ≡ store_bit_of shape.now at before.now now.now first }
+{
+    stored(store_of(shape, at as usize), before, now, first)
+}
+
 /// What the bit holds, of its pins in the step before and now.
-pub fn stored(store: Store, before: &Pins, now: &Pins, first: bool) -> Bit
+fn stored(store: Store, before: &Pins, now: &Pins, first: bool) -> Bit
     ensures value { result ≡ stored_of store before.now now.now first }
 {
     let clk = clock_before(first, before.clk);

@@ -1,94 +1,86 @@
 //! How one bit of a storage cell works.
 
-ghost use Rattle.std.specs.Prelude.{◌≡◌};
-ghost use Rattle.cell_gate.specs.Store.{bit_of, plain_of, reset_of, store_of_gate};
+ghost use Rattle.std.specs.Prelude.{◌≡◌, slice_index_or};
+ghost use Rattle.cell_gate.specs.Store.{IsStorage, gate_kind, reset_at, storage_kind, store_of};
 
-use cell_types::{Level, StorageGate, StorageKind};
+use cell_types::{CellKind, Levels, Resets, Shape, StorageGate, StorageKind};
 use rtl_bits::Bit;
-
-/// The level at which each control acts. That of a pin that the cell lacks is not read.
-#[derive(Clone, Copy, Debug, PartialEq, Eq)]
-pub struct Levels {
-    pub clk: Level,
-    pub en: Level,
-    pub arst: Level,
-    pub srst: Level,
-    pub aload: Level,
-    pub set: Level,
-    pub clr: Level,
-}
 
 /// One bit of a storage cell: its kind, the levels of its controls, and the value that its reset
 /// gives. The value of a kind without a reset is not read.
 #[derive(Clone, Copy, Debug, PartialEq, Eq)]
-pub struct Store {
-    pub kind: StorageKind,
-    pub levels: Levels,
-    pub value: Bit,
+pub(crate) struct Store {
+    pub(crate) kind: StorageKind,
+    pub(crate) levels: Levels,
+    pub(crate) value: Bit,
 }
 
-/// What a gate says of pins that it lacks.
-const HIGH: Levels = Levels {
-    clk: Level::High,
-    en: Level::High,
-    arst: Level::High,
-    srst: Level::High,
-    aload: Level::High,
-    set: Level::High,
-    clr: Level::High,
-};
-
-fn bit_of(value: bool) -> Bit
-    ensures value { result ≡ bit_of value }
+/// The bit of a storage cell at a place.
+pub(crate) fn store_of(shape: &Shape, at: usize) -> Store
+    requires storage { IsStorage shape.now.kind }
+    ensures value { result ≡ store_of shape.now at }
 {
-    if value { Bit::S1 } else { Bit::S0 }
+    let kind = storage_kind(shape.kind);
+    Store {
+        kind,
+        levels: shape.levels,
+        value: reset_at(kind, &shape.resets, at),
+    }
 }
 
-impl Store {
-    /// The bit that a storage gate holds.
-    #[rattlefmt::skip]
-    pub fn of_gate(gate: StorageGate) -> Store
-        ensures value { result ≡ store_of_gate gate }
-    {
-        match gate {
-            StorageGate::Ff => plain(StorageKind::Ff, HIGH),
-            StorageGate::Dff { clk } => plain(StorageKind::Dff, Levels { clk, ..HIGH }),
-            StorageGate::Dffe { clk, en } => plain(StorageKind::Dffe, Levels { clk, en, ..HIGH }),
-            StorageGate::Adff { clk, arst, value } => reset(StorageKind::Adff, Levels { clk, arst, ..HIGH }, value),
-            StorageGate::Adffe { clk, arst, value, en } => reset(StorageKind::Adffe, Levels { clk, arst, en, ..HIGH }, value),
-            StorageGate::Sdff { clk, srst, value } => reset(StorageKind::Sdff, Levels { clk, srst, ..HIGH }, value),
-            StorageGate::Sdffe { clk, srst, value, en } => reset(StorageKind::Sdffe, Levels { clk, srst, en, ..HIGH }, value),
-            StorageGate::Sdffce { clk, srst, value, en } => reset(StorageKind::Sdffce, Levels { clk, srst, en, ..HIGH }, value),
-            StorageGate::Dffsr { clk, set, clr } => plain(StorageKind::Dffsr, Levels { clk, set, clr, ..HIGH }),
-            StorageGate::Dffsre { clk, set, clr, en } => plain(StorageKind::Dffsre, Levels { clk, set, clr, en, ..HIGH }),
-            StorageGate::Aldff { clk, aload } => plain(StorageKind::Aldff, Levels { clk, aload, ..HIGH }),
-            StorageGate::Aldffe { clk, aload, en } => plain(StorageKind::Aldffe, Levels { clk, aload, en, ..HIGH }),
-            StorageGate::Dlatch { en } => plain(StorageKind::Dlatch, Levels { en, ..HIGH }),
-            StorageGate::Adlatch { en, arst, value } => reset(StorageKind::Adlatch, Levels { en, arst, ..HIGH }, value),
-            StorageGate::Dlatchsr { en, set, clr } => plain(StorageKind::Dlatchsr, Levels { en, set, clr, ..HIGH }),
-            StorageGate::Sr { set, clr } => plain(StorageKind::Sr, Levels { set, clr, ..HIGH }),
+fn storage_kind(kind: CellKind) -> StorageKind
+    requires storage { IsStorage kind }
+    ensures value { result ≡ storage_kind kind }
+{
+    match kind {
+        CellKind::Storage(storage) => storage,
+        CellKind::StorageGate(gate) => gate_kind(gate),
+        _ => unreachable!(),
+    }
+}
+
+/// The kind of storage cell that has the meaning of the gate.
+fn gate_kind(gate: StorageGate) -> StorageKind
+    ensures value { result ≡ gate_kind gate }
+{
+    match gate {
+        StorageGate::Ff => StorageKind::Ff,
+        StorageGate::Dff { .. } => StorageKind::Dff,
+        StorageGate::Dffe { .. } => StorageKind::Dffe,
+        StorageGate::Adff { .. } => StorageKind::Adff,
+        StorageGate::Adffe { .. } => StorageKind::Adffe,
+        StorageGate::Sdff { .. } => StorageKind::Sdff,
+        StorageGate::Sdffe { .. } => StorageKind::Sdffe,
+        StorageGate::Sdffce { .. } => StorageKind::Sdffce,
+        StorageGate::Dffsr { .. } => StorageKind::Dffsr,
+        StorageGate::Dffsre { .. } => StorageKind::Dffsre,
+        StorageGate::Aldff { .. } => StorageKind::Aldff,
+        StorageGate::Aldffe { .. } => StorageKind::Aldffe,
+        StorageGate::Dlatch { .. } => StorageKind::Dlatch,
+        StorageGate::Adlatch { .. } => StorageKind::Adlatch,
+        StorageGate::Dlatchsr { .. } => StorageKind::Dlatchsr,
+        StorageGate::Sr { .. } => StorageKind::Sr,
+    }
+}
+
+/// The bit that the reset of the kind gives at a place.
+fn reset_at(kind: StorageKind, resets: &Resets, at: usize) -> Bit
+    ensures value { result ≡ reset_at kind resets.now at }
+{
+    match kind {
+        StorageKind::Adff | StorageKind::Adffe | StorageKind::Adlatch => {
+            at_or_unknown(resets.arst.as_slice(), at)
         }
+        StorageKind::Sdff | StorageKind::Sdffe | StorageKind::Sdffce => {
+            at_or_unknown(resets.srst.as_slice(), at)
+        }
+        _ => Bit::X,
     }
 }
 
-/// A bit without a reset.
-fn plain(kind: StorageKind, levels: Levels) -> Store
-    ensures value { result ≡ plain_of kind levels }
+/// The bit at a place, x past the end.
+fn at_or_unknown(bits: &[Bit], at: usize) -> Bit
+    ensures value { result ≡ slice_index_or bits.now at Bit.X }
 {
-    Store {
-        kind,
-        levels,
-        value: Bit::X,
-    }
-}
-
-/// A bit whose reset gives this value.
-fn reset(kind: StorageKind, levels: Levels, value: bool) -> Store
-    ensures value { result ≡ reset_of kind levels value }
-{
-    Store {
-        kind,
-        levels,
-        value: bit_of(value),
-    }
+    if at < bits.len() { bits[at] } else { Bit::X }
 }
