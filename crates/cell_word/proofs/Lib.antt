@@ -1,3 +1,5 @@
 pub mod Places
 pub mod Residues
 pub mod Signs
+pub mod Operands
+pub mod Distances

@@ -29,11 +29,11 @@ bits_of_wrapped m n (suc k) (suc width) e h =
 -- the lowest bit of a number of the other parity
 low_bit_inverse : (m n : ℕ) → m % 2 + n % 2 ≡ 1 → low_bit_of m ≡ not_of (low_bit_of n)
 low_bit_inverse m n e = elim (cases_lt (n % 2) 1) [
-    inl h ↦ let a : m % 2 ≡ 1 = omega arith in let b : n % 2 ≡ 0 = omega arith in
-            ap (λ r. if r == 1 then S1 else S0) a ∙ sym (ap (λ r. not_of (if r == 1 then S1 else S0)) b)
+  | inl h ↦ let a : m % 2 ≡ 1 = omega arith in let b : n % 2 ≡ 0 = omega arith in
+      ap (λ r. if r == 1 then S1 else S0) a ∙ sym (ap (λ r. not_of (if r == 1 then S1 else S0)) b)
   | inr h ↦ let a : m % 2 ≡ 0 = omega arith in let b : n % 2 ≡ 1 = omega arith in
-            ap (λ r. if r == 1 then S1 else S0) a ∙ sym (ap (λ r. not_of (if r == 1 then S1 else S0)) b)
-  ]
+      ap (λ r. if r == 1 then S1 else S0) a ∙ sym (ap (λ r. not_of (if r == 1 then S1 else S0)) b)
+]
 
 -- what is left up to the greatest number of k bits has the inverse bits
 pub bits_of_rest : (m n k width : ℕ) → m + n + 1 ≡ 2 ^ k → width ≤ k → bits_of m width ≡ map not_of (bits_of n width)

@@ -116,7 +116,7 @@ remainder_of_signs false false p (suc q) h = refl
 pub quotient_fits : (p q : ℕ) → 0 < p % q → p < 2 ^ 128 → 0 < q → p / q + 1 < 2 ^ 128
 quotient_fits p q r h k = omega (arith, div-add-mod' p q, le-mul_of_pos_right (p / q) k)
 
-size_of_signed : (n : Bool) (p : ℕ) → unsigned_abs (signed_of n p) ≡ p
+pub size_of_signed : (n : Bool) (p : ℕ) → unsigned_abs (signed_of n p) ≡ p
 size_of_signed true zero = refl
 size_of_signed true (suc p) = refl
 size_of_signed false p = refl
@@ -131,11 +131,11 @@ same_is_equal false false = refl
 pub rounds_up_by_signs : (a b : Integer) → 0 < b.size → IsProper a → IsProper b → rounds_up (integer_value a) (integer_value b) ≡ not (a.size % b.size == 0) && not (beq a.negative b.negative)
 rounds_up_by_signs a b h j k =
     let r : unsigned_abs (int_rem (integer_value a) (integer_value b)) ≡ a.size % b.size =
-        ap unsigned_abs (sym (remainder_of_signs a.negative b.negative a.size b.size h)) ∙ size_of_signed a.negative (a.size % b.size) in
+    ap unsigned_abs (sym (remainder_of_signs a.negative b.negative a.size b.size h)) ∙ size_of_signed a.negative (a.size % b.size) in
     let s : same_sign (integer_value a) (integer_value b) ≡ beq a.negative b.negative =
-        ap (λ z. if z then int_lt (integer_value b) (pos 0) else not (int_lt (integer_value b) (pos 0))) (below_zero a.negative a.size j)
-        ∙ ap (λ z. if a.negative then z else not z) (below_zero b.negative b.size k)
-        ∙ same_is_equal a.negative b.negative in
+    ap (λ z. if z then int_lt (integer_value b) (pos 0) else not (int_lt (integer_value b) (pos 0))) (below_zero a.negative a.size j)
+    ∙ ap (λ z. if a.negative then z else not z) (below_zero b.negative b.size k)
+    ∙ same_is_equal a.negative b.negative in
     ap (λ n. not (n == 0) && not (same_sign (integer_value a) (integer_value b))) r
     ∙ ap (λ z. not (a.size % b.size == 0) && not z) s
 
@@ -170,7 +170,7 @@ pub floor_of_quotient : (a b : Integer) → 0 < b.size → IsProper a → IsProp
 floor_of_quotient a b h j k e =
     let d : beq a.negative b.negative ≡ false = (rounds_parts a b h j k e).1 in
     let q : neg_ℤ (pos (a.size / b.size)) ≡ int_div (integer_value a) (integer_value b) =
-        sym (ap (λ z. signed_of (not z) (a.size / b.size)) d) ∙ quotient_of_signs a.negative b.negative a.size b.size h in
+    sym (ap (λ z. signed_of (not z) (a.size / b.size)) d) ∙ quotient_of_signs a.negative b.negative a.size b.size h in
     lowered (a.size / b.size)
     ∙ ap (λ z. z -ℤ pos 1) q
     ∙ sym (ap (λ z. if z then int_div (integer_value a) (integer_value b) -ℤ pos 1 else int_div (integer_value a) (integer_value b)) e)

@@ -55,11 +55,16 @@ quotient_of Mod a b = int_rem a b
 quotient_of DivFloor a b = floor_div a b
 quotient_of ModFloor a b = floor_rem a b
 
--- `$div`, `$mod`, `$divfloor`, `$modfloor`: all x where an operand bit is unknown or the divisor is 0
+-- the bits of a quotient or a remainder, all x where the divisor is 0
+abbrev pub quotient_bits_of : DivisionKind → ℤ → ℤ → ℕ → List Bit
+quotient_bits_of kind a b width =
+    if unsigned_abs b == 0 then unknown_of width else integer_bits (quotient_of kind a b) width
+
+-- `$div`, `$mod`, `$divfloor`, `$modfloor`: all x where an operand bit is unknown, too
 abbrev pub division_of : DivisionKind → Bool → List Bit → List Bit → ℕ → List Bit
 division_of kind signed a b width =
-    if all_known a && all_known b && not (number_of b == 0)
-    then integer_bits (quotient_of kind (integer_in signed a) (integer_in signed b)) width
+    if all_known a && all_known b
+    then quotient_bits_of kind (integer_in signed a) (integer_in signed b) width
     else unknown_of width
 
 -- whether two integers stand in the order of a kind

@@ -6,3 +6,5 @@ pub mod Integers
 pub mod Sizes
 pub mod Arithmetic
 pub mod Shifts
+pub mod Distances
+pub mod Values

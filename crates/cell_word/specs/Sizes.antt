@@ -1,5 +1,8 @@
 -- Integers by sign and size.
-use Rattle.std.specs.Prelude.{◌≡◌, ◌%◌, ◌^◌, ◌<◌, ℕ, Bool, true, false, if◌then◌else◌, ℤ, pos, neg_ℤ}
+use Rattle.std.specs.Prelude.{◌≡◌, ◌%◌, ◌^◌, ◌<◌, ℕ, Bool, true, false, if◌then◌else◌, ℤ, pos, neg_ℤ, List}
+use Rattle.rtl_bits.specs.declared.bit.Bit.{Bit}
+use Rattle.rtl_bits.specs.Knowledge.{all_known}
+use Rattle.cell_word.specs.Integers.{integer_in}
 use Rattle.cell_word.specs.declared.integer.Integer.{Integer}
 
 -- the integer of a sign and a size
@@ -20,3 +23,9 @@ pub record StandsFor (i : Integer) (z : ℤ) : Type 0 where
   pub size : ℕ
   pub residue : size % 2 ^ 128 ≡ i.size
   pub value : signed_of i.negative size ≡ z
+
+-- an integer was read from known bits
+pub record IsRead (signed : Bool) (bits : List Bit) (i : Integer) : Type 0 where
+  pub known : all_known bits ≡ true
+  pub proper : IsProper i
+  pub value : integer_value i ≡ integer_in signed bits

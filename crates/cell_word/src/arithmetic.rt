@@ -1,7 +1,7 @@
 //! The cells that compute with integers.
 
 ghost use Rattle.std.specs.Prelude.{◌≡◌, ◌<◌, ◌≤◌, IfOk, length, ℤ, ◌+ℤ◌, ◌-ℤ◌, ◌*ℤ◌, neg_ℤ, int_div, int_rem, int_lt};
-ghost use Rattle.cell_word.specs.Arithmetic.{arith_of, division_of, floor_div, floor_rem, is_ordered, negative_of, order_of, quotient_of, result_of, rounds_up};
+ghost use Rattle.cell_word.specs.Arithmetic.{arith_of, division_of, floor_div, floor_rem, is_ordered, negative_of, order_of, quotient_bits_of, quotient_of, result_of, rounds_up};
 ghost use Rattle.cell_word.specs.Sizes.{IsProper, StandsFor, integer_value};
 
 use crate::integer::{Integer, bits_of, read_integer};
@@ -9,6 +9,99 @@ use crate::words::unknown;
 use cell_types::{ArithKind, DivisionKind, OrderKind};
 use rtl_bits::{Bit, Bits, Memory};
 use std::alloc::Global;
+
+/// The two's complement, all x where a bit is unknown.
+pub(crate) fn negative(alloc: Global, signed: bool, a: &Bits, width: u32) -> Result<Bits, Memory>
+    requires a_width { length a.now ≤ 128 }
+    requires width { width ≤ 128 }
+    ensures value { IfOk result (λ bits. bits ≡ negative_of signed a.now width) }
+{
+    match read_integer(signed, a) {
+        Some(a) => bits_of(alloc, negated(a), width),
+        None => unknown(alloc, width),
+    }
+}
+
+/// The result modulo 2 to the width, all x where an operand bit is unknown.
+pub(crate) fn arith(
+    alloc: Global,
+    kind: ArithKind,
+    signed: bool,
+    a: &Bits,
+    b: &Bits,
+    width: u32,
+) -> Result<Bits, Memory>
+    requires a_width { length a.now ≤ 128 }
+    requires b_width { length b.now ≤ 128 }
+    requires width { width ≤ 128 }
+    ensures value { IfOk result (λ bits. bits ≡ arith_of kind signed a.now b.now width) }
+{
+    match (read_integer(signed, a), read_integer(signed, b)) {
+        (Some(a), Some(b)) => bits_of(alloc, computed(kind, a, b), width),
+        _ => unknown(alloc, width),
+    }
+}
+
+/// The quotient or the remainder, all x where an operand bit is unknown or the divisor is 0.
+
+pub(crate) fn division(
+    alloc: Global,
+    kind: DivisionKind,
+    signed: bool,
+    a: &Bits,
+    b: &Bits,
+    width: u32,
+) -> Result<Bits, Memory>
+    requires a_width { length a.now ≤ 128 }
+    requires b_width { length b.now ≤ 128 }
+    requires width { width ≤ 128 }
+    ensures value { IfOk result (λ bits. bits ≡ division_of kind signed a.now b.now width) }
+{
+    match (read_integer(signed, a), read_integer(signed, b)) {
+        (Some(a), Some(b)) => quotient_bits(alloc, kind, a, b, width),
+        _ => unknown(alloc, width),
+    }
+}
+
+/// The bits of the quotient or the remainder, all x where the divisor is 0.
+#[tactic(auto, using(crate::proofs::Signs::size_of_signed, crate::proofs::Signs::stands))]
+fn quotient_bits(
+    alloc: Global,
+    kind: DivisionKind,
+    a: Integer,
+    b: Integer,
+    width: u32,
+) -> Result<Bits, Memory>
+    requires a_proper { IsProper a }
+    requires b_proper { IsProper b }
+    requires width { width ≤ 128 }
+    ensures value { IfOk result
+        (λ bits. bits ≡ quotient_bits_of kind (integer_value a) (integer_value b) width) }
+{
+    if b.size == 0 {
+        unknown(alloc, width)
+    } else {
+        bits_of(alloc, divided(kind, a, b), width)
+    }
+}
+
+/// The bit of an order, x where an operand bit is unknown.
+pub(crate) fn order(kind: OrderKind, signed: bool, a: &Bits, b: &Bits) -> Bit
+    requires a_width { length a.now ≤ 128 }
+    requires b_width { length b.now ≤ 128 }
+    ensures value { result ≡ order_of kind signed a.now b.now }
+{
+    match (read_integer(signed, a), read_integer(signed, b)) {
+        (Some(a), Some(b)) => {
+            if is_ordered(kind, a, b) {
+                Bit::S1
+            } else {
+                Bit::S0
+            }
+        }
+        _ => Bit::X,
+    }
+}
 
 fn negated(a: Integer) -> Integer
     ensures value { integer_value result ≡ neg_ℤ (integer_value a) }

@@ -11,13 +11,7 @@ use std::alloc::Global;
 
 /// A where S is 0, B where it is 1, else what the two have in common, bit by bit.
 #[tactic(auto, using(crate::proofs::Places::word_of_more))]
-pub(crate) fn muxed(
-    alloc: Global,
-    a: &[Bit],
-    b: &[Bit],
-    s: Bit,
-    width: u32,
-) -> Result<Bits, Memory>
+pub(crate) fn muxed(alloc: Global, a: &[Bit], b: &[Bit], s: Bit, width: u32) -> Result<Bits, Memory>
     ensures value { IfOk result (λ bits. bits ≡ muxed_of a.now b.now s width) }
 {
     let mut bits = Bits::make(alloc);
@@ -85,13 +79,7 @@ pub(crate) fn picked(
     }
 }
 
-fn selected(
-    alloc: Global,
-    a: &[Bit],
-    b: &[Bit],
-    s: &[Bit],
-    width: u32,
-) -> Result<Bits, Memory>
+fn selected(alloc: Global, a: &[Bit], b: &[Bit], s: &[Bit], width: u32) -> Result<Bits, Memory>
     requires room { length s.now < 2 ^ 31 }
     ensures value { IfOk result (λ bits. bits ≡ selected_of a.now b.now s.now width) }
 {

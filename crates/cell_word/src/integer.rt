@@ -1,9 +1,10 @@
 //! Integers of at most 128 bits, by sign and size.
 
-ghost use Rattle.std.specs.Prelude.{◌≡◌, ◌<◌, ◌≤◌, IfOk, MatchOption, length, ℕ, ℤ};
-ghost use Rattle.rtl_bits.specs.Numbers.{HasNumber, bits_of};
-ghost use Rattle.cell_word.specs.Integers.{integer_bits, integer_in};
-ghost use Rattle.cell_word.specs.Sizes.{IsProper, StandsFor, integer_value};
+ghost use Rattle.std.specs.Prelude.{◌≡◌, false, ◌<◌, ◌≤◌, IfOk, MatchOption, length, ℕ, ℤ};
+ghost use Rattle.rtl_bits.specs.Knowledge.{all_known};
+ghost use Rattle.rtl_bits.specs.Numbers.{bits_of};
+ghost use Rattle.cell_word.specs.Integers.{integer_bits};
+ghost use Rattle.cell_word.specs.Sizes.{IsRead, StandsFor};
 
 use rtl_bits::{Bit, Bits, Memory};
 use std::alloc::Global;
@@ -15,14 +16,18 @@ pub(crate) struct Integer {
     pub(crate) size: u128,
 }
 
-/// The integer that known bits stand for.
+/// The integer that known bits stand for, in two's complement where they are signed.
+#[tactic(auto, using(crate::proofs::Operands::number_unless, crate::proofs::Operands::number_if, crate::proofs::Operands::read_empty))]
 pub(crate) fn read_integer(signed: bool, bits: &Bits) -> Option<Integer>
-    requires not_empty { 0 < length bits.now }
-    ensures value {
-        MatchOption result (HasNumber bits.now → ⊥)
-            (λ i. HasNumber bits.now × IsProper i × (integer_value i ≡ integer_in signed bits.now))
-    }
+    requires width { length bits.now ≤ 128 }
+    ensures value { MatchOption result (all_known bits.now ≡ false) (IsRead signed bits.now) }
 {
+    if bits.as_slice().is_empty() {
+        return Some(Integer {
+            negative: false,
+            size: 0,
+        });
+    }
     if signed {
         let integer = bits.signed()?;
         Some(Integer {
@@ -42,9 +47,7 @@ pub(crate) fn read_integer(signed: bool, bits: &Bits) -> Option<Integer>
 /// size.
 pub(crate) fn bits_of(alloc: Global, integer: Integer, width: u32) -> Result<Bits, Memory>
     requires width { width ≤ 128 }
-    ensures value {
-        IfOk result (λ bits. (z : ℤ) → StandsFor integer z → bits ≡ integer_bits z width)
-    }
+    ensures value { IfOk result (λ bits. (z : ℤ) → StandsFor integer z → bits ≡ integer_bits z width) }
 {
     Bits::from_number(alloc, low_number(integer), width)
 }
@@ -52,10 +55,8 @@ pub(crate) fn bits_of(alloc: Global, integer: Integer, width: u32) -> Result<Bit
 /// The number whose bits are those of the integer in two's complement.
 #[tactic(auto, using(crate::proofs::Signs::low_of_positive))]
 fn low_number(integer: Integer) -> u128
-    ensures value {
-        (z : ℤ) (width : ℕ) → StandsFor integer z → width ≤ 128 →
-        bits_of result width ≡ integer_bits z width
-    }
+    ensures value { (z : ℤ) (width : ℕ) → StandsFor integer z → width ≤ 128 →
+        bits_of result width ≡ integer_bits z width }
 {
     if integer.negative {
         0u128.wrapping_sub(integer.size)

@@ -6,4 +6,8 @@ mod bitwise;
 mod choice;
 mod folds;
 mod integer;
+mod shift;
+mod value;
 mod words;
+
+pub use value::word_value;

@@ -17,12 +17,11 @@ pub(crate) fn unknown(alloc: Global, width: u32) -> Result<Bits, Memory>
 
 /// The word of a width whose lowest bit is this one, and whose other bits are 0.
 pub(crate) fn one_bit(alloc: Global, bit: Bit, width: u32) -> Result<Bits, Memory>
-    requires not_empty { 0 < width }
     ensures value { IfOk result (λ bits. bits ≡ one_bit_of bit width) }
 {
     let mut bits = Bits::make(alloc);
     bits.push(bit)?;
-    for _ in 1..width {
+    for _ in 0..width.saturating_sub(1) {
         bits.push(Bit::S0)?;
     }
     Ok(bits)
@@ -40,7 +39,11 @@ pub(crate) fn fill(signed: bool, bits: &[Bit]) -> Bit
 fn top(bits: &[Bit]) -> Bit
     ensures value { result ≡ top_of bits.now }
 {
-    if bits.is_empty() { Bit::S0 } else { bits[bits.len() - 1] }
+    if bits.is_empty() {
+        Bit::S0
+    } else {
+        bits[bits.len() - 1]
+    }
 }
 
 /// The bit at a place, the fill past the end.

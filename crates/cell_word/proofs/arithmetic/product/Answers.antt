@@ -8,4 +8,6 @@ returns c = record {
   value = record {
     size = c.args.a.size * c.args.b.size;
     residue = refl;
-    value = product_of c.args.a.negative c.args.b.negative c.args.a.size c.args.b.size } }
+    value = product_of c.args.a.negative c.args.b.negative c.args.a.size c.args.b.size;
+  };
+}

@@ -4,4 +4,4 @@ use Rattle.cell_word.proofs.words.one_bit.Given as goal
 
 -- the word so far
 abbrev pub invariant-loop : goal.invariant-loop
-invariant-loop l = l.bits ≡ l.fn.bit ∷ replicate (l.counter - 1) S0
+invariant-loop l = l.bits ≡ l.fn.bit ∷ replicate l.counter S0
