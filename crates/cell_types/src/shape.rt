@@ -82,9 +82,8 @@ pub fn shape_of(
     pins: &[PinWidth],
 ) -> Result<Shape, CellFault>
     ensures ok { IfOk result (λ shape. shape_of kind params.now pins.now ≡ Ok shape) }
-    ensures fault {
-        IfErr result (λ fault. fault ≢ CellFault.Memory → shape_of kind params.now pins.now ≡ Err fault)
-    }
+    ensures fault { IfErr result (λ fault.
+        fault ≢ CellFault.Memory → shape_of kind params.now pins.now ≡ Err fault) }
 {
     if let Some(fault) = fault_of(kind, params, pins) {
         return Err(fault);
