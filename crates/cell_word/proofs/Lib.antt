@@ -3,3 +3,4 @@ pub mod Residues
 pub mod Signs
 pub mod Operands
 pub mod Distances
+pub mod Monotone

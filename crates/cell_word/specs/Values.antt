@@ -2,6 +2,7 @@
 use Rattle.std.specs.Prelude.{ℕ, ◌≤◌, ◌&&◌, Bool, List, [], length, slice_index_or}
 use Rattle.rtl_bits.specs.declared.bit.Bit.{Bit}
 use Rattle.rtl_bits.specs.declared.bit.Bit.TheVariants.{X}
+use Rattle.rtl_bits.specs.Knowledge.{Placewise}
 use Rattle.cell_types.specs.declared.kind.CellKind.{CellKind}
 use Rattle.cell_types.specs.declared.kind.CellKind.TheVariants as Cell
 use Rattle.cell_types.specs.declared.shape.Shape.{Shape}
@@ -90,3 +91,7 @@ HasInputs (Cell.Word kind) shape inputs =
     (input_count kind ≤ length inputs)
     × IsWithin kind (input_of inputs 0) (input_of inputs 1) (input_of inputs 2) shape.widths.y
 HasInputs kind shape inputs = ⊥
+
+-- the inputs of a cell stand in an order of bits, each word place by place
+abbrev pub InputsBelow : (Bit → Bit → Type 0) → List (List Bit) → List (List Bit) → Type 0
+InputsBelow order low high = (at : ℕ) → Placewise order (input_of low at) (input_of high at)

@@ -6,6 +6,7 @@ mod bitwise;
 mod choice;
 mod folds;
 mod integer;
+pub mod laws;
 mod shift;
 mod value;
 mod words;
