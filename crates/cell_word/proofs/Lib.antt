@@ -4,3 +4,4 @@ pub mod Signs
 pub mod Operands
 pub mod Distances
 pub mod Monotone
+pub mod Limits

@@ -1,10 +1,11 @@
 //! Laws of the values of word cells.
 
-ghost use Rattle.std.specs.Prelude.{List};
+ghost use Rattle.std.specs.Prelude.{◌≡◌, ◌≤◌, List, Ok, length};
 ghost use Rattle.rtl_bits.specs.Knowledge.{Below, FlatBelow, AreBelow, AreFlatBelow};
-ghost use Rattle.cell_word.specs.Values.{word_value_of, InputsBelow};
+ghost use Rattle.cell_word.specs.Values.{HasInputs, InputsBelow, input_count, input_of, word_value_of};
+ghost use Rattle.cell_types.specs.Shape.{shape_of};
 
-use cell_types::Shape;
+use cell_types::{CellKind, Param, PinWidth, Shape, WordKind};
 use rtl_bits::Bit;
 
 /// The value of each word cell keeps both orders of knowledge.
@@ -20,3 +21,16 @@ pub fn words_are_monotone()
     }
 {
 }
+
+/// The inputs of a cell that has a shape are such as `word_value` takes, where there are enough
+/// and none is wider than the shape says.
+#[tactic(auto, using(crate::proofs::Limits::shaped_within))]
+pub fn shapes_are_within()
+    ensures within {
+        (kind : WordKind) (params : List Param) (pins : List PinWidth) (shape : Shape)
+            (inputs : List (List Bit)) →
+        shape_of (CellKind.Word kind) params pins ≡ Ok shape → input_count kind ≤ length inputs →
+        length (input_of inputs 0) ≤ shape.widths.a → length (input_of inputs 1) ≤ shape.widths.b →
+        length (input_of inputs 2) ≤ shape.widths.s → HasInputs shape.kind shape inputs
+    }
+{}
