@@ -1,7 +1,7 @@
 //! Rows of gates: what a model of its own gives for them, step by step.
 
 use crate::cell::{Change, cell_of};
-use crate::steps::{UNKNOWN, bit_of, pins_of, stored};
+use crate::steps::{UNKNOWN, bit_of, stored, with_pin};
 use cell_gate::{Pins, gate_value};
 use cell_types::{CellKind, kind_of, shape_of};
 use rtl_bits::Bit;
@@ -42,7 +42,10 @@ fn storage_gates(rt: HostRuntime) -> Result<(), Fail> {
         let mut before = Pins { q, ..UNKNOWN };
         let mut first = true;
         for (step, wanted) in steps.split(|byte| *byte == b' ').zip(trace) {
-            let now = pins_of(letters, step.chunks(1), 0);
+            let mut now = UNKNOWN;
+            for (letter, bit) in letters.iter().zip(step) {
+                now = with_pin(now, *letter, bit_of(*bit));
+            }
             let q = stored(&shape, 0, &before, &now, first);
             assert_eq!(rt; q, bit_of(*wanted));
             before = Pins { q, ..now };

@@ -39,21 +39,24 @@ fn bit_at(word: &[u8], at: usize) -> Bit {
     word.iter().rev().nth(at).map_or(Bit::X, |bit| bit_of(*bit))
 }
 
-/// The pins of a bit in a step, of their letters and their words. An `r` is whichever reset the
-/// cell has.
-pub fn pins_of<'a>(letters: &[u8], words: impl Iterator<Item = &'a [u8]>, at: usize) -> Pins {
+/// The pins with that of a letter set. An `r` is whichever reset the cell has.
+pub fn with_pin(pins: Pins, letter: u8, bit: Bit) -> Pins {
+    match letter {
+        b'c' => Pins { clk: bit, ..pins },
+        b'e' => Pins { en: bit, ..pins },
+        b'r' => Pins { arst: bit, srst: bit, clr: bit, ..pins },
+        b'l' => Pins { aload: bit, ..pins },
+        b'a' => Pins { ad: bit, ..pins },
+        b's' => Pins { set: bit, ..pins },
+        _ => Pins { d: bit, ..pins },
+    }
+}
+
+/// The pins of a bit in a step, of their letters and their words.
+fn pins_of(letters: &[u8], step: &[u8], at: usize) -> Pins {
     let mut pins = UNKNOWN;
-    for (letter, word) in letters.iter().zip(words) {
-        let bit = bit_at(word, at);
-        match *letter {
-            b'c' => pins.clk = bit,
-            b'e' => pins.en = bit,
-            b'r' => pins = Pins { arst: bit, srst: bit, clr: bit, ..pins },
-            b'l' => pins.aload = bit,
-            b'a' => pins.ad = bit,
-            b's' => pins.set = bit,
-            _ => pins.d = bit,
-        }
+    for (letter, word) in letters.iter().zip(step.split(|byte| *byte == b' ')) {
+        pins = with_pin(pins, *letter, bit_at(word, at));
     }
     pins
 }
@@ -84,7 +87,7 @@ fn storage_cells(rt: HostRuntime) -> Result<(), Fail> {
             let mut first = true;
             let words = steps.split(|byte| *byte == b',');
             for (step, wanted) in words.zip(trace.split(|byte| *byte == b',')) {
-                let now = pins_of(letters, step.split(|byte| *byte == b' '), place);
+                let now = pins_of(letters, step, place);
                 let q = stored(&shape, at, &before, &now, first);
                 assert_eq!(rt; q, bit_at(wanted, place));
                 before = Pins { q, ..now };

@@ -1,21 +1,21 @@
 -- Distances of shifts, and what is read at them.
-use Rattle.std.proofs.Common.{◌≡◌, refl, sym, ◌∙◌, ap, subst, ℕ, zero, suc, ◌+◌, ◌-◌, ◌*◌, ◌^◌, ◌<◌, ◌≤◌, min, max, Bool, true, false, not, List, [], ◌∷◌, map, length, get_or, drop, arith, ◌⊎◌, inl, inr, ℤ, pos, negsuc, neg_ℤ, ◌+ℤ◌, ◌-ℤ◌}
+use Rattle.std.proofs.Common.{◌≡◌, refl, sym, ◌∙◌, ap, ℕ, zero, suc, ◌+◌, ◌-◌, ◌*◌, ◌^◌, ◌<◌, ◌≤◌, min, max, Bool, true, false, List, [], ◌∷◌, map, length, get_or, drop, arith, inl, inr, ℤ, pos, negsuc, neg_ℤ, ◌+ℤ◌, ◌-ℤ◌}
 use Rattle.std.proofs.lemmas.List.{get_or_past}
 use Rattle.std.specs.Prelude.{nat_lt, nat_le, if◌then◌else◌}
 use Rattle.std.specs.List.{range_with_len}
 use Rattle.std.proofs.lemmas.Int.{ints}
-use Rattle.std.proofs.lemmas.Bool.{cases_lt, cases_Bool}
+use Rattle.std.proofs.lemmas.Bool.{cases_lt}
 use Rattle.std.proofs.lemmas.Bool.Decides.{nat_tests}
 use Rattle.std.proofs.Math.Nat.{pow-succ'}
 use Rattle.rtl_bits.specs.declared.bit.Bit.{Bit}
 use Rattle.rtl_bits.specs.declared.bit.Bit.TheVariants.{S0, S1, X}
-use Rattle.rtl_bits.specs.Knowledge.{IsKnown, AreKnown, all_known}
+use Rattle.rtl_bits.specs.Knowledge.{AreKnown, all_known}
 use Rattle.rtl_bits.specs.Tables.{seen_of, not_of}
-use Rattle.rtl_bits.specs.Numbers.{digit_of, number_of, integer_of, top_of, is_one}
+use Rattle.rtl_bits.specs.Numbers.{digit_of, number_of, top_of, is_one}
 use Rattle.rtl_bits.proofs.Numbers.{drop_here}
 use Rattle.rtl_bits.proofs.Lists.{all_known_true}
 use Rattle.cell_types.specs.declared.word.ShiftKind.{ShiftKind}
-use Rattle.cell_types.specs.declared.word.ShiftKind.TheVariants.{Shl, Sshl, Shr, Sshr, Shift, Shiftx}
+use Rattle.cell_types.specs.declared.word.ShiftKind.TheVariants.{Sshr, Shiftx}
 use Rattle.cell_word.specs.declared.shift.Distance.{Distance}
 use Rattle.cell_word.specs.Words.{word_of, fill_of, extended_at}
 use Rattle.cell_word.specs.Integers.{integer_in}

@@ -1,5 +1,5 @@
 -- The inputs of a cell with a shape are within the limits of its kind.
-use Rattle.std.proofs.Common.{◌≡◌, refl, sym, ◌∙◌, ap, subst, ℕ, ◌≤◌, Bool, true, false, ◌||◌, List, [], ◌∷◌, length, Option, Some, None, Result, Ok, Err, arith, min, ◌-◌, ◌^◌}
+use Rattle.std.proofs.Common.{◌≡◌, refl, subst, ℕ, ◌≤◌, Bool, true, false, ◌||◌, List, length, Option, Some, None, Ok, arith}
 use Rattle.std.specs.Prelude.{if◌then◌else◌, nat_lt}
 use Rattle.std.proofs.lemmas.Bool.Decides.{nat_tests}
 use Rattle.rtl_bits.specs.declared.bit.Bit.{Bit}
@@ -83,5 +83,5 @@ shaped_within kind params pins shape inputs e n a b s =
     let p = unless_ok (fault_of (Cell.Word kind) params pins) (made_shape (Cell.Word kind) params) shape e in
     let w = not_wide (is_bad (Cell.Word kind) params pins) (is_wide (Cell.Word kind) params) (has_other_width (Cell.Word kind) params pins) p.0 in
     subst (λ z. length (input_of inputs 0) ≤ z.widths.a → length (input_of inputs 1) ≤ z.widths.b → length (input_of inputs 2) ≤ z.widths.s → HasInputs z.kind z inputs) p.1
-        (λ a b s. (n, made_within kind params w (input_of inputs 0) (input_of inputs 1) (input_of inputs 2) a b s))
-        a b s
+    (λ a b s. (n, made_within kind params w (input_of inputs 0) (input_of inputs 1) (input_of inputs 2) a b s))
+    a b s

@@ -1,13 +1,13 @@
 -- Words keep the orders of knowledge, since they are made of functions that do.
-use Rattle.std.proofs.Common.{◌≡◌, refl, sym, ◌∙◌, ap, subst, ℕ, zero, suc, ◌+◌, ◌*◌, ◌-◌, max, Bool, true, false, ◌&&◌, List, [], ◌∷◌, ◌++◌, map, replicate, length, slice_index_or, ℤ, pos, negsuc, ◌+ℤ◌, ◌⊎◌, inl, inr, arith}
+use Rattle.std.proofs.Common.{◌≡◌, refl, sym, ◌∙◌, ap, subst, ℕ, zero, suc, ◌+◌, ◌*◌, ◌-◌, max, Bool, true, false, ◌&&◌, List, [], ◌∷◌, ◌++◌, map, replicate, length, slice_index_or, ℤ, pos, negsuc, ◌+ℤ◌, arith}
 use Rattle.std.specs.Prelude.{if◌then◌else◌, nat_lt, ◌==◌, count_by, unsigned_abs, neg_ℤ}
 use Rattle.std.specs.List.{range_with_len, fold}
 use Rattle.std.proofs.lemmas.List.{length-replicate}
 use Rattle.std.proofs.lemmas.List.FromFn.{length-map-range_with_len}
 use Rattle.rtl_bits.specs.declared.bit.Bit.{Bit}
 use Rattle.rtl_bits.specs.declared.bit.Bit.TheVariants.{S0, S1, X}
-use Rattle.rtl_bits.specs.Knowledge.{IsKnown, AreKnown, all_known, Placewise, Below, FlatBelow, AreBelow, AreFlatBelow, IsMonotone2}
-use Rattle.rtl_bits.specs.Tables.{seen_of, not_of, and_of, or_of, xor_of, mux_of}
+use Rattle.rtl_bits.specs.Knowledge.{AreKnown, all_known, Placewise, Below, FlatBelow, AreBelow, AreFlatBelow, IsMonotone2}
+use Rattle.rtl_bits.specs.Tables.{seen_of, not_of, and_of, or_of, xor_of}
 use Rattle.rtl_bits.specs.Numbers.{bits_of, top_of, is_one}
 use Rattle.rtl_bits.proofs.Keeping.{Keeps, below_kept, flat_kept}
 use Rattle.rtl_bits.proofs.Lists.{placewise_refl, placewise_length, all_known_true}
@@ -24,21 +24,21 @@ use Rattle.cell_types.specs.declared.word.OrderKind.{OrderKind}
 use Rattle.cell_types.specs.declared.word.ArithKind.{ArithKind}
 use Rattle.cell_types.specs.declared.word.DivisionKind.{DivisionKind}
 use Rattle.cell_types.specs.declared.word.ShiftKind.{ShiftKind}
-use Rattle.cell_types.specs.declared.word.ShiftKind.TheVariants.{Shl, Sshl, Shr, Sshr, Shift, Shiftx}
+use Rattle.cell_types.specs.declared.word.ShiftKind.TheVariants.{Sshr, Shiftx}
 use Rattle.cell_types.specs.declared.kind.CellKind.{CellKind}
 use Rattle.cell_types.specs.declared.kind.CellKind.TheVariants as Cell
 use Rattle.cell_types.specs.declared.shape.Shape.{Shape}
 use Rattle.cell_types.specs.declared.word.UnaryKind.TheVariants.{Not, Pos, Neg}
 use Rattle.cell_types.specs.declared.word.WordKind.{WordKind}
 use Rattle.cell_types.specs.declared.word.WordKind.TheVariants as Word
-use Rattle.cell_word.specs.Values.{both_signed, input_of, value_of, value_by, word_value_of, InputsBelow}
+use Rattle.cell_word.specs.Values.{both_signed, value_of, value_by, word_value_of, InputsBelow}
 use Rattle.cell_word.specs.Words.{word_of, unknown_of, one_bit_of, fill_of, extended_at}
 use Rattle.cell_word.specs.Bitwise.{inverse_of, itself_of, bit_by, bitwise_of}
-use Rattle.cell_word.specs.Folds.{all_of, any_of, odd_of, folded_of, logic_of, agreeing_of, equal_of, equality_of}
+use Rattle.cell_word.specs.Folds.{all_of, any_of, folded_of, logic_of, agreeing_of, equal_of, equality_of}
 use Rattle.cell_word.specs.Integers.{integer_in, integer_bits}
 use Rattle.cell_word.specs.Arithmetic.{negative_of, result_of, arith_of, quotient_bits_of, quotient_of, division_of, is_ordered, order_of}
 use Rattle.cell_word.specs.Shifts.{distance_of, below_of, read_at, read_of, moved_of, shifted_of}
-use Rattle.cell_word.specs.Choice.{muxed_of, part_of, joined_of, place_of, selected_of, picked_of}
+use Rattle.cell_word.specs.Choice.{muxed_of, part_of, place_of, selected_of, picked_of}
 
 length_inverse : (bits : List Bit) → length (map not_of bits) ≡ length bits
 length_inverse [] = refl
@@ -59,10 +59,9 @@ both_true false y e = absurd (cc)
 
 quotient_bits_length : (kind : DivisionKind) (a b : ℤ) (width : ℕ) → length (quotient_bits_of kind a b width) ≡ width
 quotient_bits_length kind a b width = if_length (unsigned_abs b == 0) (unknown_of width) (integer_bits (quotient_of kind a b) width) width
-        (length-replicate width X) (integer_bits_length (quotient_of kind a b) width)
+    (length-replicate width X) (integer_bits_length (quotient_of kind a b) width)
 
 module _ (order : Bit → Bit → Type 0) (k : Keeps order) where
-
   word_kept : (f g : ℕ → Bit) → ((i : ℕ) → order (f i) (g i)) → (from n : ℕ) → Placewise order (map f (range_with_len from n)) (map g (range_with_len from n))
   word_kept f g e from zero = tt
   word_kept f g e from (suc n) = (e from, word_kept f g e (from + 1) n)
@@ -160,12 +159,12 @@ module _ (order : Bit → Bit → Type 0) (k : Keeps order) where
   equal_kept : (signed : Bool) (a a' b b' : List Bit) → Placewise order a a' → Placewise order b b' → order (equal_of signed a b) (equal_of signed a' b')
   equal_kept signed a a' b b' h i =
       let e : max (length a) (length b) ≡ max (length a') (length b') =
-          ap (λ n. max n (length b)) (placewise_length order a a' h) ∙ ap (max (length a')) (placewise_length order b b' i) in
+      ap (λ n. max n (length b)) (placewise_length order a a' h) ∙ ap (max (length a')) (placewise_length order b b' i) in
       subst (λ n. order (equal_of signed a b) (all_of (agreeing_of signed a' b' n))) e
-          (fold_kept and_of k.and S1 S1 (k.self S1)
-              (agreeing_of signed a b (max (length a) (length b)))
-              (agreeing_of signed a' b' (max (length a) (length b)))
-              (agreeing_kept signed a a' b b' (max (length a) (length b)) h i))
+      (fold_kept and_of k.and S1 S1 (k.self S1)
+      (agreeing_of signed a b (max (length a) (length b)))
+      (agreeing_of signed a' b' (max (length a) (length b)))
+      (agreeing_kept signed a a' b b' (max (length a) (length b)) h i))
 
   equality_kept : (kind : EqualKind) (signed : Bool) (a a' b b' : List Bit) → Placewise order a a' → Placewise order b b' → order (equality_of kind signed a b) (equality_of kind signed a' b')
   equality_kept Eq signed a a' b b' h i = equal_kept signed a a' b b' h i
@@ -181,36 +180,38 @@ module _ (order : Bit → Bit → Type 0) (k : Keeps order) where
   operands_kept : (F : List Bit → List Bit → List Bit) (width : ℕ) → ((x y : List Bit) → length (F x y) ≡ width) → (a a' b b' : List Bit) → Placewise order a a' → Placewise order b b' → Placewise order (if all_known a && all_known b then F a b else unknown_of width) (if all_known a' && all_known b' then F a' b' else unknown_of width)
   operands_kept F width l a a' b b' h i =
       choose_kept _ _ _ _ width
-          (λ e. let p = both_fixed a a' b b' h i e in
-              ( ap (λ z. all_known z && all_known b') p.0 ∙ ap (λ z. all_known a && all_known z) p.1 ∙ e
-              , subst (λ z. Placewise order (F a b) z)
-                    (sym (ap (λ z. F z b') p.0 ∙ ap (λ z. F a z) p.1))
-                    (placewise_refl order k.self (F a b)) ))
-          (l a' b')
+      (λ e. let p = both_fixed a a' b b' h i e in (
+        ap (λ z. all_known z && all_known b') p.0 ∙ ap (λ z. all_known a && all_known z) p.1 ∙ e,
+        subst (λ z. Placewise order (F a b) z)
+            (sym (ap (λ z. F z b') p.0 ∙ ap (λ z. F a z) p.1))
+            (placewise_refl order k.self (F a b)),
+      ))
+      (l a' b')
 
   -- the same of one operand
   operand_kept : (F : List Bit → List Bit) (width : ℕ) → ((x : List Bit) → length (F x) ≡ width) → (a a' : List Bit) → Placewise order a a' → Placewise order (if all_known a then F a else unknown_of width) (if all_known a' then F a' else unknown_of width)
   operand_kept F width l a a' h =
       choose_kept _ _ _ _ width
-          (λ e. let p = known_fixed a a' h e in
-              ( ap all_known p ∙ e
-              , subst (λ z. Placewise order (F a) z) (sym (ap F p)) (placewise_refl order k.self (F a)) ))
-          (l a')
+      (λ e. let p = known_fixed a a' h e in (
+        ap all_known p ∙ e,
+        subst (λ z. Placewise order (F a) z) (sym (ap F p)) (placewise_refl order k.self (F a)),
+      ))
+      (l a')
 
   negative_kept : (signed : Bool) (a a' : List Bit) (width : ℕ) → Placewise order a a' → Placewise order (negative_of signed a width) (negative_of signed a' width)
   negative_kept signed a a' width h =
       operand_kept (λ x. integer_bits (neg_ℤ (integer_in signed x)) width) width
-          (λ x. integer_bits_length _ width) a a' h
+      (λ x. integer_bits_length _ width) a a' h
 
   arith_kept : (kind : ArithKind) (signed : Bool) (a a' b b' : List Bit) (width : ℕ) → Placewise order a a' → Placewise order b b' → Placewise order (arith_of kind signed a b width) (arith_of kind signed a' b' width)
   arith_kept kind signed a a' b b' width h i =
       operands_kept (λ x y. integer_bits (result_of kind (integer_in signed x) (integer_in signed y)) width) width
-          (λ x y. integer_bits_length _ width) a a' b b' h i
+      (λ x y. integer_bits_length _ width) a a' b b' h i
 
   division_kept : (kind : DivisionKind) (signed : Bool) (a a' b b' : List Bit) (width : ℕ) → Placewise order a a' → Placewise order b b' → Placewise order (division_of kind signed a b width) (division_of kind signed a' b' width)
   division_kept kind signed a a' b b' width h i =
       operands_kept (λ x y. quotient_bits_of kind (integer_in signed x) (integer_in signed y) width) width
-          (λ x y. quotient_bits_length kind (integer_in signed x) (integer_in signed y) width) a a' b b' h i
+      (λ x y. quotient_bits_length kind (integer_in signed x) (integer_in signed y) width) a a' b b' h i
 
   choose_bit_kept : (t t' : Bool) (u u' : Bit) → (t ≡ true → (t' ≡ true) × order u u') → order (if t then u else X) (if t' then u' else X)
   choose_bit_kept true true u u' e = (e refl).1
@@ -221,9 +222,10 @@ module _ (order : Bit → Bit → Type 0) (k : Keeps order) where
   order_kept kind signed a a' b b' h i =
       let F : List Bit → List Bit → Bit = λ x y. if is_ordered kind (integer_in signed x) (integer_in signed y) then S1 else S0 in
       choose_bit_kept _ _ (F a b) (F a' b')
-          (λ e. let p = both_fixed a a' b b' h i e in
-              ( ap (λ z. all_known z && all_known b') p.0 ∙ ap (λ z. all_known a && all_known z) p.1 ∙ e
-              , subst (λ z. order (F a b) z) (sym (ap (λ z. F z b') p.0 ∙ ap (λ z. F a z) p.1)) (k.self (F a b)) ))
+      (λ e. let p = both_fixed a a' b b' h i e in (
+        ap (λ z. all_known z && all_known b') p.0 ∙ ap (λ z. all_known a && all_known z) p.1 ∙ e,
+        subst (λ z. order (F a b) z) (sym (ap (λ z. F z b') p.0 ∙ ap (λ z. F a z) p.1)) (k.self (F a b)),
+      ))
 
   choose_either : (t : Bool) (u u' v v' : Bit) → order u u' → order v v' → order (if t then u else v) (if t then u' else v')
   choose_either true u u' v v' e f = e
@@ -241,17 +243,18 @@ module _ (order : Bit → Bit → Type 0) (k : Keeps order) where
   moved_kept : (kind : ShiftKind) (signed : Bool) (a a' : List Bit) (z : ℤ) (width : ℕ) → Placewise order a a' → Placewise order (moved_of kind signed a z width) (moved_of kind signed a' z width)
   moved_kept kind signed a a' z width h =
       subst (λ n. Placewise order (moved_of kind signed a z width) (word_of (λ i. read_of kind signed a' (max n width) (pos i +ℤ z)) width))
-          (placewise_length order a a' h)
-          (word_kept _ _ (λ i. read_of_kept kind signed a a' (max (length a) width) (pos i +ℤ z) h) 0 width)
+      (placewise_length order a a' h)
+      (word_kept _ _ (λ i. read_of_kept kind signed a a' (max (length a) width) (pos i +ℤ z) h) 0 width)
 
   shifted_kept : (kind : ShiftKind) (a_signed b_signed : Bool) (a a' b b' : List Bit) (width : ℕ) → Placewise order a a' → Placewise order b b' → Placewise order (shifted_of kind a_signed b_signed a b width) (shifted_of kind a_signed b_signed a' b' width)
   shifted_kept kind a_signed b_signed a a' b b' width h i =
       choose_kept _ _ _ _ width
-          (λ e. let p = known_fixed b b' i e in
-              ( ap all_known p ∙ e
-              , subst (λ z. Placewise order (moved_of kind a_signed a (distance_of kind b_signed b) width) (moved_of kind a_signed a' (distance_of kind b_signed z) width))
-                    (sym p) (moved_kept kind a_signed a a' (distance_of kind b_signed b) width h) ))
-          (length-map-range_with_len _ 0 width)
+      (λ e. let p = known_fixed b b' i e in (
+        ap all_known p ∙ e,
+        subst (λ z. Placewise order (moved_of kind a_signed a (distance_of kind b_signed b) width) (moved_of kind a_signed a' (distance_of kind b_signed z) width))
+            (sym p) (moved_kept kind a_signed a a' (distance_of kind b_signed b) width h),
+      ))
+      (length-map-range_with_len _ 0 width)
 
   muxed_kept : (a a' b b' : List Bit) (s s' : Bit) (width : ℕ) → Placewise order a a' → Placewise order b b' → order s s' → Placewise order (muxed_of a b s width) (muxed_of a' b' s' width)
   muxed_kept a a' b b' s s' width h i j =
@@ -267,23 +270,24 @@ module _ (order : Bit → Bit → Type 0) (k : Keeps order) where
   selected_kept : (a a' b b' s : List Bit) (width : ℕ) → Placewise order a a' → Placewise order b b' → Placewise order (selected_of a b s width) (selected_of a' b' s width)
   selected_kept a a' b b' s width h i =
       choose_words (count_by is_one s == 0) _ _ _ _ (part_kept a a' 0 width h)
-          (choose_words (count_by is_one s == 1) _ _ _ _ (part_kept b b' (place_of s * width) width i)
-              (placewise_refl order k.self (unknown_of width)))
+      (choose_words (count_by is_one s == 1) _ _ _ _ (part_kept b b' (place_of s * width) width i)
+      (placewise_refl order k.self (unknown_of width)))
 
   selected_length : (a b s : List Bit) (width : ℕ) → length (selected_of a b s width) ≡ width
   selected_length a b s width =
       if_length (count_by is_one s == 0) (part_of a 0 width) _ width (length-map-range_with_len _ 0 width)
-          (if_length (count_by is_one s == 1) (part_of b (place_of s * width) width) (unknown_of width) width
-              (length-map-range_with_len _ 0 width) (length-replicate width X))
+      (if_length (count_by is_one s == 1) (part_of b (place_of s * width) width) (unknown_of width) width
+      (length-map-range_with_len _ 0 width) (length-replicate width X))
 
   picked_kept : (a a' b b' s s' : List Bit) (width : ℕ) → Placewise order a a' → Placewise order b b' → Placewise order s s' → Placewise order (picked_of a b s width) (picked_of a' b' s' width)
   picked_kept a a' b b' s s' width h i j =
       choose_kept _ _ _ _ width
-          (λ e. let p = known_fixed s s' j e in
-              ( ap all_known p ∙ e
-              , subst (λ z. Placewise order (selected_of a b s width) (selected_of a' b' z width))
-                    (sym p) (selected_kept a a' b b' s width h i) ))
-          (selected_length a' b' s' width)
+      (λ e. let p = known_fixed s s' j e in (
+        ap all_known p ∙ e,
+        subst (λ z. Placewise order (selected_of a b s width) (selected_of a' b' z width))
+            (sym p) (selected_kept a a' b b' s width h i),
+      ))
+      (selected_length a' b' s' width)
 
   seen_kept : (a a' : List Bit) → Placewise order a a' → Placewise order (map seen_of a) (map seen_of a')
   seen_kept [] [] h = tt

@@ -1,8 +1,8 @@
 -- Operands of arithmetic.
-use Rattle.std.proofs.Common.{◌≡◌, refl, sym, ◌∙◌, ap, subst, ℕ, zero, suc, ◌+◌, ◌<◌, ◌≤◌, Bool, true, false, List, [], ◌∷◌, length, arith, ◌⊎◌, inl, inr}
+use Rattle.std.proofs.Common.{◌≡◌, refl, ◌≤◌, Bool, true, false, List, [], ◌∷◌, length, arith}
 use Rattle.std.proofs.lemmas.Bool.{false_from_ne_true}
 use Rattle.rtl_bits.specs.declared.bit.Bit.{Bit}
-use Rattle.rtl_bits.specs.Knowledge.{AreKnown, all_known}
+use Rattle.rtl_bits.specs.Knowledge.{all_known}
 use Rattle.rtl_bits.specs.Numbers.{HasNumber}
 use Rattle.cell_word.specs.Sizes.{IsRead}
 use Rattle.rtl_bits.proofs.Lists.{all_known_true, true_all_known}

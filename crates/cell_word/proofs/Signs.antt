@@ -1,5 +1,5 @@
 -- Sums, products and quotients by sign and size.
-use Rattle.std.proofs.Common.{◌≡◌, refl, sym, ◌∙◌, ap, subst, ℕ, zero, suc, ◌+◌, ◌-◌, ◌*◌, ◌/◌, ◌%◌, ◌^◌, ◌<◌, ◌≤◌, Bool, true, false, not, arith, ℤ, pos, negsuc, neg_ℤ, ◌+ℤ◌, ◌-ℤ◌, ◌*ℤ◌, List, length}
+use Rattle.std.proofs.Common.{◌≡◌, refl, sym, ◌∙◌, ap, subst, ℕ, zero, suc, ◌+◌, ◌-◌, ◌*◌, ◌/◌, ◌%◌, ◌^◌, ◌<◌, ◌≤◌, Bool, true, false, not, arith, ℤ, pos, neg_ℤ, ◌+ℤ◌, ◌-ℤ◌, ◌*ℤ◌}
 use mathlib.Core.Bool.{beq}
 use Rattle.std.proofs.lemmas.Int.{ints}
 use Rattle.std.proofs.lemmas.Nat.{div-add-mod', mod_below}
@@ -7,9 +7,8 @@ use Rattle.std.proofs.lemmas.Bool.Decides.{nat_tests}
 use Rattle.std.proofs.Math.Nat.{le-mul_of_pos_right, zero-div, zero-mod}
 use Rattle.std.specs.Prelude.{int_lt, int_div, int_rem, nat_lt, unsigned_abs, ◌==◌, ◌&&◌, if◌then◌else◌}
 use Rattle.cell_word.specs.Arithmetic.{same_sign, rounds_up, floor_div, floor_rem}
-use Rattle.rtl_bits.specs.declared.bit.Bit.{Bit}
-use Rattle.rtl_bits.specs.Numbers.{number_of, bits_of}
-use Rattle.cell_word.specs.Integers.{integer_bits, integer_in}
+use Rattle.rtl_bits.specs.Numbers.{bits_of}
+use Rattle.cell_word.specs.Integers.{integer_bits}
 use Rattle.cell_word.specs.declared.integer.Integer.{Integer}
 use Rattle.cell_word.specs.Sizes.{signed_of, integer_value, IsProper, StandsFor}
 use Rattle.cell_word.proofs.Residues.{bits_of_wrapped, bits_of_negative}

@@ -3,7 +3,6 @@ use Rattle.std.specs.Prelude.{ℕ, ◌==◌, Bool, not, ◌&&◌, if◌then◌el
 use Rattle.rtl_bits.specs.declared.bit.Bit.{Bit}
 use Rattle.rtl_bits.specs.declared.bit.Bit.TheVariants.{S0, S1, X}
 use Rattle.rtl_bits.specs.Knowledge.{all_known}
-use Rattle.rtl_bits.specs.Numbers.{number_of}
 use Rattle.cell_types.specs.declared.word.ArithKind.{ArithKind}
 use Rattle.cell_types.specs.declared.word.ArithKind.TheVariants.{Add, Sub, Mul}
 use Rattle.cell_types.specs.declared.word.DivisionKind.{DivisionKind}

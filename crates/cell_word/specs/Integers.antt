@@ -1,5 +1,5 @@
 -- Words as integers, and integers as words.
-use Rattle.std.specs.Prelude.{ℕ, suc, Bool, if◌then◌else◌, ℤ, pos, negsuc, List, map}
+use Rattle.std.specs.Prelude.{ℕ, Bool, if◌then◌else◌, ℤ, pos, negsuc, List, map}
 use Rattle.rtl_bits.specs.declared.bit.Bit.{Bit}
 use Rattle.rtl_bits.specs.Tables.{not_of}
 use Rattle.rtl_bits.specs.Numbers.{number_of, integer_of, bits_of}

@@ -1,5 +1,5 @@
 -- The cells that move a word by a number of places.
-use Rattle.std.specs.Prelude.{ℕ, Bool, true, false, if◌then◌else◌, nat_lt, max, ℤ, pos, negsuc, ◌+ℤ◌, neg_ℤ, List, length, slice_index_or}
+use Rattle.std.specs.Prelude.{ℕ, Bool, if◌then◌else◌, nat_lt, max, ℤ, pos, negsuc, ◌+ℤ◌, neg_ℤ, List, length, slice_index_or}
 use Rattle.rtl_bits.specs.declared.bit.Bit.{Bit}
 use Rattle.rtl_bits.specs.declared.bit.Bit.TheVariants.{S0, X}
 use Rattle.rtl_bits.specs.Knowledge.{all_known}

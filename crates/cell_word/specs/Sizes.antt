@@ -1,5 +1,5 @@
 -- Integers by sign and size.
-use Rattle.std.specs.Prelude.{◌≡◌, ◌%◌, ◌^◌, ◌<◌, ℕ, Bool, true, false, if◌then◌else◌, ℤ, pos, neg_ℤ, List}
+use Rattle.std.specs.Prelude.{◌≡◌, ◌%◌, ◌^◌, ◌<◌, ℕ, Bool, true, if◌then◌else◌, ℤ, pos, neg_ℤ, List}
 use Rattle.rtl_bits.specs.declared.bit.Bit.{Bit}
 use Rattle.rtl_bits.specs.Knowledge.{all_known}
 use Rattle.cell_word.specs.Integers.{integer_in}

@@ -1,6 +1,5 @@
-use Rattle.std.proofs.Common.{◌≡◌, ◌∙◌, sym, ap, refl, ◌+◌, ◌*◌, ◌+ℤ◌, ◌-◌, arith}
-use Rattle.cell_word.specs.Sizes.{signed_of}
-use Rattle.cell_word.proofs.Signs.{sum_of_one_sign, sum_of_less, sum_of_more, product_of, stands}
+use Rattle.std.proofs.Common.{refl, ◌*◌}
+use Rattle.cell_word.proofs.Signs.{product_of}
 use Rattle.cell_word.proofs.arithmetic.product.Goals as goal
 
 pub returns : goal.returns

@@ -1,5 +1,5 @@
 use Rattle.std.proofs.Common.{◌≡◌}
-use Rattle.rtl_bits.specs.Tables.{seen_of, not_of, xor_of, and_of, mux_of}
+use Rattle.rtl_bits.specs.Tables.{not_of}
 use Rattle.cell_word.specs.Words.{word_of, extended_at}
 use Rattle.cell_word.proofs.bitwise.inverse.Given as goal
 

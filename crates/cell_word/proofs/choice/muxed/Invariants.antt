@@ -1,7 +1,7 @@
 use Rattle.std.proofs.Common.{◌≡◌, slice_index_or}
-use Rattle.rtl_bits.specs.Tables.{seen_of, not_of, xor_of, and_of, mux_of}
+use Rattle.rtl_bits.specs.Tables.{mux_of}
 use Rattle.rtl_bits.specs.declared.bit.Bit.TheVariants.{X}
-use Rattle.cell_word.specs.Words.{word_of, extended_at}
+use Rattle.cell_word.specs.Words.{word_of}
 use Rattle.cell_word.proofs.choice.muxed.Given as goal
 
 -- the word so far

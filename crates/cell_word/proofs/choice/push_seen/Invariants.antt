@@ -1,5 +1,5 @@
 use Rattle.std.proofs.Common.{◌≡◌, ◌++◌, map, take}
-use Rattle.rtl_bits.specs.Tables.{seen_of, not_of, xor_of, and_of, mux_of}
+use Rattle.rtl_bits.specs.Tables.{seen_of}
 use Rattle.cell_word.proofs.choice.push_seen.Given as goal
 
 -- the bits so far

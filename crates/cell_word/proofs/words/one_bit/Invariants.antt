@@ -1,4 +1,4 @@
-use Rattle.std.proofs.Common.{◌≡◌, ◌∷◌, ◌-◌, replicate}
+use Rattle.std.proofs.Common.{◌≡◌, ◌∷◌, replicate}
 use Rattle.rtl_bits.specs.declared.bit.Bit.TheVariants.{S0}
 use Rattle.cell_word.proofs.words.one_bit.Given as goal
 
