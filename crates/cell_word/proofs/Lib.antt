@@ -5,3 +5,4 @@ pub mod Operands
 pub mod Distances
 pub mod Monotone
 pub mod Limits
+pub mod Floor

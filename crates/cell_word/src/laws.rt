@@ -1,7 +1,8 @@
 //! Laws of the values of word cells.
 
-ghost use Rattle.std.specs.Prelude.{◌≡◌, ◌≤◌, List, Ok, length};
+ghost use Rattle.std.specs.Prelude.{◌≡◌, ◌≤◌, ℤ, ◌+ℤ◌, ◌*ℤ◌, int_div, int_rem, List, Ok, length};
 ghost use Rattle.rtl_bits.specs.Knowledge.{Below, FlatBelow, AreBelow, AreFlatBelow};
+ghost use Rattle.cell_word.specs.Arithmetic.{floor_div, floor_rem};
 ghost use Rattle.cell_word.specs.Values.{HasInputs, InputsBelow, input_count, input_of, word_value_of};
 ghost use Rattle.cell_types.specs.Shape.{shape_of};
 
@@ -26,4 +27,12 @@ pub fn shapes_are_within()
         shape_of (CellKind.Word kind) params pins ≡ Ok shape → input_count kind ≤ length inputs →
         length (input_of inputs 0) ≤ shape.widths.a → length (input_of inputs 1) ≤ shape.widths.b →
         length (input_of inputs 2) ≤ shape.widths.s → HasInputs shape.kind shape inputs }
+{}
+
+/// A quotient times the divisor, and its remainder, are together the dividend, both for quotients
+/// rounded toward zero and for those rounded down.
+#[tactic(auto, using(crate::proofs::Floor::trunc_whole, crate::proofs::Floor::floor_whole))]
+pub fn quotients_and_remainders()
+    ensures truncated { (a b : ℤ) → int_div a b *ℤ b +ℤ int_rem a b ≡ a }
+    ensures floored { (a b : ℤ) → floor_div a b *ℤ b +ℤ floor_rem a b ≡ a }
 {}
