@@ -23,4 +23,4 @@ count_small _ = omega arith
 pub padded_within : (kind : CellKind) (word : WordKind) (params : List Param) (pins : List PinWidth) (shape : Shape) (inputs : List (List Bit)) → kind ≡ Cell.Word word → shape_of kind params pins ≡ Ok shape → 3 ≤ length inputs → length (input_of inputs 0) ≤ shape.widths.a → length (input_of inputs 1) ≤ shape.widths.b → length (input_of inputs 2) ≤ shape.widths.s → HasInputs shape.kind shape inputs
 padded_within kind word params pins shape inputs k e n a b s =
     shaped_within word params pins shape inputs (ap (λ z. shape_of z params pins) (sym k) ∙ e)
-        (let c = count_small word in omega arith) a b s
+    (let c = count_small word in omega arith) a b s

@@ -33,7 +33,12 @@ fn storage_gates(rt: HostRuntime) -> Result<(), Fail> {
     for row in STORAGE_GATES.split(|byte| *byte == b'\n') {
         let mut fields = row.split(|byte| *byte == b'|');
         let cell = cell_of(alloc, fields.next().ok_or("a cell")?, Change::Nothing)?;
-        let shape = shape_of(alloc, cell.kind, cell.params.as_slice(), cell.pins.as_slice())?;
+        let shape = shape_of(
+            alloc,
+            cell.kind,
+            cell.params.as_slice(),
+            cell.pins.as_slice(),
+        )?;
         let letters = fields.next().ok_or("pins")?;
         let start = fields.next().ok_or("a start value")?;
         let steps = fields.next().ok_or("steps")?;

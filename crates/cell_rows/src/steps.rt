@@ -44,7 +44,12 @@ pub fn with_pin(pins: Pins, letter: u8, bit: Bit) -> Pins {
     match letter {
         b'c' => Pins { clk: bit, ..pins },
         b'e' => Pins { en: bit, ..pins },
-        b'r' => Pins { arst: bit, srst: bit, clr: bit, ..pins },
+        b'r' => Pins {
+            arst: bit,
+            srst: bit,
+            clr: bit,
+            ..pins
+        },
         b'l' => Pins { aload: bit, ..pins },
         b'a' => Pins { ad: bit, ..pins },
         b's' => Pins { set: bit, ..pins },
@@ -76,14 +81,22 @@ fn storage_cells(rt: HostRuntime) -> Result<(), Fail> {
     for row in STORAGE_CELLS.split(|byte| *byte == b'\n') {
         let mut fields = row.split(|byte| *byte == b'|');
         let cell = cell_of(alloc, fields.next().ok_or("a cell")?, Change::Nothing)?;
-        let shape = shape_of(alloc, cell.kind, cell.params.as_slice(), cell.pins.as_slice())?;
+        let shape = shape_of(
+            alloc,
+            cell.kind,
+            cell.params.as_slice(),
+            cell.pins.as_slice(),
+        )?;
         let letters = fields.next().ok_or("pins")?;
         let start = fields.next().ok_or("a start value")?;
         let steps = fields.next().ok_or("steps")?;
         let trace = fields.next().ok_or("a trace")?;
         for at in 0..shape.width {
             let place = at as usize;
-            let mut before = Pins { q: bit_at(start, place), ..UNKNOWN };
+            let mut before = Pins {
+                q: bit_at(start, place),
+                ..UNKNOWN
+            };
             let mut first = true;
             let words = steps.split(|byte| *byte == b',');
             for (step, wanted) in words.zip(trace.split(|byte| *byte == b',')) {

@@ -33,7 +33,12 @@ fn inputs_of(alloc: Global, step: &[u8]) -> Result<Vec<Bits>, Fail> {
 #[tactic(auto, using(crate::proofs::Inputs::padded_within))]
 fn value_of(alloc: Global, line: &[u8], step: &[u8]) -> Result<Bits, Fail> {
     let cell = cell_of(alloc, line, Change::Nothing)?;
-    let shape = shape_of(alloc, cell.kind, cell.params.as_slice(), cell.pins.as_slice())?;
+    let shape = shape_of(
+        alloc,
+        cell.kind,
+        cell.params.as_slice(),
+        cell.pins.as_slice(),
+    )?;
     let inputs = inputs_of(alloc, step)?;
     let CellKind::Word(_) = cell.kind else {
         return Err("a word cell")?;
@@ -61,7 +66,11 @@ fn word_cells(rt: HostRuntime) -> Result<(), Fail> {
             let words = values.split(|byte| *byte == b',');
             for (step, wanted) in steps.split(|byte| *byte == b',').zip(words) {
                 let value = value_of(alloc, line, step)?;
-                assert_eq!(rt; value.as_slice(), word_of(alloc, wanted)?.as_slice(), "{line:?}");
+                assert_eq!(rt;
+                    value.as_slice(),
+                    word_of(alloc, wanted)?.as_slice(),
+                    "{line:?}"
+                );
                 checked = checked.wrapping_add(1);
             }
         }
