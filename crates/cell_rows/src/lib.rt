@@ -6,6 +6,12 @@ mod cell;
 #[cfg(test)]
 mod fields;
 #[cfg(test)]
+mod gates;
+#[cfg(test)]
 mod names;
 #[cfg(test)]
 mod shapes;
+#[cfg(test)]
+mod steps;
+#[cfg(test)]
+mod words;
