@@ -1,3 +1,4 @@
 pub mod Tree
 pub mod TreeCode
 pub mod Empty
+pub mod Ports

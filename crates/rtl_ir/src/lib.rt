@@ -8,6 +8,7 @@ mod plan;
 mod ports;
 mod process;
 mod store;
+mod table;
 mod value;
 mod wire;
 
@@ -18,5 +19,6 @@ pub use plan::{MemPlan, ReadPort, WritePort};
 pub use ports::{ModulePorts, PortLine, PortTable};
 pub use process::{Case, Event, Process, Switch, SyncRule, WriteLine};
 pub use store::Store;
+pub use table::port_table;
 pub use value::{Attribute, Value};
 pub use wire::{Role, Wire};

@@ -1,6 +1,7 @@
 -- Tests of the texts that keys hold, and where a name stands.
-use Rattle.std.proofs.Common.{◌≡◌, ℕ, ◌+◌, Bool, true, false, not, cond, ◌||◌, List, [], ◌∷◌, ◌++◌, Some, None, Vec, Global, map, length, position, nat_lt, slice_get, refl, sym, ◌∙◌, ap, arith, true≢false}
+use Rattle.std.proofs.Common.{◌≡◌, ℕ, ◌+◌, Bool, true, false, not, cond, ◌||◌, List, [], ◌∷◌, ◌++◌, Some, None, Vec, Global, map, length, position, nat_lt, slice_get, refl, sym, ◌∙◌, ap, subst, arith, true≢false}
 use Rattle.std.proofs.lemmas.List.{length-map, map-append, append-nil, append_assoc}
+use Rattle.std.proofs.lemmas.List.Folds.{list_any-append}
 use borrow.Author.Tests.{ltb-true}
 use Rattle.indexmap.specs.IndexSet.{insert_key}
 use Rattle.std.proofs.lemmas.Grind.{common_steps}
@@ -8,6 +9,10 @@ use Rattle.std.proofs.lemmas.Slice.Eq.{bytes_eq-Decides}
 use Rattle.std.specs.List.{list_any, position_or_len, IsDistinct, AllByRecursion}
 use Rattle.std.specs.Str.{bytes_eq}
 use Rattle.rtl_sig.specs.Names.{number_of, next_number_of, with_name}
+
+or-false : (b : Bool) → (b || false) ≡ b
+or-false true = refl
+or-false false = refl
 
 module _ {A B : Type 0} (g : A → B) where
   pub position_or_len-map : (f : B → Bool) (xs : List A) → position_or_len (λ x. f (g x)) xs ≡ position_or_len f (map g xs)
@@ -77,6 +82,18 @@ IsKnownAt-number_of names name index h = by (list_any (bytes_eq name) names) ref
         let k : Some index ≡ Some (next_number_of names name) = rw f at h in
         let n : index ≡ next_number_of names name = cc in
         record { number = n; stays = rw e refl; text = rw n (slice_get-known name names e) }
+
+-- a name is known once another one is seen where it was known before or is that one
+pub list_any-with_name : (name : List ℕ) (names : List (List ℕ)) (new : List ℕ) → list_any (bytes_eq name) (with_name names new) ≡ (list_any (bytes_eq name) names || bytes_eq name new)
+list_any-with_name name names new = by (list_any (bytes_eq new) names) refl (bytes_eq name new) refl
+  where
+    by : (b : Bool) → list_any (bytes_eq new) names ≡ b → (t : Bool) → bytes_eq name new ≡ t → list_any (bytes_eq name) (with_name names new) ≡ (list_any (bytes_eq name) names || bytes_eq name new)
+    by false e t f = rw e (list_any-append (bytes_eq name) names (new ∷ []) ∙ ap (λ b. list_any (bytes_eq name) names || b) (or-false (bytes_eq name new)))
+    by true e false f = rw (e, f) (sym (or-false (list_any (bytes_eq name) names)))
+    by true e true f =
+        let same : name ≡ new = (bytes_eq-Decides name new).0 f in
+        let known : list_any (bytes_eq name) names ≡ true = subst (λ n. list_any (bytes_eq n) names ≡ true) (sym same) e in
+        rw (e, known) refl
 
 -- the text that a key holds
 abbrev pub text_of : Vec ℕ Global → List ℕ

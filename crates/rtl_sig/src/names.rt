@@ -1,8 +1,8 @@
 //! Names and their numbers.
 
-ghost use Rattle.std.specs.Prelude.{◌≡◌, ◌<◌, [], Some, IfOk, IfSome, OnErr, OnOk, length, slice_get};
+ghost use Rattle.std.specs.Prelude.{◌≡◌, ◌<◌, [], Some, IfOk, IfSome, OnErr, OnOk, is_some, length, slice_get};
 ghost use Rattle.std.specs.Option.{option_map};
-ghost use Rattle.rtl_sig.specs.Names.{number_of, next_number_of, with_name, AreDistinct};
+ghost use Rattle.rtl_sig.specs.Names.{has_name, number_of, next_number_of, with_name, AreDistinct};
 
 use indexmap::IndexSet;
 use rtl_bits::{Copied, Memory};
@@ -65,6 +65,7 @@ impl Names {
 
     /// The number of the name, or `None` where it was not seen. It takes no memory.
     pub fn find(&self, name: &[u8]) -> Option<NameId>
+        ensures found { is_some result ≡ has_name self.now name.now }
         ensures number { option_map (λ id. id.index) result ≡ number_of self.now name.now }
         ensures text { IfSome result (λ id. slice_get self.now id.index ≡ Some name.now) }
     {

@@ -1,10 +1,18 @@
 use Rattle.std.proofs.Common.{◌∙◌}
-use Rattle.rtl_sig.proofs.NamesLemmas.{text_of, number_of-map, IsKnownAt-number_of}
+use Rattle.std.specs.Str.{bytes_eq}
+use Rattle.rtl_sig.proofs.NamesLemmas.{list_any-map, text_of, number_of-map, IsKnownAt-number_of}
 use Rattle.rtl_sig.proofs.names.Names.find.Goals as goal
 
 pub returns-in_err-index-clause-number : goal.returns-in_err-index-clause-number
 returns-in_err-index-clause-number c =
     rw (c.from_residual.ensures, ← c.self.view_is) (c.in_err-index.ensures.index ∙ number_of-map text_of c.self.inside.seen.keys c.args.name.now)
+
+pub returns-in_err-index-clause-found : goal.returns-in_err-index-clause-found
+returns-in_err-index-clause-found c =
+    rw (c.from_residual.ensures, ← c.self.view_is) (c.in_err-index.ensures.found ∙ list_any-map text_of (bytes_eq c.args.name.now) c.self.inside.seen.keys)
+
+pub returns-clause-found : goal.returns-clause-found
+returns-clause-found c = rw (← c.self.view_is) (c.in_ok-index.ensures.found ∙ list_any-map text_of (bytes_eq c.args.name.now) c.self.inside.seen.keys)
 
 pub returns-clause-number : goal.returns-clause-number
 returns-clause-number c = rw (← c.self.view_is) (c.in_ok-index.ensures.index ∙ number_of-map text_of c.self.inside.seen.keys c.args.name.now)
