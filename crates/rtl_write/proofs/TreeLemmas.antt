@@ -41,8 +41,8 @@ pub switch_goes : (done all : List ℕ) (wires : List Wire) (blanks : List ℕ) 
 switch_goes done all wires blanks items k s lt is before =
     let front : drop k items ≡ s ∷ drop (k + 1) items = rw add-one (drop-cons items k s lt ∙ ap (λ (x : SwitchView). x ∷ drop (suc k) items) (sym is)) in
     append_assoc done (one_switch wires blanks s) (switches_text wires blanks (switches_of (drop (k + 1) items)))
-      ∙ ap (λ (text : List ℕ). done ++ text) (sym (ap (λ (rest : List SwitchView). switches_text wires blanks (switches_of rest)) front ∙ switches_first wires blanks s (drop (k + 1) items)))
-      ∙ before
+    ∙ ap (λ (text : List ℕ). done ++ text) (sym (ap (λ (rest : List SwitchView). switches_text wires blanks (switches_of rest)) front ∙ switches_first wires blanks s (drop (k + 1) items)))
+    ∙ before
 
 -- no switch is left
 pub switches_end : (done all : List ℕ) (wires : List Wire) (blanks : List ℕ) (items : List SwitchView) (k : ℕ) → length items ≤ k
@@ -60,11 +60,11 @@ case_goes done all wires blanks outer inner items k c lt is same deep before =
     let body = λ (b : List ℕ). flat_map (assign_text wires b) c.assigns ++ switches_text wires b c.switches in
     let head = λ (b : List ℕ). case_head wires b c.patterns c.attributes in
     ap (λ (b : List ℕ). ((done ++ head b) ++ body inner) ++ rest) same
-      ∙ ap (λ (b : List ℕ). ((done ++ head blanks) ++ body b) ++ rest) deep
-      ∙ ap (λ (text : List ℕ). text ++ rest) (append_assoc done (head blanks) (body (deeper blanks)) ∙ ap (λ (text : List ℕ). done ++ text) (sym (append_assoc (head blanks) (flat_map (assign_text wires (deeper blanks)) c.assigns) (switches_text wires (deeper blanks) c.switches))))
-      ∙ append_assoc done (one_case wires blanks c) rest
-      ∙ ap (λ (text : List ℕ). done ++ text) (sym (ap (λ (some : List CaseView). cases_text wires blanks (cases_of some)) front ∙ cases_first wires blanks c (drop (k + 1) items)))
-      ∙ before
+    ∙ ap (λ (b : List ℕ). ((done ++ head blanks) ++ body b) ++ rest) deep
+    ∙ ap (λ (text : List ℕ). text ++ rest) (append_assoc done (head blanks) (body (deeper blanks)) ∙ ap (λ (text : List ℕ). done ++ text) (sym (append_assoc (head blanks) (flat_map (assign_text wires (deeper blanks)) c.assigns) (switches_text wires (deeper blanks) c.switches))))
+    ∙ append_assoc done (one_case wires blanks c) rest
+    ∙ ap (λ (text : List ℕ). done ++ text) (sym (ap (λ (some : List CaseView). cases_text wires blanks (cases_of some)) front ∙ cases_first wires blanks c (drop (k + 1) items)))
+    ∙ before
 
 -- no case is left
 pub cases_end : (done all : List ℕ) (wires : List Wire) (blanks : List ℕ) (items : List CaseView) (k : ℕ) → length items ≤ k
@@ -79,10 +79,10 @@ pub body_is : (out after start : List ℕ) (wires : List Wire) (blanks : List �
     → out ≡ start ++ (flat_map (assign_text wires blanks) c.assigns ++ switches_text wires blanks c.switches)
 body_is out after start wires blanks items raw slice assigns patterns attributes c written before same copied view =
     written ∙ ap (λ (l : List ℕ). l ++ switches_text wires blanks (switches_of items)) before
-      ∙ append_assoc start (flat_map (assign_text wires blanks) slice) (switches_text wires blanks (switches_of items))
-      ∙ ap (λ (l : List Link). start ++ (flat_map (assign_text wires blanks) l ++ switches_text wires blanks (switches_of items))) copied
-      ∙ ap (λ (l : List SwitchView). start ++ (flat_map (assign_text wires blanks) assigns ++ switches_text wires blanks (switches_of l))) same
-      ∙ ap (λ (v : CaseView). start ++ (flat_map (assign_text wires blanks) v.assigns ++ switches_text wires blanks v.switches)) view
+    ∙ append_assoc start (flat_map (assign_text wires blanks) slice) (switches_text wires blanks (switches_of items))
+    ∙ ap (λ (l : List Link). start ++ (flat_map (assign_text wires blanks) l ++ switches_text wires blanks (switches_of items))) copied
+    ∙ ap (λ (l : List SwitchView). start ++ (flat_map (assign_text wires blanks) assigns ++ switches_text wires blanks (switches_of l))) same
+    ∙ ap (λ (v : CaseView). start ++ (flat_map (assign_text wires blanks) v.assigns ++ switches_text wires blanks v.switches)) view
 
 -- a switch is written
 pub switch_is : (out before_end looped after start : List ℕ) (wires : List Wire) (blanks inner : List ℕ) (items raw : List CaseView) (signal : List SigBit) (slice attributes : List Attribute) (s : SwitchView)
@@ -98,5 +98,5 @@ switch_is out before_end looped after start wires blanks inner items raw signal 
     let began : after ≡ start ++ head = before ∙ ap (λ (l : List Attribute). start ++ switch_head wires blanks signal l) copied in
     let middle : cases_text wires inner (cases_of items) ≡ cases = ap (λ (b : List ℕ). cases_text wires b (cases_of items)) deep ∙ ap (λ (l : List CaseView). cases_text wires (deeper blanks) (cases_of l)) same in
     ended ∙ ap (λ (l : List ℕ). l ++ end) (closed ∙ ap (λ (l : List ℕ). l ++ blanks) (written ∙ ap (λ (l : List ℕ). after ++ l) middle ∙ ap (λ (l : List ℕ). l ++ cases) began))
-      ∙ (simp append_assoc)
-      ∙ ap (λ (v : SwitchView). start ++ text v) view
+    ∙ (simp append_assoc)
+    ∙ ap (λ (v : SwitchView). start ++ text v) view

@@ -169,8 +169,8 @@ sync_text wires s = codes "    sync " ++ event_text wires s.event ++ codes "\n" 
 -- a process: its root's assigns and switches, and its rules
 unfoldable pub process_text : List Wire → Process → List ℕ
 process_text wires p = attributes_text (codes "  ") p.attributes ++ codes "  process " ++ p.name ++ codes "\n"
-  ++ flat_map (assign_text wires (indent 2)) p.root.assigns ++ switches_text wires (indent 2) p.root.switches
-  ++ flat_map (sync_text wires) p.syncs ++ codes "  end\n"
+    ++ flat_map (assign_text wires (indent 2)) p.root.assigns ++ switches_text wires (indent 2) p.root.switches
+    ++ flat_map (sync_text wires) p.syncs ++ codes "  end\n"
 
 -- a connection: the right drives the left
 unfoldable pub link_text : List Wire → Link → List ℕ

@@ -4,7 +4,6 @@
 mod constant;
 mod process;
 mod run;
-
 mod signal;
 mod statement;
 mod tree;

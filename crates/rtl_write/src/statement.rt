@@ -33,11 +33,7 @@ fn put_attribute(out: &mut Text, blanks: &[u8], attribute: &Attribute) -> Result
 }
 
 /// Writes the attributes of an item behind its blanks.
-pub fn put_attributes(
-    out: &mut Text,
-    blanks: &[u8],
-    attributes: &[Attribute],
-) -> Result<(), Memory>
+pub fn put_attributes(out: &mut Text, blanks: &[u8], attributes: &[Attribute]) -> Result<(), Memory>
     ensures ok { OnOk result (out.new ≡ out.old ++ attributes_text blanks.now attributes.now) }
 {
     for attribute in attributes {

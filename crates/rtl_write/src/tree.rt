@@ -59,12 +59,7 @@ fn put_patterns(out: &mut Text, wires: &[Wire], patterns: &[SigSpec]) -> Result<
 }
 
 #[tactic(auto, unfolding(crate::specs::Text::case_head))]
-fn put_case_head(
-    out: &mut Text,
-    wires: &[Wire],
-    blanks: &[u8],
-    case: &Case,
-) -> Result<(), Memory>
+fn put_case_head(out: &mut Text, wires: &[Wire], blanks: &[u8], case: &Case) -> Result<(), Memory>
     ensures ok { OnOk result (out.new ≡ out.old ++ case_head wires.now blanks.now case.now.patterns case.now.attributes) }
 {
     put_attributes(out, blanks, case.attributes.as_slice())?;
@@ -119,16 +114,17 @@ pub fn put_case_body(
 
 /// Writes a switch with its cases.
 #[cycle(tree)]
-fn put_switch(
-    out: &mut Text,
-    wires: &[Wire],
-    blanks: &[u8],
-    switch: &Switch,
-) -> Result<(), Memory>
+fn put_switch(out: &mut Text, wires: &[Wire], blanks: &[u8], switch: &Switch) -> Result<(), Memory>
     ensures ok { OnOk result (out.new ≡ out.old ++ (switch_head wires.now blanks.now switch.now.signal switch.now.attributes ++ cases_text wires.now (deeper blanks.now) switch.now.cases ++ blanks.now ++ codes "end\n")) }
 {
     let alloc = out.allocator();
-    put_switch_head(out, wires, blanks, &switch.signal, switch.attributes.as_slice())?;
+    put_switch_head(
+        out,
+        wires,
+        blanks,
+        &switch.signal,
+        switch.attributes.as_slice(),
+    )?;
     let inner = deeper(alloc, blanks)?;
     let innermost = deeper(alloc, inner.as_slice())?;
     for case in &switch.cases {
