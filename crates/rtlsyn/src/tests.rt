@@ -105,103 +105,121 @@ fn gate_text(alloc: Global, name: &str, a: &str, b: &str, y: &str) -> Result<Str
     )
 }
 
-/// A module of these wires and cells.
-fn module_text(alloc: Global, parts: &[&str]) -> Result<String, AllocError> {
+/// A module of these wires, and these cells or gates.
+fn module_text(alloc: Global, wires: &str, cells: &[String]) -> Result<String, AllocError> {
     let mut text = String::from_str(alloc, "module \\m\n")?;
-    for part in parts {
-        text.push_str(part)?;
+    text.push_str(wires)?;
+    for cell in cells {
+        text.push_str(cell.as_str())?;
     }
     text.push_str("end\n")?;
     Ok(text)
 }
 
+/// The text of the example: two wires, an `$and` of them into the wire `y`.
+fn example_text(alloc: Global, y: &str) -> Result<String, AllocError> {
+    let cell = and_text(alloc, "$1", (2, "\\a"), (2, "\\b"), (2, y))?;
+    module_text(alloc, EXAMPLE_WIRES, vec![in alloc; cell]?.as_slice())
+}
+
+const EXAMPLE_WIRES: &str =
+    "  wire width 2 input 1 \\a\n  wire width 2 input 2 \\b\n  wire width 2 output 3 \\y\n";
+
+/// The netlist of the example.
+fn example_netlist(alloc: Global) -> Result<String, AllocError> {
+    let low = gate_text(alloc, "$syn$1", "\\a [0]", "\\b [0]", "\\y [0]")?;
+    let high = gate_text(alloc, "$syn$2", "\\a [1]", "\\b [1]", "\\y [1]")?;
+    module_text(alloc, EXAMPLE_WIRES, vec![in alloc; low, high]?.as_slice())
+}
+
 #[test]
 fn worked_texts(rt: HostRuntime) -> Result<(), Fail> {
     let alloc = rt.alloc();
-    let wires =
-        "  wire width 2 input 1 \\a\n  wire width 2 input 2 \\b\n  wire width 2 output 3 \\y\n";
-    let cell = and_text(alloc, "$1", (2, "\\a"), (2, "\\b"), (2, "\\y"))?;
-    let unknown = and_text(alloc, "$1", (2, "\\a"), (2, "\\b"), (2, "\\z"))?;
-    let low = gate_text(alloc, "$syn$1", "\\a [0]", "\\b [0]", "\\y [0]")?;
-    let high = gate_text(alloc, "$syn$2", "\\a [1]", "\\b [1]", "\\y [1]")?;
-    let example = module_text(alloc, &[wires, cell.as_str()])?;
-    let gates = module_text(alloc, &[wires, low.as_str(), high.as_str()])?;
-    let undeclared = module_text(alloc, &[wires, unknown.as_str()])?;
+    let example = example_text(alloc, "\\y")?;
+    let netlist = example_netlist(alloc)?;
+    let undeclared = example_text(alloc, "\\z")?;
+    answers(
+        &rt,
+        alloc,
+        "two bits",
+        example.as_bytes(),
+        netlist.as_bytes(),
+        Status::Done,
+    )?;
+    answers(&rt, alloc, "no text", b"", b"", Status::Done)?;
+    let empty = b"module \\e\nend\n";
+    answers(&rt, alloc, "no wire", empty, empty, Status::Done)?;
     let refused = b"error 2 1:1\n";
-    for (row, input, output, status) in [
-        (
-            "two bits",
-            example.as_bytes(),
-            gates.as_bytes(),
-            Status::Done,
-        ),
-        ("no text", b"", b"", Status::Done),
-        (
-            "no wire",
-            b"module \\e\nend\n",
-            b"module \\e\nend\n",
-            Status::Done,
-        ),
-        ("no end", b"module \\m\n", refused, Status::Refused),
-        (
-            "an undeclared wire",
-            undeclared.as_bytes(),
-            refused,
-            Status::Refused,
-        ),
-    ] {
-        answers(&rt, alloc, row, input, output, status)?;
-    }
-    Ok(())
+    answers(
+        &rt,
+        alloc,
+        "no end",
+        b"module \\m\n",
+        refused,
+        Status::Refused,
+    )?;
+    answers(
+        &rt,
+        alloc,
+        "undeclared",
+        undeclared.as_bytes(),
+        refused,
+        Status::Refused,
+    )
+}
+
+/// A module with a further wire, whose two cells have operands narrower and wider than the result.
+fn operands_text(alloc: Global, wire: &str) -> Result<String, AllocError> {
+    let narrow = and_text(alloc, "$1", (1, "\\a"), (3, "\\c"), (2, "\\y"))?;
+    let wide = and_text(alloc, "$2", (3, "\\c"), (2, "\\b"), (1, "\\z"))?;
+    let wires = format!(in alloc; "{OPERAND_WIRES}{wire}")?;
+    module_text(
+        alloc,
+        wires.as_str(),
+        vec![in alloc; narrow, wide]?.as_slice(),
+    )
+}
+
+const OPERAND_WIRES: &str =
+    "  wire \\a\n  wire width 2 \\b\n  wire width 3 \\c\n  wire width 2 \\y\n  wire \\z\n";
+
+/// Its netlist, where the gates have these names.
+fn operands_netlist(alloc: Global, wire: &str, names: [&str; 3]) -> Result<String, AllocError> {
+    let [one, two, three] = names;
+    let one = gate_text(alloc, one, "\\a", "\\c [0]", "\\y [0]")?;
+    let two = gate_text(alloc, two, "1'0", "\\c [1]", "\\y [1]")?;
+    let three = gate_text(alloc, three, "\\c [0]", "\\b [0]", "\\z")?;
+    let wires = format!(in alloc; "{OPERAND_WIRES}{wire}")?;
+    module_text(
+        alloc,
+        wires.as_str(),
+        vec![in alloc; one, two, three]?.as_slice(),
+    )
 }
 
 #[test]
 fn operands_and_numbers(rt: HostRuntime) -> Result<(), Fail> {
     let alloc = rt.alloc();
-    let wires =
-        "  wire \\a\n  wire width 2 \\b\n  wire width 3 \\c\n  wire width 2 \\y\n  wire \\z\n";
-    let narrow = and_text(alloc, "$1", (1, "\\a"), (3, "\\c"), (2, "\\y"))?;
-    let wide = and_text(alloc, "$2", (3, "\\c"), (2, "\\b"), (1, "\\z"))?;
-    let first = |n: &str| gate_text(alloc, n, "\\a", "\\c [0]", "\\y [0]");
-    let second = |n: &str| gate_text(alloc, n, "1'0", "\\c [1]", "\\y [1]");
-    let third = |n: &str| gate_text(alloc, n, "\\c [0]", "\\b [0]", "\\z");
+    let plain = ["$syn$1", "$syn$2", "$syn$3"];
+    let ten = ["$syn$1000000000", "$syn$1000000001", "$syn$1000000002"];
     for (row, wire, names) in [
-        ("numbers go on", "", ["$syn$1", "$syn$2", "$syn$3"]),
+        ("numbers go on", "", plain),
         (
             "from a made name",
             "  wire $syn$7\n",
             ["$syn$8", "$syn$9", "$syn$10"],
         ),
-        (
-            "from nine digits",
-            "  wire $syn$999999999\n",
-            ["$syn$1000000000", "$syn$1000000001", "$syn$1000000002"],
-        ),
-        (
-            "ten digits do not count",
-            "  wire $syn$1234567890\n",
-            ["$syn$1", "$syn$2", "$syn$3"],
-        ),
-        (
-            "a leading zero does not count",
-            "  wire $syn$07\n",
-            ["$syn$1", "$syn$2", "$syn$3"],
-        ),
+        ("from nine digits", "  wire $syn$999999999\n", ten),
+        ("ten digits do not count", "  wire $syn$1234567890\n", plain),
+        ("a leading zero does not count", "  wire $syn$07\n", plain),
         (
             "the first of two wires counts",
             "  wire width 2 \\a\n",
-            ["$syn$1", "$syn$2", "$syn$3"],
+            plain,
         ),
     ] {
-        let [one, two, three] = names;
-        let one = first(one)?;
-        let two = second(two)?;
-        let three = third(three)?;
-        let input = module_text(alloc, &[wires, wire, narrow.as_str(), wide.as_str()])?;
-        let output = module_text(
-            alloc,
-            &[wires, wire, one.as_str(), two.as_str(), three.as_str()],
-        )?;
+        let input = operands_text(alloc, wire)?;
+        let output = operands_netlist(alloc, wire, names)?;
         answers(
             &rt,
             alloc,
@@ -214,21 +232,26 @@ fn operands_and_numbers(rt: HostRuntime) -> Result<(), Fail> {
     Ok(())
 }
 
+/// The gates of a cell of 4,096 bits.
+fn widest_gates(alloc: Global) -> Result<Vec<String>, AllocError> {
+    let mut gates = Vec::new(alloc);
+    for at in 0..4096u32 {
+        let number = at.saturating_add(1);
+        gates.push(format!(in alloc;
+            "  cell $_AND_ $syn${number}\n    connect \\A \\a [{at}]\n    connect \\B \\b [{at}]\n    connect \\Y \\y [{at}]\n  end\n"
+        )?)?;
+    }
+    Ok(gates)
+}
+
 #[test]
 fn widest_cell(rt: HostRuntime) -> Result<(), Fail> {
     let alloc = rt.alloc();
     let wires = "  wire width 4096 \\a\n  wire width 4096 \\b\n  wire width 4096 \\y\n";
     let cell = and_text(alloc, "$1", (4096, "\\a"), (4096, "\\b"), (4096, "\\y"))?;
-    let mut gates = String::from_str(alloc, wires)?;
-    for at in 0..4096u32 {
-        let number = at.saturating_add(1);
-        let gate = format!(in alloc;
-            "  cell $_AND_ $syn${number}\n    connect \\A \\a [{at}]\n    connect \\B \\b [{at}]\n    connect \\Y \\y [{at}]\n  end\n"
-        )?;
-        gates.push_str(gate.as_str())?;
-    }
-    let input = module_text(alloc, &[wires, cell.as_str()])?;
-    let output = module_text(alloc, &[gates.as_str()])?;
+    let gates = widest_gates(alloc)?;
+    let input = module_text(alloc, wires, vec![in alloc; cell]?.as_slice())?;
+    let output = module_text(alloc, wires, gates.as_slice())?;
     answers(
         &rt,
         alloc,
