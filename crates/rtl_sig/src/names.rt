@@ -52,6 +52,7 @@ impl Names {
     pub fn intern(&mut self, name: &[u8]) -> Result<NameId, Memory>
         ensures number { IfOk result (λ id. id.index ≡ next_number_of self.old name.now) }
         ensures names { OnOk result (self.new ≡ with_name self.old name.now) }
+        ensures within { IfOk result (λ id. id.index < length self.new) }
         ensures text { IfOk result (λ id. slice_get self.new id.index ≡ Some name.now) }
         ensures err { OnErr result (self.new ≡ self.old) }
     {
@@ -67,6 +68,7 @@ impl Names {
     pub fn find(&self, name: &[u8]) -> Option<NameId>
         ensures found { is_some result ≡ has_name self.now name.now }
         ensures number { option_map (λ id. id.index) result ≡ number_of self.now name.now }
+        ensures within { IfSome result (λ id. id.index < length self.now) }
         ensures text { IfSome result (λ id. slice_get self.now id.index ≡ Some name.now) }
     {
         let index = self.seen.get_index_of(name)?;

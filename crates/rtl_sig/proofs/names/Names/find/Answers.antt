@@ -1,4 +1,5 @@
 use Rattle.std.proofs.Common.{◌∙◌}
+use Rattle.std.proofs.lemmas.Option.{slice_get_within}
 use Rattle.std.specs.Str.{bytes_eq}
 use Rattle.rtl_sig.proofs.NamesLemmas.{list_any-map, text_of, number_of-map, IsKnownAt-number_of}
 use Rattle.rtl_sig.proofs.names.Names.find.Goals as goal
@@ -19,3 +20,6 @@ returns-clause-number c = rw (← c.self.view_is) (c.in_ok-index.ensures.index �
 
 pub returns-clause-text : goal.returns-clause-text
 returns-clause-text c = (IsKnownAt-number_of c.args.self.now c.args.name.now c.in_ok-index.index (returns-clause-number c)).text
+
+pub returns-clause-within : goal.returns-clause-within
+returns-clause-within c = slice_get_within c.args.self.now c.in_ok-index.index c.args.name.now (returns-clause-text c)

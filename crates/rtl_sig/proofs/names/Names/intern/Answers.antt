@@ -1,4 +1,5 @@
 use Rattle.std.proofs.Common.{◌∙◌, ap, map}
+use Rattle.std.proofs.lemmas.Option.{slice_get_within}
 use Rattle.rtl_sig.proofs.NamesLemmas.{text_of, number_of-map, next_number_of-map, with_name-map, slice_get-with_name, IsKnownAt, IsKnownAt-number_of}
 use Rattle.rtl_sig.proofs.names.Names.intern.Goals as goal
 
@@ -24,3 +25,9 @@ returns-clause-names c =
 
 pub returns-clause-text : goal.returns-clause-text
 returns-clause-text c = rw (returns-clause-names c, returns-clause-number c) (slice_get-with_name c.args.self.now c.args.name.now)
+
+pub returns-in-Some-clause-within : goal.returns-in-Some-clause-within
+returns-in-Some-clause-within c = slice_get_within c.args.self.now c.in-Some.index c.args.name.now (returns-in-Some-clause-text c)
+
+pub returns-clause-within : goal.returns-clause-within
+returns-clause-within c = slice_get_within _ c.in_ok-index.index c.args.name.now (returns-clause-text c)
