@@ -99,8 +99,8 @@ next_plain kind v p n = mux_of_plain _ _ _
 pub stored_holds : (store : Store) (before now : Pins) (first : Bool) → IsRegister store.kind → IsQuiet store.kind (acting_of store.levels now) → IsImpossible (active_of store.levels.clk (was_of first before.clk)) (active_of store.levels.clk now.clk) → stored_of store before now first ≡ seen_of before.q
 stored_holds store before now first r q i =
     next_holds store.kind store.value
-        (acting_of store.levels (record before { clk = was_of first before.clk }))
-        (acting_of store.levels now) r q i
+    (acting_of store.levels (record before { clk = was_of first before.clk }))
+    (acting_of store.levels now) r q i
 
 pub stored_plain : (store : Store) (before now : Pins) (first : Bool) → IsPlain (stored_of store before now first)
 stored_plain store before now first = next_plain store.kind store.value _ _

@@ -61,10 +61,10 @@ acting_kept order k levels p p' h = record {
   set = active_kept order k levels.set _ _ h.set;
   clr = active_kept order k levels.clr _ _ h.clr;
   d = h.d;
-  q = h.q }
+  q = h.q;
+}
 
 module _ (order : Bit → Bit → Type 0) (k : Keeps order) (p p' n n' : Pins) (h : PinsBelow order p p') (i : PinsBelow order n n') where
-
   clocked_kept : (a a' : Bit) → order a a' → order (clocked_of p n a) (clocked_of p' n' a')
   clocked_kept a a' j =
       pick_kept order k _ _ _ _ _ _ (k.and _ _ _ _ (k.not _ _ h.clk) i.clk) j h.q
@@ -117,13 +117,14 @@ first_kept order k first p p' h = record {
   set = h.set;
   clr = h.clr;
   d = h.d;
-  q = h.q }
+  q = h.q;
+}
 
 stored_kept : (order : Bit → Bit → Type 0) → Keeps order → (store : Store) (first : Bool) → IsPinMonotone order (λ before now. stored_of store before now first)
 stored_kept order k store first p p' n n' h i =
     next_kept order k _ _ _ _
-        (acting_kept order k store.levels _ _ (first_kept order k first p p' h))
-        (acting_kept order k store.levels n n' i) store.kind store.value
+    (acting_kept order k store.levels _ _ (first_kept order k first p p' h))
+    (acting_kept order k store.levels n n' i) store.kind store.value
 
 pub bit_below : (shape : Shape) (at : ℕ) (first : Bool) → IsPinMonotone Below (λ before now. store_bit_of shape at before now first)
 bit_below shape at first = stored_kept Below below_kept (store_of shape at) first

@@ -22,7 +22,8 @@ acting_of levels pins = record pins {
   srst = active_of levels.srst pins.srst;
   aload = active_of levels.aload pins.aload;
   set = active_of levels.set pins.set;
-  clr = active_of levels.clr pins.clr }
+  clr = active_of levels.clr pins.clr;
+}
 
 -- what a clock makes of new data: the data at a certain edge, the old output at an impossible one,
 -- else what the two have in common
@@ -76,8 +77,8 @@ next_of Sr value before now = set_or_cleared_of now before.q
 abbrev pub stored_of : Store → Pins → Pins → Bool → Bit
 stored_of store before now first =
     next_of store.kind store.value
-        (acting_of store.levels (record before { clk = was_of first before.clk }))
-        (acting_of store.levels now)
+    (acting_of store.levels (record before { clk = was_of first before.clk }))
+    (acting_of store.levels now)
 
 -- the output of a storage cell at a place
 abbrev pub store_bit_of : Shape → ℕ → Pins → Pins → Bool → Bit

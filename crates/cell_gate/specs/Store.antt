@@ -58,4 +58,5 @@ abbrev pub store_of : Shape → ℕ → Store
 store_of shape at = record {
   kind = storage_kind shape.kind;
   levels = shape.levels;
-  value = reset_at (storage_kind shape.kind) shape.resets at }
+  value = reset_at (storage_kind shape.kind) shape.resets at;
+}

@@ -99,10 +99,18 @@ fn next(kind: StorageKind, value: Bit, before: Pins, now: Pins) -> Bit
         StorageKind::Dffe => enabled_register(before, now),
         StorageKind::Sdff => clocked(before, now, pick(before.srst, value, before.d)),
         StorageKind::Sdffe => {
-            clocked(before, now, pick(before.srst, value, enabled(before, before.d)))
+            clocked(
+                before,
+                now,
+                pick(before.srst, value, enabled(before, before.d)),
+            )
         }
         StorageKind::Sdffce => {
-            clocked(before, now, enabled(before, pick(before.srst, value, before.d)))
+            clocked(
+                before,
+                now,
+                enabled(before, pick(before.srst, value, before.d)),
+            )
         }
         StorageKind::Adff => pick(now.arst, value, register(before, now)),
         StorageKind::Adffe => pick(now.arst, value, enabled_register(before, now)),
