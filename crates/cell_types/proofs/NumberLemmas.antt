@@ -32,11 +32,11 @@ min_product_within a b m a_in b_in =
 pub min_product : (a b m : ℕ) → 0 < m → min (min a m * min b m) m ≡ min (a * b) m
 min_product a b m h = by_cases (ltb a m) (ltb b m) refl refl
   where
-  by_cases : (p q : Bool) → ltb a m ≡ p → ltb b m ≡ q → min (min a m * min b m) m ≡ min (a * b) m
-  by_cases true true p q = min_product_within a b m (omega (arith, ltb-true a m p)) (omega (arith, ltb-true b m q))
-  by_cases true false p q =
-      rw (mul_comm (min a m) (min b m), mul_comm a b) (min_product_over b a m h (omega (arith, ltb-false b m q)))
-  by_cases false q p r = min_product_over a b m h (omega (arith, ltb-false a m p))
+    by_cases : (p q : Bool) → ltb a m ≡ p → ltb b m ≡ q → min (min a m * min b m) m ≡ min (a * b) m
+    by_cases true true p q = min_product_within a b m (omega (arith, ltb-true a m p)) (omega (arith, ltb-true b m q))
+    by_cases true false p q =
+        rw (mul_comm (min a m) (min b m), mul_comm a b) (min_product_over b a m h (omega (arith, ltb-false b m q)))
+    by_cases false q p r = min_product_over a b m h (omega (arith, ltb-false a m p))
 
 -- a product of two numbers that were cut off, cut off twice more
 pub product_is : (a b x y top m r : ℕ) → 0 < m → m ≤ top → x ≡ min a m → y ≡ min b m → r ≡ min (min (x * y) top) m → r ≡ min (a * b) m

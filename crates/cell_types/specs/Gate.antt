@@ -7,7 +7,7 @@ use Rattle.cell_types.specs.Names.{named}
 -- the gates with their names
 abbrev pub gates : List (List ℕ × GateKind)
 gates =
-    ( (codes "$_BUF_", Buf)
+    ((codes "$_BUF_", Buf)
     ∷ (codes "$_NOT_", Not)
     ∷ (codes "$_AND_", And)
     ∷ (codes "$_NAND_", Nand)
@@ -19,7 +19,7 @@ gates =
     ∷ (codes "$_ORNOT_", OrNot)
     ∷ (codes "$_MUX_", Mux)
     ∷ (codes "$_NMUX_", Nmux)
-    ∷ [] )
+    ∷ [])
 
 -- the gate of this name
 abbrev pub gate_of : List ℕ → Option GateKind

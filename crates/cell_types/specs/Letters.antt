@@ -169,7 +169,7 @@ gate_with Of.Sr letters = sr_with letters
 -- what the names of each family begin with
 abbrev pub families : List (List ℕ × Family)
 families =
-    ( (codes "$_FF", Of.Ff)
+    ((codes "$_FF", Of.Ff)
     ∷ (codes "$_DFF_", Of.Dff)
     ∷ (codes "$_DFFE_", Of.Dffe)
     ∷ (codes "$_SDFF_", Of.Sdff)
@@ -182,7 +182,7 @@ families =
     ∷ (codes "$_DLATCH_", Of.Dlatch)
     ∷ (codes "$_DLATCHSR_", Of.Dlatchsr)
     ∷ (codes "$_SR_", Of.Sr)
-    ∷ [] )
+    ∷ [])
 
 -- the name without the `_` at its end
 abbrev pub without_end : List ℕ → Option (List ℕ)

@@ -19,15 +19,15 @@ level_in params polarity = if number_in params polarity == 0 then Low else High
 
 -- the levels that the parameters say
 abbrev pub levels_in : List Param → Levels
-levels_in params = record
-  { clk = level_in params ClkPolarity
-  ; en = level_in params EnPolarity
-  ; arst = level_in params ArstPolarity
-  ; srst = level_in params SrstPolarity
-  ; aload = level_in params AloadPolarity
-  ; set = level_in params SetPolarity
-  ; clr = level_in params ClrPolarity
-  }
+levels_in params = record {
+  clk = level_in params ClkPolarity;
+  en = level_in params EnPolarity;
+  arst = level_in params ArstPolarity;
+  srst = level_in params SrstPolarity;
+  aload = level_in params AloadPolarity;
+  set = level_in params SetPolarity;
+  clr = level_in params ClrPolarity;
+}
 
 -- a cell that lacks all control pins
 abbrev pub low : Levels

@@ -17,3 +17,5 @@ pub mod Reading
 pub mod Fault
 pub mod Levels
 pub mod Shape
+pub mod StorageGate
+pub mod Bounds

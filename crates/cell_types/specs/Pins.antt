@@ -11,7 +11,6 @@ use Rattle.cell_types.specs.declared.kind.CellKind.TheVariants as Cell
 use Rattle.cell_types.specs.declared.word.WordKind.TheVariants as Word
 use Rattle.cell_types.specs.declared.gate.GateKind.TheVariants as Gate
 use Rattle.cell_types.specs.declared.storage.StorageKind.TheVariants as Storage
-use Rattle.cell_types.specs.declared.storage_gate.StorageGate.TheVariants as StorageGate
 use Rattle.cell_types.specs.declared.memory.MemoryKind.TheVariants as Memory
 use Rattle.cell_types.specs.declared.pin_name.PinName.TheVariants.{A, B, S, Y, Clk, En, Arst, Srst, Aload, Set, Clr, Ad, D, Q, C, E, R, L, Addr, Data}
 

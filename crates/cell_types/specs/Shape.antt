@@ -1,5 +1,5 @@
 -- the shape of a cell: what its value depends on beside its inputs
-use Rattle.std.specs.Prelude.{ℕ, Bool, true, false, List, [], ◌∷◌, Option, Some, None, Result, Ok, Err, if◌then◌else◌, ◌-◌, ◌^◌, min, nat_lt}
+use Rattle.std.specs.Prelude.{ℕ, Bool, true, false, List, [], ◌∷◌, Option, Some, None, Result, Ok, Err, ◌-◌, ◌^◌, min, nat_lt}
 use Rattle.rtl_bits.specs.declared.bit.Bit.{Bit}
 use Rattle.rtl_bits.specs.declared.bit.Bit.TheVariants.{S0, S1}
 use Rattle.cell_types.specs.declared.fault.CellFault.{CellFault}
@@ -9,7 +9,6 @@ use Rattle.cell_types.specs.declared.kind.CellKind.{CellKind}
 use Rattle.cell_types.specs.declared.kind.CellKind.TheVariants as Cell
 use Rattle.cell_types.specs.declared.param_name.ParamName.{ParamName}
 use Rattle.cell_types.specs.declared.param_name.ParamName.TheVariants.{ASigned, BSigned, Width, Offset, ArstValue, SrstValue, Abits, ClkEnable, Portid, PriorityMask, Words, Priority}
-use Rattle.cell_types.specs.declared.pin_name.PinName.{PinName}
 use Rattle.cell_types.specs.declared.pin_name.PinName.TheVariants.{A, B, S, Y}
 use Rattle.cell_types.specs.declared.shape.Port.{Port}
 use Rattle.cell_types.specs.declared.shape.Resets.{Resets}
@@ -33,12 +32,12 @@ is_set params name = nat_lt 0 (number_in params name)
 
 -- the widths of four pins
 abbrev pub pin_widths : CellKind → List Param → Widths
-pin_widths kind params = record
-  { a = small (pin_width kind params A)
-  ; b = small (pin_width kind params B)
-  ; s = small (pin_width kind params S)
-  ; y = small (pin_width kind params Y)
-  }
+pin_widths kind params = record {
+  a = small (pin_width kind params A);
+  b = small (pin_width kind params B);
+  s = small (pin_width kind params S);
+  y = small (pin_width kind params Y);
+}
 
 -- the widths of the pins of a combinational cell
 abbrev pub widths_of : CellKind → List Param → Widths
@@ -82,27 +81,27 @@ resets_of _ params = no_reset
 
 -- what a memory cell says beside the memory's name
 abbrev pub port_of : List Param → Port
-port_of params = record
-  { address = small (number_in params Abits)
-  ; clocked = is_set params ClkEnable
-  ; number = small (number_in params Portid)
-  ; mask = value_in params PriorityMask
-  ; words = small (number_in params Words)
-  ; priority = value_in params Priority
-  }
+port_of params = record {
+  address = small (number_in params Abits);
+  clocked = is_set params ClkEnable;
+  number = small (number_in params Portid);
+  mask = value_in params PriorityMask;
+  words = small (number_in params Words);
+  priority = value_in params Priority;
+}
 
 -- the shape of a cell without faults
 abbrev pub made_shape : CellKind → List Param → Shape
-made_shape kind params = record
-  { kind = kind
-  ; widths = widths_of kind params
-  ; signs = signs_of params
-  ; offset = small (number_in params Offset)
-  ; width = width_of kind params
-  ; levels = levels_of kind params
-  ; resets = resets_of kind params
-  ; port = port_of params
-  }
+made_shape kind params = record {
+  kind = kind;
+  widths = widths_of kind params;
+  signs = signs_of params;
+  offset = small (number_in params Offset);
+  width = width_of kind params;
+  levels = levels_of kind params;
+  resets = resets_of kind params;
+  port = port_of params;
+}
 
 -- a fault in place of a shape
 abbrev pub unless : Option CellFault → Shape → Result Shape CellFault

@@ -7,7 +7,7 @@ use Rattle.cell_types.specs.Names.{named}
 -- the storage cells with their names
 abbrev pub storages : List (List ℕ × StorageKind)
 storages =
-    ( (codes "$ff", Ff)
+    ((codes "$ff", Ff)
     ∷ (codes "$dff", Dff)
     ∷ (codes "$dffe", Dffe)
     ∷ (codes "$sdff", Sdff)
@@ -23,7 +23,7 @@ storages =
     ∷ (codes "$adlatch", Adlatch)
     ∷ (codes "$dlatchsr", Dlatchsr)
     ∷ (codes "$sr", Sr)
-    ∷ [] )
+    ∷ [])
 
 -- the storage cell of this name
 abbrev pub storage_of : List ℕ → Option StorageKind

@@ -5,7 +5,7 @@ use Rattle.cell_types.specs.Names.{is_among}
 -- their names
 abbrev pub unsupported : List (List ℕ)
 unsupported =
-    ( codes "$eqx" ∷ codes "$nex" ∷ codes "$bweqx" ∷ codes "$tribuf"
+    (codes "$eqx" ∷ codes "$nex" ∷ codes "$bweqx" ∷ codes "$tribuf"
     ∷ codes "$_TBUF_" ∷ codes "$pow" ∷ codes "$lut" ∷ codes "$sop"
     ∷ codes "$alu" ∷ codes "$lcu" ∷ codes "$fa" ∷ codes "$macc"
     ∷ codes "$mem" ∷ codes "$mem_v2" ∷ codes "$memwr" ∷ codes "$fsm"
@@ -15,7 +15,7 @@ unsupported =
     ∷ codes "$initstate" ∷ codes "$specify2" ∷ codes "$specify3" ∷ codes "$specrule"
     ∷ codes "$scopeinfo" ∷ codes "$buf" ∷ codes "$bwmux" ∷ codes "$bmux"
     ∷ codes "$demux"
-    ∷ [] )
+    ∷ [])
 
 -- the name is one of them
 abbrev pub is_unsupported : List ℕ → Bool

@@ -16,7 +16,7 @@ use Rattle.cell_types.specs.Names.{named}
 -- the word cells with their names
 abbrev pub words : List (List ℕ × WordKind)
 words =
-    ( (codes "$not", Word.Unary Unary.Not)
+    ((codes "$not", Word.Unary Unary.Not)
     ∷ (codes "$pos", Word.Unary Unary.Pos)
     ∷ (codes "$neg", Word.Unary Unary.Neg)
     ∷ (codes "$reduce_and", Word.Fold Fold.And)
@@ -54,7 +54,7 @@ words =
     ∷ (codes "$pmux", Word.Pmux)
     ∷ (codes "$slice", Word.Slice)
     ∷ (codes "$concat", Word.Concat)
-    ∷ [] )
+    ∷ [])
 
 -- the word cell of this name
 abbrev pub word_of : List ℕ → Option WordKind

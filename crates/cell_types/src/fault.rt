@@ -47,11 +47,7 @@ impl From<Memory> for CellFault {
 }
 
 /// The first fault of a cell. It takes no memory.
-pub(crate) fn fault_of(
-    kind: CellKind,
-    params: &[Param],
-    pins: &[PinWidth],
-) -> Option<CellFault>
+pub(crate) fn fault_of(kind: CellKind, params: &[Param], pins: &[PinWidth]) -> Option<CellFault>
     ensures value { result ≡ fault_of kind params.now pins.now }
 {
     if is_bad(kind, params, pins) {

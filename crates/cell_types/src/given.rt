@@ -47,9 +47,7 @@ impl PinWidth {
 
 /// How often the parameter is given.
 pub(crate) fn count_params(params: &[Param], name: ParamName) -> usize
-    ensures value {
-        result ≡ count_by (λ param. bytes_eq param.name (param_text name)) params.now
-    }
+    ensures value { result ≡ count_by (λ param. bytes_eq param.name (param_text name)) params.now }
 {
     params.iter().filter(|param| param.is(name)).count()
 }

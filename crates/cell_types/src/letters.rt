@@ -233,9 +233,7 @@ fn dlatch_with(letters: &[u8]) -> Option<StorageGate>
     ensures value { result ≡ dlatch_with letters.now }
 {
     match letters {
-        [en] => Some(StorageGate::Dlatch {
-            en: level_of(*en)?,
-        }),
+        [en] => Some(StorageGate::Dlatch { en: level_of(*en)? }),
         [en, arst, value] => Some(StorageGate::Adlatch {
             en: level_of(*en)?,
             arst: level_of(*arst)?,

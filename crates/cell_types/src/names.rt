@@ -23,10 +23,8 @@ pub(crate) fn find_prefixed<'a, K: Copy>(
     rows: &[(&[u8], K)],
     text: &'a [u8],
 ) -> Option<(K, &'a [u8])>
-    ensures value {
-        prefixed (map (λ row. (row.0.now, row.1)) rows.now) text.now
-        ≡ option_map (λ found. (found.0, found.1.now)) result
-    }
+    ensures value { prefixed (map (λ row. (row.0.now, row.1)) rows.now) text.now
+        ≡ option_map (λ found. (found.0, found.1.now)) result }
 {
     for (prefix, kind) in rows {
         if let Some(rest) = text.strip_prefix(*prefix) {

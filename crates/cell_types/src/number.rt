@@ -38,9 +38,7 @@ pub(crate) fn number(bits: &[Bit]) -> u128
 /// Whether a number is less than the sum of two others, however many bits they have.
 #[tactic(auto, using(crate::proofs::NumberLemmas::number_of_drop))]
 pub(crate) fn is_passed(bound: &[Bit], low: &[Bit], more: &[Bit]) -> bool
-    ensures value {
-        result ≡ nat_lt (number_of bound.now) (number_of low.now + number_of more.now)
-    }
+    ensures value { result ≡ nat_lt (number_of bound.now) (number_of low.now + number_of more.now) }
 {
     let mut at = bound.len().max(low.len()).max(more.len());
     // One more than the bound has over the sum, of the bits from `at` on; 3 and more go on alike.
@@ -48,7 +46,9 @@ pub(crate) fn is_passed(bound: &[Bit], low: &[Bit], more: &[Bit]) -> bool
     while at > 0 {
         at -= 1;
         let taken = digit(low, at) + digit(more, at);
-        room = (2 * room + digit(bound, at)).saturating_sub(1 + taken).min(3);
+        room = (2 * room + digit(bound, at))
+            .saturating_sub(1 + taken)
+            .min(3);
     }
     room == 0
 }

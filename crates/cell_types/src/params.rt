@@ -9,7 +9,10 @@ use crate::param_name::ParamName;
 use crate::storage::StorageKind;
 use crate::word::WordKind;
 use ParamName::{
-    ASigned, AWidth, BSigned, BWidth, YWidth, Width, SWidth, Offset, ClkPolarity, EnPolarity, ArstPolarity, SrstPolarity, AloadPolarity, SetPolarity, ClrPolarity, ArstValue, SrstValue, Memid, Abits, ClkEnable, Transparent, TransparencyMask, CollisionXMask, InitValue, CeOverSrst, Portid, PriorityMask, Words, Priority,
+    ASigned, AWidth, Abits, AloadPolarity, ArstPolarity, ArstValue, BSigned, BWidth, CeOverSrst,
+    ClkEnable, ClkPolarity, ClrPolarity, CollisionXMask, EnPolarity, InitValue, Memid, Offset,
+    Portid, Priority, PriorityMask, SWidth, SetPolarity, SrstPolarity, SrstValue, TransparencyMask,
+    Transparent, Width, Words, YWidth,
 };
 
 /// The params of a cell, in the order in which new cells write them.

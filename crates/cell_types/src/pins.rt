@@ -10,9 +10,7 @@ use crate::pin_name::PinName;
 use crate::storage::StorageKind;
 use crate::storage_gate::StorageGate;
 use crate::word::WordKind;
-use PinName::{
-    A, B, S, Y, Clk, En, Arst, Srst, Aload, Set, Clr, Ad, D, Q, C, E, R, L, Addr, Data,
-};
+use PinName::{A, Ad, Addr, Aload, Arst, B, C, Clk, Clr, D, Data, E, En, L, Q, R, S, Set, Srst, Y};
 
 /// The pins of a cell, in the order in which new cells write them.
 pub fn pins_of(kind: CellKind) -> &'static [PinName]

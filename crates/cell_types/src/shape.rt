@@ -1,6 +1,7 @@
 //! The shape of a cell: what its value depends on beside its inputs.
 
 ghost use Rattle.std.specs.Prelude.{◌≡◌, ◌≢◌, Err, IfErr, IfOk, Ok};
+ghost use Rattle.cell_types.specs.Bounds.{KeepsBounds};
 ghost use Rattle.cell_types.specs.Shape.{bit_of, gate_resets, is_set, made_shape, port_of, resets_of, shape_of, signs_of, small, width_of, widths_of};
 
 use crate::fault::{CellFault, fault_of};
@@ -82,9 +83,9 @@ pub fn shape_of(
     pins: &[PinWidth],
 ) -> Result<Shape, CellFault>
     ensures ok { IfOk result (λ shape. shape_of kind params.now pins.now ≡ Ok shape) }
-    ensures fault {
-        IfErr result (λ fault. fault ≢ CellFault.Memory → shape_of kind params.now pins.now ≡ Err fault)
-    }
+    ensures fault { IfErr result (λ fault.
+        fault ≢ CellFault.Memory → shape_of kind params.now pins.now ≡ Err fault) }
+    ensures bounds { IfOk result KeepsBounds }
 {
     if let Some(fault) = fault_of(kind, params, pins) {
         return Err(fault);

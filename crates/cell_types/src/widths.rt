@@ -130,9 +130,7 @@ fn init_width(params: &[Param], pin: PinName) -> u128
 }
 
 fn product_in(params: &[Param], words: ParamName, count: ParamName) -> u128
-    ensures value {
-        result ≡ min (number_in params.now words * number_in params.now count) (2 ^ 64)
-    }
+    ensures value { result ≡ min (number_in params.now words * number_in params.now count) (2 ^ 64) }
 {
     number_in(params, words)
         .saturating_mul(number_in(params, count))

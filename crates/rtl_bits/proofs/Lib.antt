@@ -1,4 +1,5 @@
 pub mod Orders
 pub mod Tables
+pub mod Keeping
 pub mod Lists
 pub mod Numbers

@@ -3,7 +3,7 @@ use Rattle.std.proofs.Common.{◌≡◌, refl, sym, ◌∙◌, ap, subst}
 use Rattle.rtl_bits.specs.declared.bit.Bit.{Bit}
 use Rattle.rtl_bits.specs.declared.bit.Bit.TheVariants.{S0, S1, X}
 use Rattle.rtl_bits.specs.Knowledge.{Below, FlatBelow, IsMonotone, IsMonotone2, IsMonotone3}
-use Rattle.rtl_bits.specs.Tables.{seen_of, merge_of, not_of, and_of, or_of, xor_of, mux_of}
+use Rattle.rtl_bits.specs.Tables.{seen_of, merge_of, not_of, and_of, or_of, xor_of, mux_of, IsPlain}
 use Rattle.rtl_bits.proofs.Orders.{Below_trans, Below_from_flat, merge_left, merge_right, merge_greatest}
 
 pub seen_of_mono : IsMonotone Below seen_of
@@ -81,90 +81,86 @@ mux_of_mono a a' b b' S1 s' h k l =
 mux_of_mono a a' b b' s s' h k l =
     Below_trans _ _ _ (merge_of_mono a a' b b' h k) (merge_below_mux a' b' s')
 
--- a bit that a cell gives: 0, 1 or x
-abbrev IsGiven : Bit → Type 0
-IsGiven r = seen_of r ≡ r
-
--- under such a bit the two orders are one
-flat_from_below : (r b : Bit) → IsGiven r → Below r b → FlatBelow r b
+-- under a plain bit the two orders are one
+pub flat_from_below : (r b : Bit) → IsPlain r → Below r b → FlatBelow r b
 flat_from_below S0 b g h = h
 flat_from_below S1 b g h = h
 flat_from_below X b g h = tt
 flat_from_below r b g h = subst (λ z. FlatBelow z b) g tt
 
-seen_of_given : (a : Bit) → IsGiven (seen_of a)
-seen_of_given S0 = refl
-seen_of_given S1 = refl
-seen_of_given a = refl
+pub seen_of_plain : (a : Bit) → IsPlain (seen_of a)
+seen_of_plain S0 = refl
+seen_of_plain S1 = refl
+seen_of_plain a = refl
 
-not_of_given : (a : Bit) → IsGiven (not_of a)
-not_of_given S0 = refl
-not_of_given S1 = refl
-not_of_given a = refl
+pub not_of_plain : (a : Bit) → IsPlain (not_of a)
+not_of_plain S0 = refl
+not_of_plain S1 = refl
+not_of_plain a = refl
 
-merge_of_given : (a b : Bit) → IsGiven (merge_of a b)
-merge_of_given S0 S0 = refl
-merge_of_given S1 S1 = refl
-merge_of_given a b = refl
+pub merge_of_plain : (a b : Bit) → IsPlain (merge_of a b)
+merge_of_plain S0 S0 = refl
+merge_of_plain S1 S1 = refl
+merge_of_plain a b = refl
 
-and_of_given : (a b : Bit) → IsGiven (and_of a b)
-and_of_given S0 b = refl
-and_of_given S1 S0 = refl
-and_of_given S1 S1 = refl
-and_of_given S1 b = refl
-and_of_given a S0 = refl
-and_of_given a b = refl
+pub and_of_plain : (a b : Bit) → IsPlain (and_of a b)
+and_of_plain S0 b = refl
+and_of_plain S1 S0 = refl
+and_of_plain S1 S1 = refl
+and_of_plain S1 b = refl
+and_of_plain a S0 = refl
+and_of_plain a b = refl
 
-or_of_given : (a b : Bit) → IsGiven (or_of a b)
-or_of_given S1 b = refl
-or_of_given S0 S1 = refl
-or_of_given S0 S0 = refl
-or_of_given S0 b = refl
-or_of_given a S1 = refl
-or_of_given a b = refl
+pub or_of_plain : (a b : Bit) → IsPlain (or_of a b)
+or_of_plain S1 b = refl
+or_of_plain S0 S1 = refl
+or_of_plain S0 S0 = refl
+or_of_plain S0 b = refl
+or_of_plain a S1 = refl
+or_of_plain a b = refl
 
-xor_of_given : (a b : Bit) → IsGiven (xor_of a b)
-xor_of_given S0 S0 = refl
-xor_of_given S0 S1 = refl
-xor_of_given S1 S0 = refl
-xor_of_given S1 S1 = refl
-xor_of_given a b = refl
+pub xor_of_plain : (a b : Bit) → IsPlain (xor_of a b)
+xor_of_plain S0 S0 = refl
+xor_of_plain S0 S1 = refl
+xor_of_plain S1 S0 = refl
+xor_of_plain S1 S1 = refl
+xor_of_plain a b = refl
 
-mux_of_given : (a b s : Bit) → IsGiven (mux_of a b s)
-mux_of_given a b S0 = seen_of_given a
-mux_of_given a b S1 = seen_of_given b
-mux_of_given a b s = merge_of_given a b
+pub mux_of_plain : (a b s : Bit) → IsPlain (mux_of a b s)
+mux_of_plain a b S0 = seen_of_plain a
+mux_of_plain a b S1 = seen_of_plain b
+mux_of_plain a b s = merge_of_plain a b
 
--- a function that gives 0, 1 or x and keeps the order of knowledge keeps the flat order
-pub flat_monotone : (f : Bit → Bit) → ((a : Bit) → IsGiven (f a)) → IsMonotone Below f → IsMonotone FlatBelow f
+-- a function that gives plain bits and keeps the order of knowledge keeps the flat order
+pub flat_monotone : (f : Bit → Bit) → ((a : Bit) → IsPlain (f a)) → IsMonotone Below f → IsMonotone FlatBelow f
 flat_monotone f g m a b h = flat_from_below _ _ (g a) (m a b (Below_from_flat a b h))
 
-pub flat_monotone2 : (f : Bit → Bit → Bit) → ((a b : Bit) → IsGiven (f a b)) → IsMonotone2 Below f → IsMonotone2 FlatBelow f
+pub flat_monotone2 : (f : Bit → Bit → Bit) → ((a b : Bit) → IsPlain (f a b)) → IsMonotone2 Below f → IsMonotone2 FlatBelow f
 flat_monotone2 f g m a a' b b' h k =
     flat_from_below _ _ (g a b) (m a a' b b' (Below_from_flat a a' h) (Below_from_flat b b' k))
 
-pub flat_monotone3 : (f : Bit → Bit → Bit → Bit) → ((a b c : Bit) → IsGiven (f a b c)) → IsMonotone3 Below f → IsMonotone3 FlatBelow f
+pub flat_monotone3 : (f : Bit → Bit → Bit → Bit) → ((a b c : Bit) → IsPlain (f a b c)) → IsMonotone3 Below f → IsMonotone3 FlatBelow f
 flat_monotone3 f g m a a' b b' c c' h k l =
     flat_from_below _ _ (g a b c)
     (m a a' b b' c c' (Below_from_flat a a' h) (Below_from_flat b b' k) (Below_from_flat c c' l))
 
 pub seen_of_flat : IsMonotone FlatBelow seen_of
-seen_of_flat = flat_monotone seen_of seen_of_given seen_of_mono
+seen_of_flat = flat_monotone seen_of seen_of_plain seen_of_mono
 
 pub not_of_flat : IsMonotone FlatBelow not_of
-not_of_flat = flat_monotone not_of not_of_given not_of_mono
+not_of_flat = flat_monotone not_of not_of_plain not_of_mono
 
 pub merge_of_flat : IsMonotone2 FlatBelow merge_of
-merge_of_flat = flat_monotone2 merge_of merge_of_given merge_of_mono
+merge_of_flat = flat_monotone2 merge_of merge_of_plain merge_of_mono
 
 pub and_of_flat : IsMonotone2 FlatBelow and_of
-and_of_flat = flat_monotone2 and_of and_of_given and_of_mono
+and_of_flat = flat_monotone2 and_of and_of_plain and_of_mono
 
 pub or_of_flat : IsMonotone2 FlatBelow or_of
-or_of_flat = flat_monotone2 or_of or_of_given or_of_mono
+or_of_flat = flat_monotone2 or_of or_of_plain or_of_mono
 
 pub xor_of_flat : IsMonotone2 FlatBelow xor_of
-xor_of_flat = flat_monotone2 xor_of xor_of_given xor_of_mono
+xor_of_flat = flat_monotone2 xor_of xor_of_plain xor_of_mono
 
 pub mux_of_flat : IsMonotone3 FlatBelow mux_of
-mux_of_flat = flat_monotone3 mux_of mux_of_given mux_of_mono
+mux_of_flat = flat_monotone3 mux_of mux_of_plain mux_of_mono

@@ -1,5 +1,6 @@
 -- What is known of a bit and of a list of bits, and the two orders of knowledge.
-use Rattle.std.specs.Prelude.{◌≡◌, Bool, true, false, ◌&&◌, List, [], ◌∷◌}
+use Rattle.std.specs.Prelude.{◌≡◌, Bool, true, false, List, [], ◌∷◌}
+use Rattle.std.specs.List.{list_all}
 use Rattle.rtl_bits.specs.declared.bit.Bit.{Bit}
 use Rattle.rtl_bits.specs.declared.bit.Bit.TheVariants.{S0, S1, X, Z, M, Dash}
 
@@ -28,8 +29,7 @@ AreKnown (b ∷ bs) = IsKnown b × AreKnown bs
 
 -- the test of that
 abbrev pub all_known : List Bit → Bool
-all_known [] = true
-all_known (b ∷ bs) = is_known b && all_known bs
+all_known bits = list_all is_known bits
 
 -- the order of knowledge: a is below b where a is unknown, or equals b
 abbrev pub Below : Bit → Bit → Type 0

@@ -1,4 +1,5 @@
 -- The functions of one, two and three bits.
+use Rattle.std.specs.Prelude.{◌≡◌}
 use Rattle.rtl_bits.specs.declared.bit.Bit.{Bit}
 use Rattle.rtl_bits.specs.declared.bit.Bit.TheVariants.{S0, S1, X}
 
@@ -47,3 +48,7 @@ abbrev pub mux_of : Bit → Bit → Bit → Bit
 mux_of a b S0 = seen_of a
 mux_of a b S1 = seen_of b
 mux_of a b s = merge_of a b
+
+-- a bit is plain where it is 0, 1 or x: a cell reads it as itself
+abbrev pub IsPlain : Bit → Type 0
+IsPlain a = seen_of a ≡ a

@@ -2,7 +2,7 @@
 
 ghost use Rattle.std.specs.Prelude.{◌≡◌, ℕ, pos, neg_ℤ, ◌≤ℤ◌, ◌<ℤ◌, ◌-◌, ◌%◌, ◌^◌, ◌<◌, IsTrue, ◌↔◌, List, length};
 ghost use Rattle.rtl_bits.specs.Knowledge.{IsKnown, is_known, AreKnown, all_known, Below, FlatBelow, AreBelow, AreFlatBelow, IsMonotone, IsMonotone2, IsMonotone3};
-ghost use Rattle.rtl_bits.specs.Tables.{seen_of, merge_of, not_of, and_of, or_of, xor_of, mux_of};
+ghost use Rattle.rtl_bits.specs.Tables.{seen_of, merge_of, not_of, and_of, or_of, xor_of, mux_of, IsPlain};
 ghost use Rattle.rtl_bits.specs.Numbers.{number_of, bits_of, integer_of};
 
 use crate::bit::Bit;
@@ -57,6 +57,18 @@ pub fn functions_are_flat_monotone()
     ensures or { IsMonotone2 FlatBelow or_of }
     ensures xor { IsMonotone2 FlatBelow xor_of }
     ensures mux { IsMonotone3 FlatBelow mux_of }
+{}
+
+/// Each function of bits gives 0, 1 or x.
+#[tactic(auto, using(crate::proofs::Tables::seen_of_plain, crate::proofs::Tables::merge_of_plain, crate::proofs::Tables::not_of_plain, crate::proofs::Tables::and_of_plain, crate::proofs::Tables::or_of_plain, crate::proofs::Tables::xor_of_plain, crate::proofs::Tables::mux_of_plain))]
+pub fn functions_give_plain_bits()
+    ensures seen { (a : Bit) → IsPlain (seen_of a) }
+    ensures merge { (a b : Bit) → IsPlain (merge_of a b) }
+    ensures not { (a : Bit) → IsPlain (not_of a) }
+    ensures and { (a b : Bit) → IsPlain (and_of a b) }
+    ensures or { (a b : Bit) → IsPlain (or_of a b) }
+    ensures xor { (a b : Bit) → IsPlain (xor_of a b) }
+    ensures mux { (a b s : Bit) → IsPlain (mux_of a b s) }
 {}
 
 /// The order of knowledge on lists is a preorder of lists of one length, and nothing but a list

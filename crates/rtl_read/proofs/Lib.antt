@@ -1,1 +1,5 @@
 pub mod NumberLemmas
+pub mod WireLemmas
+pub mod CellLemmas
+pub mod LineLemmas
+pub mod FormLemmas

@@ -38,15 +38,15 @@ port_number_of (Some port) = pos port.1
 -- the wire of this name with these options
 abbrev pub wire_with : Options → List ℕ → Wire
 wire_with o id = record {
-    name = id;
-    width = unwrap_or o.width 1;
-    offset = pos 0;
-    upto = false;
-    signed = false;
-    role = role_of o.port;
-    number = port_number_of o.port;
-    attributes = [];
-  }
+  name = id;
+  width = unwrap_or o.width 1;
+  offset = pos 0;
+  upto = false;
+  signed = false;
+  role = role_of o.port;
+  number = port_number_of o.port;
+  attributes = [];
+}
 
 -- the wire of the words that are left: options, each a word and a number, and then its name
 abbrev pub rest_of_wire : Options → List (List ℕ) → Option Wire

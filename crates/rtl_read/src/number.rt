@@ -14,24 +14,24 @@ fn all_digits(word: &[u8]) -> bool
 }
 
 /// Whether the word is one or more decimal digits.
-fn is_digits(word: &[u8]) -> bool
+pub fn is_digits(word: &[u8]) -> bool
     ensures value { result ≡ is_digits word.now }
 {
     !word.is_empty() && all_digits(word)
 }
 
-/// The number that decimal digits stand for, where it is at most 4,096.
-fn small_decimal(digits: &[u8]) -> Option<u16>
-    ensures value { MatchOption result (4096 < decimal_of digits.now) (λ n. (n ≡ decimal_of digits.now) × (n ≤ 4096)) }
+/// The number that decimal digits stand for, where it is at most `most`.
+pub fn decimal_within(digits: &[u8], most: u32) -> Option<u32>
+    ensures value { MatchOption result (most < decimal_of digits.now) (λ n. (n ≡ decimal_of digits.now) × (n ≤ most)) }
 {
-    let mut number: u32 = 0;
+    let mut number: u64 = 0;
     for digit in digits {
-        number = number * 10 + u32::from(digit.saturating_sub(b'0'));
-        if number > MAX_NUMBER {
+        number = number * 10 + u64::from(digit.saturating_sub(b'0'));
+        if number > u64::from(most) {
             return None;
         }
     }
-    Some(number as u16)
+    Some(number as u32)
 }
 
 /// The number of a word of digits, where it is from 1 to 4,096.
@@ -41,9 +41,9 @@ pub fn number_of(word: &[u8]) -> Option<u16>
     if !is_digits(word) {
         return None;
     }
-    match small_decimal(word) {
+    match decimal_within(word, MAX_NUMBER) {
         None | Some(0) => None,
-        Some(number) => Some(number),
+        Some(number) => Some(number as u16),
     }
 }
 

@@ -41,9 +41,7 @@ pub fn is_id(word: &[u8]) -> bool
 {
     match word {
         [] | [_] => false,
-        [first, more @ ..] => {
-            (*first == b'\\' || *first == b'$') && all_name_bytes(more)
-        }
+        [first, more @ ..] => { (*first == b'\\' || *first == b'$') && all_name_bytes(more) }
     }
 }
 

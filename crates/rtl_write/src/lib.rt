@@ -2,9 +2,11 @@
 #![tactic(auto)]
 
 mod constant;
+mod process;
 mod run;
 mod signal;
 mod statement;
+mod tree;
 mod whole;
 
 pub use whole::{body_text, module_text, write};

@@ -11,7 +11,7 @@ use rtl_ir::{Attribute, Cell, CellParam, Link, Parameter, Pin, Role, Store, Wire
 
 /// Writes two blanks for each level.
 #[tactic(auto, unfolding(crate::specs::Text::indent))]
-fn put_indent(out: &mut Text, depth: u32) -> Result<(), Memory>
+pub fn put_indent(out: &mut Text, depth: u32) -> Result<(), Memory>
     ensures ok { OnOk result (out.new ≡ out.old ++ indent depth) }
 {
     for _ in 0..2 * u64::from(depth) {
@@ -21,10 +21,10 @@ fn put_indent(out: &mut Text, depth: u32) -> Result<(), Memory>
 }
 
 #[tactic(auto, unfolding(crate::specs::Text::attribute_text))]
-fn put_attribute(out: &mut Text, depth: u32, attribute: &Attribute) -> Result<(), Memory>
-    ensures ok { OnOk result (out.new ≡ out.old ++ attribute_text depth attribute.now) }
+fn put_attribute(out: &mut Text, blanks: &[u8], attribute: &Attribute) -> Result<(), Memory>
+    ensures ok { OnOk result (out.new ≡ out.old ++ attribute_text blanks.now attribute.now) }
 {
-    put_indent(out, depth)?;
+    out.extend(blanks)?;
     out.extend(b"attribute ")?;
     out.extend(attribute.name.as_slice())?;
     out.push(b' ')?;
@@ -32,12 +32,12 @@ fn put_attribute(out: &mut Text, depth: u32, attribute: &Attribute) -> Result<()
     out.push(b'\n')
 }
 
-/// Writes the attributes of an item at this depth.
-pub fn put_attributes(out: &mut Text, depth: u32, attributes: &[Attribute]) -> Result<(), Memory>
-    ensures ok { OnOk result (out.new ≡ out.old ++ attributes_text depth attributes.now) }
+/// Writes the attributes of an item behind its blanks.
+pub fn put_attributes(out: &mut Text, blanks: &[u8], attributes: &[Attribute]) -> Result<(), Memory>
+    ensures ok { OnOk result (out.new ≡ out.old ++ attributes_text blanks.now attributes.now) }
 {
     for attribute in attributes {
-        put_attribute(out, depth, attribute)?;
+        put_attribute(out, blanks, attribute)?;
     }
     Ok(())
 }
@@ -136,7 +136,7 @@ fn put_wire_options(out: &mut Text, wire: &Wire) -> Result<(), Memory>
 pub fn put_wire(out: &mut Text, wire: &Wire) -> Result<(), Memory>
     ensures ok { OnOk result (out.new ≡ out.old ++ wire_text wire.now) }
 {
-    put_attributes(out, 1, wire.attributes.as_slice())?;
+    put_attributes(out, b"  ", wire.attributes.as_slice())?;
     out.extend(b"  wire")?;
     put_wire_options(out, wire)?;
     out.push(b' ')?;
@@ -149,7 +149,7 @@ pub fn put_wire(out: &mut Text, wire: &Wire) -> Result<(), Memory>
 pub fn put_store(out: &mut Text, store: &Store) -> Result<(), Memory>
     ensures ok { OnOk result (out.new ≡ out.old ++ store_text store.now) }
 {
-    put_attributes(out, 1, store.attributes.as_slice())?;
+    put_attributes(out, b"  ", store.attributes.as_slice())?;
     out.extend(b"  memory")?;
     put_width(out, store.width)?;
     put_size(out, store.size)?;
@@ -222,7 +222,7 @@ fn put_pins(out: &mut Text, wires: &[Wire], pins: &[Pin]) -> Result<(), Memory>
 pub fn put_cell(out: &mut Text, wires: &[Wire], cell: &Cell) -> Result<(), Memory>
     ensures ok { OnOk result (out.new ≡ out.old ++ cell_text wires.now cell.now) }
 {
-    put_attributes(out, 1, cell.attributes.as_slice())?;
+    put_attributes(out, b"  ", cell.attributes.as_slice())?;
     out.extend(b"  cell ")?;
     out.extend(cell.kind_name.as_slice())?;
     out.push(b' ')?;

@@ -2,11 +2,12 @@
 
 ghost use Rattle.std.specs.Prelude.{◌≡◌, ◌++◌, OnOk, IfOk};
 ghost use Rattle.std.specs.List.{flat_map};
-ghost use Rattle.rtl_write.specs.Text.{parameter_text, wire_text, store_text, cell_text, link_text, inner_text, module_text, body_text, text_of};
+ghost use Rattle.rtl_write.specs.Text.{parameter_text, wire_text, store_text, cell_text, process_text, link_text, inner_text, module_text, body_text, text_of};
 
+use crate::process::put_process;
 use crate::statement::{put_attributes, put_cell, put_link, put_parameter, put_store, put_wire};
 use rtl_bits::{Memory, Text};
-use rtl_ir::{Cell, Design, Link, Module, Parameter, Store, Wire};
+use rtl_ir::{Cell, Design, Link, Module, Parameter, Process, Store, Wire};
 use std::alloc::Global;
 
 fn put_parameters(out: &mut Text, parameters: &[Parameter]) -> Result<(), Memory>
@@ -45,6 +46,15 @@ fn put_cells(out: &mut Text, wires: &[Wire], cells: &[Cell]) -> Result<(), Memor
     Ok(())
 }
 
+fn put_processes(out: &mut Text, wires: &[Wire], processes: &[Process]) -> Result<(), Memory>
+    ensures ok { OnOk result (out.new ≡ out.old ++ flat_map (process_text wires.now) processes.now) }
+{
+    for process in processes {
+        put_process(out, wires, process)?;
+    }
+    Ok(())
+}
+
 fn put_links(out: &mut Text, wires: &[Wire], links: &[Link]) -> Result<(), Memory>
     ensures ok { OnOk result (out.new ≡ out.old ++ flat_map (link_text wires.now) links.now) }
 {
@@ -63,6 +73,7 @@ fn put_inner(out: &mut Text, module: &Module) -> Result<(), Memory>
     put_wires(out, module.wires.as_slice())?;
     put_stores(out, module.memories.as_slice())?;
     put_cells(out, module.wires.as_slice(), module.cells.as_slice())?;
+    put_processes(out, module.wires.as_slice(), module.processes.as_slice())?;
     put_links(out, module.wires.as_slice(), module.links.as_slice())
 }
 
@@ -70,7 +81,7 @@ fn put_inner(out: &mut Text, module: &Module) -> Result<(), Memory>
 fn put_module(out: &mut Text, module: &Module) -> Result<(), Memory>
     ensures ok { OnOk result (out.new ≡ out.old ++ module_text «module».now) }
 {
-    put_attributes(out, 0, module.attributes.as_slice())?;
+    put_attributes(out, b"", module.attributes.as_slice())?;
     out.extend(b"module ")?;
     out.extend(module.id.as_slice())?;
     out.push(b'\n')?;
@@ -104,7 +115,7 @@ pub fn body_text(alloc: Global, module: &Module) -> Result<Text, Memory>
     ensures exact { IfOk result (λ text. text ≡ body_text «module».now) }
 {
     let mut out = Text::make(alloc);
-    put_attributes(&mut out, 0, module.attributes.as_slice())?;
+    put_attributes(&mut out, b"", module.attributes.as_slice())?;
     out.extend(b"module\n")?;
     put_inner(&mut out, module)?;
     out.extend(b"end\n")?;

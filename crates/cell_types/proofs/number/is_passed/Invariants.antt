@@ -1,4 +1,4 @@
-use Rattle.std.proofs.Common.{◌≡◌, ◌+◌, ◌-◌, ◌≤◌, length, min, drop}
+use Rattle.std.proofs.Common.{◌≡◌, ◌+◌, ◌-◌, min, drop}
 use Rattle.rtl_bits.specs.Numbers.{number_of}
 use Rattle.cell_types.proofs.number.is_passed.Given as goal
 

@@ -1,0 +1,4 @@
+pub mod Gates
+pub mod Control
+pub mod Store
+pub mod Storage

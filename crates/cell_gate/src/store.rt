@@ -1,0 +1,86 @@
+//! How one bit of a storage cell works.
+
+ghost use Rattle.std.specs.Prelude.{◌≡◌, slice_index_or};
+ghost use Rattle.cell_gate.specs.Store.{IsStorage, gate_kind, reset_at, storage_kind, store_of};
+
+use cell_types::{CellKind, Levels, Resets, Shape, StorageGate, StorageKind};
+use rtl_bits::Bit;
+
+/// One bit of a storage cell: its kind, the levels of its controls, and the value that its reset
+/// gives. The value of a kind without a reset is not read.
+#[derive(Clone, Copy, Debug, PartialEq, Eq)]
+pub(crate) struct Store {
+    pub(crate) kind: StorageKind,
+    pub(crate) levels: Levels,
+    pub(crate) value: Bit,
+}
+
+/// The bit of a storage cell at a place.
+pub(crate) fn store_of(shape: &Shape, at: usize) -> Store
+    requires storage { IsStorage shape.now.kind }
+    ensures value { result ≡ store_of shape.now at }
+{
+    let kind = storage_kind(shape.kind);
+    Store {
+        kind,
+        levels: shape.levels,
+        value: reset_at(kind, &shape.resets, at),
+    }
+}
+
+fn storage_kind(kind: CellKind) -> StorageKind
+    requires storage { IsStorage kind }
+    ensures value { result ≡ storage_kind kind }
+{
+    match kind {
+        CellKind::Storage(storage) => storage,
+        CellKind::StorageGate(gate) => gate_kind(gate),
+        _ => unreachable!(),
+    }
+}
+
+/// The kind of storage cell that has the meaning of the gate.
+fn gate_kind(gate: StorageGate) -> StorageKind
+    ensures value { result ≡ gate_kind gate }
+{
+    match gate {
+        StorageGate::Ff => StorageKind::Ff,
+        StorageGate::Dff { .. } => StorageKind::Dff,
+        StorageGate::Dffe { .. } => StorageKind::Dffe,
+        StorageGate::Adff { .. } => StorageKind::Adff,
+        StorageGate::Adffe { .. } => StorageKind::Adffe,
+        StorageGate::Sdff { .. } => StorageKind::Sdff,
+        StorageGate::Sdffe { .. } => StorageKind::Sdffe,
+        StorageGate::Sdffce { .. } => StorageKind::Sdffce,
+        StorageGate::Dffsr { .. } => StorageKind::Dffsr,
+        StorageGate::Dffsre { .. } => StorageKind::Dffsre,
+        StorageGate::Aldff { .. } => StorageKind::Aldff,
+        StorageGate::Aldffe { .. } => StorageKind::Aldffe,
+        StorageGate::Dlatch { .. } => StorageKind::Dlatch,
+        StorageGate::Adlatch { .. } => StorageKind::Adlatch,
+        StorageGate::Dlatchsr { .. } => StorageKind::Dlatchsr,
+        StorageGate::Sr { .. } => StorageKind::Sr,
+    }
+}
+
+/// The bit that the reset of the kind gives at a place.
+fn reset_at(kind: StorageKind, resets: &Resets, at: usize) -> Bit
+    ensures value { result ≡ reset_at kind resets.now at }
+{
+    match kind {
+        StorageKind::Adff | StorageKind::Adffe | StorageKind::Adlatch => {
+            at_or_unknown(resets.arst.as_slice(), at)
+        }
+        StorageKind::Sdff | StorageKind::Sdffe | StorageKind::Sdffce => {
+            at_or_unknown(resets.srst.as_slice(), at)
+        }
+        _ => Bit::X,
+    }
+}
+
+/// The bit at a place, x past the end.
+fn at_or_unknown(bits: &[Bit], at: usize) -> Bit
+    ensures value { result ≡ slice_index_or bits.now at Bit.X }
+{
+    if at < bits.len() { bits[at] } else { Bit::X }
+}

@@ -1,0 +1,14 @@
+//! The values of combinational cells on words.
+#![tactic(auto)]
+
+mod arithmetic;
+mod bitwise;
+mod choice;
+mod folds;
+mod integer;
+pub mod laws;
+mod shift;
+mod value;
+mod words;
+
+pub use value::word_value;

@@ -1,0 +1,3 @@
+pub mod Fresh
+pub mod Gates
+pub mod Replies

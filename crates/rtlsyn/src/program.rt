@@ -1,0 +1,169 @@
+//! The top call.
+
+ghost use Rattle.std.specs.Prelude.{◌≡◌, ◌↔◌, ◌+◌, ◌⊎◌, map, string_bytes, IfOk, IfSome, OnOk, OnSome, None, Some, Err, true, false};
+ghost use Rattle.std.specs.Io.KnownBytes.{Keeps};
+ghost use Rattle.synth_io.specs.Counts.{HasRisen};
+ghost use Rattle.synth_io.specs.Taking.{TakesAtMost};
+ghost use Rattle.synth_io.specs.declared.input.TheConstants.{LIMIT};
+ghost use Rattle.rtl_read.specs.Form.{first_form};
+ghost use Rattle.rtlsyn.specs.Replies.{meaning_of, synth_reply, reply_to, IsReadThrough, HasAnswered, HasBegun, IsCompleted, exit_code};
+
+use crate::gates::netlist_of;
+use rtl_bits::{Memory, Text};
+use rtl_read::{FormFault, read_first_form};
+use rtl_write::write;
+use std::alloc::Global;
+use synth_io::{InputError, Sink, Source, read_input, write_reply};
+
+/// What the words ask for.
+#[derive(Clone, Copy, Debug, PartialEq, Eq)]
+pub enum Mode {
+    /// The input is one text; its netlist is written.
+    Synth,
+}
+
+/// How a call ended.
+#[derive(Clone, Copy, Debug, PartialEq, Eq)]
+pub enum Status {
+    /// The netlist was written.
+    Done,
+    /// An error was written.
+    Refused,
+    /// The words have no meaning; nothing was read or written.
+    Usage,
+    /// The source failed; nothing was written.
+    ReadFault,
+    /// The sink failed; a front of the reply was written.
+    WriteFault,
+    /// There was no memory; nothing was written.
+    Memory,
+}
+
+impl Status {
+    /// The exit status of the program: the place in the order above, from 0.
+    pub fn code(self) -> u8
+        ensures value { result ≡ exit_code self }
+    {
+        match self {
+            Status::Done => 0,
+            Status::Refused => 1,
+            Status::Usage => 2,
+            Status::ReadFault => 3,
+            Status::WriteFault => 4,
+            Status::Memory => 5,
+        }
+    }
+}
+
+/// What is written, and whether it is an error.
+#[derive(Drop)]
+struct Reply {
+    text: Text,
+    error: bool,
+}
+
+/// What the words ask for, where they have a meaning.
+fn meaning_of(words: &[String]) -> Option<Mode>
+    ensures value { result ≡ meaning_of (map string_bytes words.now) }
+{
+    match words {
+        [] => Some(Mode::Synth),
+        _ => None,
+    }
+}
+
+/// The reply to a text: its netlist, or the error of a text that is not of the form.
+fn synthesised(alloc: Global, text: &[u8]) -> Result<Reply, Memory>
+    ensures value { IfOk result (λ reply. (reply.text ≡ (synth_reply (first_form text.now)).text) × (reply.error ≡ (synth_reply (first_form text.now)).error)) }
+{
+    match read_first_form(alloc, text) {
+        Ok(design) => Ok(Reply {
+            text: write(alloc, &netlist_of(alloc, &design)?)?,
+            error: false,
+        }),
+        Err(FormFault::Form) => Ok(Reply {
+            text: Text::from_slice(alloc, b"error 2 1:1\n")?,
+            error: true,
+        }),
+        Err(FormFault::Memory) => Err(Memory),
+    }
+}
+
+/// Reads the input, and makes the reply.
+fn reply_to<S: Source>(alloc: Global, mode: Mode, source: &mut S) -> Result<Reply, InputError>
+    ensures reply { IfOk result (λ reply. IfSome (S.left source.old) (λ input.
+        (reply.text ≡ (reply_to mode input).text) × (reply.error ≡ (reply_to mode input).error))) }
+    ensures through { OnOk result (IsReadThrough (S.left source.old) (S.left source.new)) }
+    ensures taken { TakesAtMost (LIMIT + 1) (S.left source.old) (S.left source.new) }
+    ensures long { result ≡ Err InputError.TooLong → ⊥ }
+    ensures failed { result ≡ Err InputError.Failed → HasRisen (S.faults source.old) (S.faults source.new) }
+    ensures same { (result ≡ Err InputError.Failed → ⊥) → S.faults source.new ≡ S.faults source.old }
+{
+    let Mode::Synth = mode;
+    match read_input(alloc, source) {
+        Ok(bytes) => match synthesised(alloc, bytes.as_slice()) {
+            Ok(reply) => Ok(reply),
+            Err(Memory) => Err(InputError::Memory),
+        },
+        Err(InputError::TooLong) => match Text::from_slice(alloc, b"error 17 input\n") {
+            Ok(text) => Ok(Reply { text, error: true }),
+            Err(Memory) => Err(InputError::Memory),
+        },
+        Err(InputError::Failed) => Err(InputError::Failed),
+        Err(InputError::Memory) => Err(InputError::Memory),
+    }
+}
+
+/// Reads a text from the source, and writes the reply to it into the sink.
+///
+/// At most 67,108,865 bytes are taken, in pieces of at most 65,536; each read but the last takes
+/// at least one. The reply is written in pieces of 4,096 bytes, of which the last may be shorter.
+pub fn run<S: Source, K: Sink>(
+    alloc: Global,
+    words: &[String],
+    source: &mut S,
+    sink: &mut K,
+) -> Status
+    // The whole reply was written, and it is no error; the input was read through.
+    ensures done { result ≡ Status.Done → IfSome (meaning_of (map string_bytes words.now)) (λ mode.
+        HasAnswered mode false (S.left source.old) (K.held sink.old) (K.held sink.new)
+        × IsReadThrough (S.left source.old) (S.left source.new)) }
+    // The same, and it is an error.
+    ensures refused { result ≡ Status.Refused → IfSome (meaning_of (map string_bytes words.now)) (λ mode.
+        HasAnswered mode true (S.left source.old) (K.held sink.old) (K.held sink.new)
+        × IsReadThrough (S.left source.old) (S.left source.new)) }
+    ensures usage { result ≡ Status.Usage ↔ (meaning_of (map string_bytes words.now) ≡ None) }
+    ensures untouched { result ≡ Status.Usage → (source.new ≡ source.old) × (sink.new ≡ sink.old) }
+
+    // Whatever the answer, what was written is a front of the reply.
+    ensures begun { IfSome (meaning_of (map string_bytes words.now)) (λ mode.
+        HasBegun mode (S.left source.old) (K.held sink.old) (K.held sink.new)) }
+    ensures read_fault { result ≡ Status.ReadFault → HasRisen (S.faults source.old) (S.faults source.new)
+        × Keeps (K.held sink.old) (K.held sink.new) }
+    ensures write_fault { result ≡ Status.WriteFault → HasRisen (K.faults sink.old) (K.faults sink.new) }
+    // No other answer comes where a count changed.
+    ensures source_count { (result ≡ Status.ReadFault → ⊥) → S.faults source.new ≡ S.faults source.old }
+    ensures sink_count { (result ≡ Status.WriteFault → ⊥) → K.faults sink.new ≡ K.faults sink.old }
+    ensures taken { TakesAtMost (LIMIT + 1) (S.left source.old) (S.left source.new) }
+    // Where the words have a meaning and neither count rose, only memory can be wanting.
+    ensures complete { OnSome (meaning_of (map string_bytes words.now))
+        ((HasRisen (S.faults source.old) (S.faults source.new) → ⊥)
+        → (HasRisen (K.faults sink.old) (K.faults sink.new) → ⊥) → IsCompleted result) }
+{
+    let Some(mode) = meaning_of(words) else {
+        return Status::Usage;
+    };
+    let reply = match reply_to(alloc, mode, source) {
+        Ok(reply) => reply,
+        Err(InputError::Failed) => return Status::ReadFault,
+        Err(_) => return Status::Memory,
+    };
+    if write_reply(sink, reply.text.as_slice()).is_err() {
+        return Status::WriteFault;
+    }
+    if reply.error {
+        Status::Refused
+    } else {
+        Status::Done
+    }
+}

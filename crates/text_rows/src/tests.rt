@@ -1,0 +1,3 @@
+mod items;
+mod tokens;
+mod values;
