@@ -30,6 +30,7 @@ module_with id wires cells = record {
   wires = wires;
   memories = [];
   cells = cells;
+  processes = [];
   links = [];
 }
 

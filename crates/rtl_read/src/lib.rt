@@ -5,12 +5,16 @@
 #![tactic(auto)]
 
 mod cell;
+mod expect;
 mod fault;
 mod form;
+mod grammar;
 mod number;
 mod wire;
 mod word;
 
+pub use expect::Expect;
 pub use fault::FormFault;
 pub use form::read_first_form;
+pub use grammar::after;
 pub use number::{decimal_within, is_digits};
