@@ -1,3 +1,8 @@
+pub mod Viable
+pub mod Stack
+pub mod Reading
+pub mod Exactly
+pub mod Closed
 pub mod NumberLemmas
 pub mod WireLemmas
 pub mod CellLemmas

@@ -1,4 +1,6 @@
 pub mod Grammar
+pub mod Uses
+pub mod ReadOn
 pub mod Words
 pub mod Numbers
 pub mod Answers
