@@ -13,7 +13,7 @@ use Rattle.rtl_lex.specs.declared.token.LexFault.TheVariants as lexes
 use Rattle.rtl_lex.specs.Tokens.{Piece, token_at}
 use Rattle.rtl_lex.specs.Sorts.{module_word, option_word, process_word, event_word, word_sort, mark_sort, sort_of}
 use Rattle.rtl_lex.specs.Items.{Seen, is_line, IsFirst, AreItems}
-use Rattle.rtl_read.proofs.Stack.{is_finish}
+use Rattle.rtl_read.proofs.Table.{is_finish}
 use Rattle.rtl_read.proofs.Reading.{AreClosed}
 
 -- whether a word is the end of the text

@@ -6,7 +6,7 @@ use Rattle.rtl_read.specs.declared.expect.Expect.{Expect}
 use Rattle.rtl_read.specs.Grammar.{after, Derives}
 use Rattle.rtl_read.specs.Uses.{Use, roles_of, items_of, sorts_of, Action, run, ◌>>=◌}
 use Rattle.rtl_read.specs.ReadOn.{step, read_on}
-use Rattle.rtl_read.proofs.Stack.{is_stack, is_finish, stack_next}
+use Rattle.rtl_read.proofs.Table.{is_stack, is_finish, stack_next}
 use Rattle.rtl_read.proofs.Reading.{AreClosed, BeginsNoneFrom, IsFault, stepped, ending, ends, some_is}
 
 -- the sorts of the uses before, and then of these

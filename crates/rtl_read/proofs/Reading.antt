@@ -8,7 +8,7 @@ use Rattle.rtl_read.specs.declared.expect.Expect.{Expect}
 use Rattle.rtl_read.specs.Grammar.{after, Derives}
 use Rattle.rtl_read.specs.Uses.{Use, roles_of, items_of, sorts_of, Action, run, ◌>>=◌}
 use Rattle.rtl_read.specs.ReadOn.{step, read_on}
-use Rattle.rtl_read.proofs.Stack.{is_stack, is_finish, stack_next, stack_end, bad_refused}
+use Rattle.rtl_read.proofs.Table.{is_stack, is_finish, stack_next, stack_end, bad_refused}
 use Rattle.rtl_read.proofs.Viable.{closings, closes}
 
 pub some_is : {A : Type 0} (x y : A) → Some x ≡ Some y → x ≡ y

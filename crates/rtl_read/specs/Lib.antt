@@ -1,5 +1,8 @@
 pub mod Grammar
 pub mod Uses
+pub mod Gives
+pub mod Constant
+pub mod Signal
 pub mod ReadOn
 pub mod Words
 pub mod Numbers

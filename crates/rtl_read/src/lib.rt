@@ -5,11 +5,16 @@
 #![tactic(auto)]
 
 mod cell;
+mod constant;
 mod expect;
 mod fault;
 mod form;
 mod grammar;
+mod limits;
 mod number;
+mod read_fault;
+mod signal;
+mod stack;
 mod wire;
 mod word;
 
@@ -18,3 +23,4 @@ pub use fault::FormFault;
 pub use form::read_first_form;
 pub use grammar::after;
 pub use number::{decimal_within, is_digits};
+pub use read_fault::ReadFault;
