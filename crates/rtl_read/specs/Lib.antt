@@ -3,6 +3,7 @@ pub mod Uses
 pub mod Gives
 pub mod Constant
 pub mod Signal
+pub mod Meaning
 pub mod ReadOn
 pub mod Words
 pub mod Numbers

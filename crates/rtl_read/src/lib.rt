@@ -4,6 +4,7 @@
 //! whole wires.
 #![tactic(auto)]
 
+mod attributes;
 mod cell;
 mod constant;
 mod expect;
@@ -12,6 +13,9 @@ mod form;
 mod grammar;
 mod limits;
 mod number;
+mod open_cell;
+mod open_module;
+mod options;
 mod read_fault;
 mod signal;
 mod stack;
