@@ -3,3 +3,5 @@ pub mod Attribute
 pub mod Module
 pub mod Wire
 pub mod Cell
+pub mod Tree
+pub mod Process

@@ -15,10 +15,12 @@ mod limits;
 mod number;
 mod open_cell;
 mod open_module;
+mod open_process;
 mod options;
 mod read_fault;
 mod signal;
 mod stack;
+mod tree;
 mod wire;
 mod word;
 
