@@ -5,3 +5,13 @@
 mod bits;
 #[cfg(test)]
 mod lists;
+#[cfg(test)]
+mod names;
+#[cfg(test)]
+mod records;
+#[cfg(test)]
+mod signals;
+#[cfg(test)]
+mod spelled;
+#[cfg(test)]
+mod tables;
