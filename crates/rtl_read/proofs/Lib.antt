@@ -1,3 +1,11 @@
+pub mod Viable
+pub mod Table
+pub mod Reading
+pub mod Exactly
+pub mod Closed
+pub mod Stacks
+pub mod Signals
+pub mod Faults
 pub mod NumberLemmas
 pub mod WireLemmas
 pub mod CellLemmas

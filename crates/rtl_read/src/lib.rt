@@ -4,13 +4,29 @@
 //! whole wires.
 #![tactic(auto)]
 
+mod attributes;
 mod cell;
+mod constant;
+mod expect;
 mod fault;
 mod form;
+mod grammar;
+mod limits;
 mod number;
+mod open_cell;
+mod open_module;
+mod open_process;
+mod options;
+mod read_fault;
+mod signal;
+mod stack;
+mod tree;
 mod wire;
 mod word;
 
+pub use expect::Expect;
 pub use fault::FormFault;
 pub use form::read_first_form;
+pub use grammar::after;
 pub use number::{decimal_within, is_digits};
+pub use read_fault::ReadFault;

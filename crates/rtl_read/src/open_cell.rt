@@ -1,0 +1,108 @@
+//! The cell that is open.
+
+ghost use Rattle.std.specs.Prelude.{◌≡◌, OnOk};
+ghost use Rattle.rtl_lex.specs.Items.{as_seen};
+ghost use Rattle.rtl_read.specs.Gives.{Sets};
+ghost use Rattle.rtl_read.specs.Meaning.Cell.{plain_cell, with_kind, with_cell_name, with_param_name, with_pin_name, with_param, with_pin};
+
+use crate::read_fault::ReadFault;
+use crate::signal::find;
+use rtl_bits::{Memory, Seq, Text};
+use rtl_ir::{Attribute, Cell, CellParam, Pin, Value};
+use rtl_lex::Item;
+use rtl_sig::{Names, SigSpec};
+use std::alloc::Global;
+use std::mem;
+
+/// A cell, and the names of its parameters and pins.
+#[derive(Drop)]
+pub struct OpenCell {
+    pub cell: Cell,
+    pub params: Names,
+    pub pins: Names,
+    /// The name of the parameter or pin that is open.
+    pub name: Text,
+    /// Whether `signed` stands before it.
+    pub signed: bool,
+}
+
+/// A cell with these attributes, in which there is nothing yet.
+pub fn plain_cell(alloc: Global, attributes: Seq<Attribute>) -> OpenCell
+    ensures { result ≡ plain_cell attributes }
+{
+    OpenCell {
+        cell: Cell {
+            kind_name: Text::make(alloc),
+            name: Text::make(alloc),
+            params: Seq::make(alloc),
+            pins: Seq::make(alloc),
+            attributes,
+        },
+        params: Names::make(alloc),
+        pins: Names::make(alloc),
+        name: Text::make(alloc),
+        signed: false,
+    }
+}
+
+impl OpenCell {
+    /// Its type.
+    pub fn set_kind(&mut self, alloc: Global, item: &Item<'_>) -> Result<(), Memory>
+        ensures { OnOk result (self.new ≡ with_kind (as_seen item.now) self.old) }
+    {
+        self.cell.kind_name = Text::from_slice(alloc, item.text)?;
+        Ok(())
+    }
+
+    /// Its name.
+    pub fn set_name(&mut self, alloc: Global, item: &Item<'_>) -> Result<(), Memory>
+        ensures { OnOk result (self.new ≡ with_cell_name (as_seen item.now) self.old) }
+    {
+        self.cell.name = Text::from_slice(alloc, item.text)?;
+        Ok(())
+    }
+
+    /// The name of a parameter.
+    pub fn param_name(&mut self, alloc: Global, item: &Item<'_>) -> Result<(), ReadFault>
+        ensures { Sets result self.new (with_param_name (as_seen item.now) self.old) }
+    {
+        if find(&self.params, item.text).is_some() {
+            return Err(ReadFault::Duplicate(item.place));
+        }
+        self.params.intern(item.text)?;
+        self.name = Text::from_slice(alloc, item.text)?;
+        Ok(())
+    }
+
+    /// The name of a pin.
+    pub fn pin_name(&mut self, alloc: Global, item: &Item<'_>) -> Result<(), ReadFault>
+        ensures { Sets result self.new (with_pin_name (as_seen item.now) self.old) }
+    {
+        if find(&self.pins, item.text).is_some() {
+            return Err(ReadFault::Duplicate(item.place));
+        }
+        self.pins.intern(item.text)?;
+        self.name = Text::from_slice(alloc, item.text)?;
+        Ok(())
+    }
+
+    /// The value of the parameter whose name stands last.
+    pub fn add_param(&mut self, alloc: Global, value: Value) -> Result<(), Memory>
+        ensures { OnOk result (self.new ≡ with_param value self.old) }
+    {
+        let name = mem::replace(&mut self.name, Text::make(alloc));
+        self.cell.params.push(CellParam {
+            name,
+            value,
+            signed: self.signed,
+        })
+    }
+
+    /// The signal of the pin whose name stands last.
+    pub fn add_pin(&mut self, alloc: Global, sig: SigSpec) -> Result<(), Memory>
+        ensures { OnOk result (self.new ≡ with_pin sig self.old) }
+    {
+        let name = mem::replace(&mut self.name, Text::make(alloc));
+        self.cell.pins.push(Pin { name, sig })
+    }
+}

@@ -1,0 +1,129 @@
+//! The module that is open.
+
+ghost use Rattle.std.specs.Prelude.{◌≡◌, IfOk, OnOk, Ok};
+ghost use Rattle.rtl_lex.specs.Items.{as_seen};
+ghost use Rattle.rtl_read.specs.Gives.{Sets};
+ghost use Rattle.rtl_read.specs.Meaning.Module.{fresh_module, is_taken, with_item_name, with_wire, with_store, with_parameter, with_cell, with_process, with_link};
+
+use crate::limits::MAX_BITS;
+use crate::read_fault::ReadFault;
+use crate::signal::find;
+use rtl_bits::{Memory, Seq, Text};
+use rtl_ir::{Attribute, Cell, Link, Module, Parameter, Process, Store, Value, Wire};
+use rtl_lex::Item;
+use rtl_sig::Names;
+use std::alloc::Global;
+
+/// A module's body, and the names that its items have.
+#[derive(Drop)]
+pub struct OpenModule {
+    pub body: Module,
+    /// The names of its wires, in their order.
+    pub wire_names: Names,
+    /// The names of its memories, cells and processes.
+    pub other_names: Names,
+    /// The bits of its wires.
+    pub bits: usize,
+}
+
+/// A module of this name with these attributes, in which there is nothing yet.
+pub fn fresh_module(alloc: Global, id: Text, attributes: Seq<Attribute>) -> OpenModule
+    ensures { result ≡ fresh_module id attributes }
+{
+    OpenModule {
+        body: Module {
+            id,
+            attributes,
+            parameters: Seq::make(alloc),
+            wires: Seq::make(alloc),
+            memories: Seq::make(alloc),
+            cells: Seq::make(alloc),
+            processes: Seq::make(alloc),
+            links: Seq::make(alloc),
+        },
+        wire_names: Names::make(alloc),
+        other_names: Names::make(alloc),
+        bits: 0,
+    }
+}
+
+impl OpenModule {
+    /// Whether a wire, a memory, a cell or a process has this name.
+    fn is_taken(&self, name: &[u8]) -> bool
+        ensures { result ≡ is_taken name.now self.now }
+    {
+        find(&self.wire_names, name).is_some() || find(&self.other_names, name).is_some()
+    }
+
+    /// Takes the name of a memory, a cell or a process.
+    pub fn take_name(&mut self, item: &Item<'_>) -> Result<(), ReadFault>
+        ensures { Sets result self.new (with_item_name (as_seen item.now) self.old) }
+    {
+        if self.is_taken(item.text) {
+            return Err(ReadFault::Duplicate(item.place));
+        }
+        self.other_names.intern(item.text)?;
+        Ok(())
+    }
+
+    /// Adds a wire, by its name.
+    pub fn add_wire(&mut self, alloc: Global, item: &Item<'_>, wire: Wire) -> Result<(), ReadFault>
+        ensures { Sets result self.new (with_wire (as_seen item.now) wire self.old) }
+    {
+        if self.is_taken(item.text) {
+            return Err(ReadFault::Duplicate(item.place));
+        }
+        let width = wire.width as usize;
+        if self.bits > MAX_BITS || width > MAX_BITS - self.bits {
+            return Err(ReadFault::Limit(item.place));
+        }
+        let mut wire = wire;
+        wire.name = Text::from_slice(alloc, item.text)?;
+        self.body.wires.push(wire)?;
+        self.wire_names.intern(item.text)?;
+        self.bits += width;
+        Ok(())
+    }
+
+    /// Adds a memory, by its name.
+    pub fn add_store(
+        &mut self,
+        alloc: Global,
+        item: &Item<'_>,
+        store: Store,
+    ) -> Result<(), ReadFault>
+        ensures { Sets result self.new (with_store (as_seen item.now) store self.old) }
+    {
+        if let Err(fault) = self.take_name(item) {
+            return Err(fault);
+        }
+        let mut store = store;
+        store.name = Text::from_slice(alloc, item.text)?;
+        self.body.memories.push(store)?;
+        Ok(())
+    }
+
+    pub fn add_parameter(&mut self, name: Text, value: Option<Value>) -> Result<(), Memory>
+        ensures { OnOk result (self.new ≡ with_parameter name value self.old) }
+    {
+        self.body.parameters.push(Parameter { name, value })
+    }
+
+    pub fn add_cell(&mut self, cell: Cell) -> Result<(), Memory>
+        ensures { OnOk result (self.new ≡ with_cell cell self.old) }
+    {
+        self.body.cells.push(cell)
+    }
+
+    pub fn add_process(&mut self, process: Process) -> Result<(), Memory>
+        ensures { OnOk result (self.new ≡ with_process process self.old) }
+    {
+        self.body.processes.push(process)
+    }
+
+    pub fn add_link(&mut self, link: Link) -> Result<(), Memory>
+        ensures { OnOk result (self.new ≡ with_link link self.old) }
+    {
+        self.body.links.push(link)
+    }
+}

@@ -1,0 +1,80 @@
+//! A stack.
+
+ghost use Rattle.std.specs.Prelude.{◌≡◌, [], ◌∷◌, ◌++◌, OnOk, MatchOption, length};
+
+use rtl_bits::Memory;
+use std::alloc::Global;
+use std::marker::Model;
+
+/// A stack, which contracts see as a list with its top first.
+#[derive(Drop)]
+pub struct Stack<T> {
+    items: Vec<T>,
+}
+
+impl<T> Model for Stack<T> {
+    ghost use Rattle.std.specs.Prelude.{List, reverse};
+
+    ghost Value = { List T };
+
+    ghost view = { λ stack. reverse stack.items.items };
+}
+
+impl<T> Stack<T> {
+    /// The empty stack. It takes no memory.
+    pub fn make(alloc: Global) -> Stack<T>
+        ensures value { result ≡ [] }
+    {
+        Stack {
+            items: Vec::new(alloc),
+        }
+    }
+
+    /// How many items there are.
+    pub fn depth(&self) -> usize
+        ensures value { result ≡ length self.now }
+    {
+        self.items.len()
+    }
+
+    /// Puts an item on top.
+    #[tactic(auto, using(crate::proofs::Stacks::reverse_last))]
+    pub fn push(&mut self, item: T) -> Result<(), Memory>
+    where
+        T: Drop,
+        ensures ok { OnOk result (self.new ≡ item ∷ self.old) }
+    {
+        self.items.push(item)?;
+        Ok(())
+    }
+
+    /// Takes the top off, if there is one.
+    #[tactic(auto, using(crate::proofs::Stacks::reverse_last, crate::proofs::Stacks::none_left))]
+    pub fn pop(&mut self) -> Option<T>
+        ensures value { MatchOption result ((self.old ≡ []) × (self.new ≡ [])) (λ top. self.old ≡ top ∷ self.new) }
+    {
+        self.items.pop()
+    }
+
+    /// The items from the top down, without taking memory.
+    pub fn into_vec(self) -> Vec<T>
+        ensures value { result.items ≡ self }
+    {
+        let Stack { mut items } = self;
+        items.reverse();
+        items
+    }
+}
+
+impl<T: Copy + Drop> Stack<T> {
+    /// Puts these items on top, the first of them last.
+    #[tactic(auto, using(crate::proofs::Stacks::drop_here))]
+    pub fn cover(&mut self, items: &[T]) -> Result<(), Memory>
+        ensures ok { OnOk result (self.new ≡ items.now ++ self.old) }
+    {
+        for at in (0..items.len()).rev() {
+            self.push(items[at])?;
+        }
+        Ok(())
+    }
+}
