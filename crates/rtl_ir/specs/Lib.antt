@@ -2,3 +2,4 @@ pub mod Tree
 pub mod TreeCode
 pub mod Empty
 pub mod Ports
+pub mod Flat
