@@ -1,0 +1,1 @@
+//! Laws of settling, of runs and of refinement.
