@@ -1,0 +1,9 @@
+pub mod Members
+pub mod Settling
+pub mod Running
+pub mod Places
+pub mod Orders
+pub mod Drivers
+pub mod Reaching
+pub mod Instances
+pub mod Relating

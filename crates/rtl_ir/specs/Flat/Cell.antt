@@ -1,5 +1,5 @@
 -- The rows of cells: combinational cells, storage cells, and instances.
-use Rattle.std.specs.Prelude.{ℕ, suc, List, [], ◌∷◌, ◌++◌, map, Option, Some, None, codes}
+use Rattle.std.specs.Prelude.{ℕ, suc, List, [], ◌∷◌, ◌++◌, map, Option, Some, None}
 use Rattle.rtl_bits.specs.declared.bit.Bit.{Bit}
 use Rattle.rtl_sig.specs.declared.sig.SigBit.{SigBit}
 use Rattle.cell_types.specs.declared.kind.CellKind.{CellKind}
@@ -7,6 +7,7 @@ use Rattle.cell_types.specs.declared.kind.CellKind.TheVariants.{Word, Gate, Stor
 use Rattle.cell_types.specs.declared.pin_name.PinName.TheVariants.{A, B, S, Y, Clk, En, Arst, Srst, Aload, Set, Clr, Ad, D, Q, C, E, R, L}
 use Rattle.cell_types.specs.declared.shape.Shape.{Shape}
 use Rattle.cell_types.specs.Kind.{kind_of}
+use Rattle.cell_types.specs.PinName.{pin_text}
 use Rattle.cell_types.specs.Shape.{made_shape}
 use Rattle.rtl_ir.specs.declared.cell.Cell.{Cell}
 use Rattle.rtl_ir.specs.declared.cell.CellParam.{CellParam}
@@ -97,7 +98,7 @@ stores start shape pins (s ∷ signal) (Constant b ∷ qs) at = stores start sha
 -- a storage cell drives its pin Q
 abbrev pub stored_rows : (SigBit → Bit) → Path → List Wire → List Pin → Shape → (ℕ → StorePoints) → List Driven
 stored_rows start p wires pins shape reads =
-    stores start shape reads (signal_at pins (codes "\\Q")) (pin_points p wires pins Q) 0
+    stores start shape reads (signal_at pins (pin_text Q)) (pin_points p wires pins Q) 0
 
 -- a cell of the library; the cells of memories have their rows with the memory
 abbrev pub kind_rows : (SigBit → Bit) → Path → List Wire → Cell → CellKind → List Driven
