@@ -7,3 +7,6 @@ pub mod Drivers
 pub mod Reaching
 pub mod Instances
 pub mod Relating
+pub mod WellDriven
+pub mod Composing
+pub mod Lifted
