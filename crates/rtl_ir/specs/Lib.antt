@@ -2,3 +2,13 @@ pub mod Tree
 pub mod TreeCode
 pub mod Empty
 pub mod Ports
+pub mod Constants
+pub mod Signals
+pub mod Types
+pub mod Outputs
+pub mod Follow
+pub mod SwitchRules
+pub mod Assigns
+pub mod Rules
+pub mod Drivers
+pub mod Decisions
