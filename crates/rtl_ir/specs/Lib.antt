@@ -12,3 +12,9 @@ pub mod Assigns
 pub mod Rules
 pub mod Drivers
 pub mod Decisions
+pub mod Parameters
+pub mod WritePorts
+pub mod EventTests
+pub mod Fault
+pub mod Scope
+pub mod Faults
