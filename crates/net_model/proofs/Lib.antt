@@ -10,3 +10,4 @@ pub mod Relating
 pub mod WellDriven
 pub mod Composing
 pub mod Lifted
+pub mod Settled
