@@ -11,3 +11,4 @@ pub mod WellDriven
 pub mod Composing
 pub mod Lifted
 pub mod Settled
+pub mod Worked

@@ -1,5 +1,5 @@
 -- The rows of cells: combinational cells, storage cells, and instances.
-use Rattle.std.specs.Prelude.{ℕ, suc, List, [], ◌∷◌, ◌++◌, map, Option, Some, None}
+use Rattle.std.specs.Prelude.{ℕ, suc, List, [], ◌∷◌, ◌++◌, Option, Some, None}
 use Rattle.rtl_bits.specs.declared.bit.Bit.{Bit}
 use Rattle.rtl_sig.specs.declared.sig.SigBit.{SigBit}
 use Rattle.cell_types.specs.declared.kind.CellKind.{CellKind}
@@ -19,8 +19,8 @@ use Rattle.rtl_ir.specs.declared.wire.Wire.{Wire}
 use Rattle.rtl_ir.specs.Flat.Driver.{StorePoints, Driven, Worked, Stored}
 use Rattle.rtl_ir.specs.Flat.Link.{joins}
 use Rattle.rtl_ir.specs.Flat.Place.{Frame, frame, Path}
-use Rattle.rtl_ir.specs.Flat.Point.{Point, Constant, At, point_at, pin_points, points, signal_at, wire_points}
-use Rattle.rtl_ir.specs.Flat.Value.{param_of}
+use Rattle.rtl_ir.specs.Flat.Point.{Point, Constant, At, point_at, pin_points, points, wire_points}
+use Rattle.rtl_ir.specs.Parameters.{given_params, signal_at}
 
 -- the kind of a cell of the library, None for an instance
 unfoldable pub cell_kind : Cell → Option CellKind
@@ -28,7 +28,7 @@ cell_kind c = kind_of c.kind_name
 
 -- the shape of a cell of this kind with these parameters
 unfoldable pub cell_shape : CellKind → List CellParam → Shape
-cell_shape kind params = made_shape kind (map param_of params)
+cell_shape kind params = made_shape kind (given_params params)
 
 -- the instance that a cell is, where it is one
 abbrev pub instance_of : Cell → Option CellKind → Option Frame

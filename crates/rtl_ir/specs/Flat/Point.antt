@@ -9,7 +9,9 @@ use Rattle.cell_types.specs.declared.pin_name.PinName.{PinName}
 use Rattle.cell_types.specs.PinName.{pin_text}
 use Rattle.rtl_ir.specs.declared.cell.Pin.{Pin}
 use Rattle.rtl_ir.specs.declared.wire.Wire.{Wire}
+use Rattle.rtl_sig.specs.declared.sig.WireBit.{WireBit}
 use Rattle.rtl_ir.specs.Flat.Place.{Path, Place, wire_place}
+use Rattle.rtl_ir.specs.Parameters.{signal_at}
 
 -- a constant, or a bit
 pub data Point : Type 0 where
@@ -21,10 +23,14 @@ abbrev pub name_or_empty : Option Wire → List ℕ
 name_or_empty (Some w) = w.name
 name_or_empty None = []
 
+-- a bit of a wire, in a module with these wires at this path
+abbrev pub bit_place : Path → List Wire → WireBit → Place
+bit_place p wires b = wire_place p (name_or_empty (slice_get wires b.wire)) b.at
+
 -- a bit of a signal, in a module with these wires at this path
 abbrev pub point : Path → List Wire → SigBit → Point
 point p wires (Fixed b) = Constant b
-point p wires (OnWire b) = At (wire_place p (name_or_empty (slice_get wires b.wire)) b.at)
+point p wires (OnWire b) = At (bit_place p wires b)
 
 -- the bits of a signal
 abbrev pub points : Path → List Wire → List SigBit → List Point
@@ -34,11 +40,6 @@ points p wires (s ∷ signal) = point p wires s ∷ points p wires signal
 -- the point at a place of a list, past its end the constant x
 abbrev pub point_at : List Point → ℕ → Point
 point_at ps at = slice_index_or ps at (Constant X)
-
--- the signal at the pin of this name, no bits where there is no such pin
-abbrev pub signal_at : List Pin → List ℕ → List SigBit
-signal_at [] name = []
-signal_at (pin ∷ pins) name = cond (bytes_eq pin.name name) pin.sig (signal_at pins name)
 
 -- the points at a pin of a cell of the library
 abbrev pub pin_points : Path → List Wire → List Pin → PinName → List Point
