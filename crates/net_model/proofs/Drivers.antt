@@ -1,69 +1,51 @@
 -- Every driver keeps both orders of knowledge, over time too, and speaks of the bits that it reads alone.
-use Rattle.std.proofs.Common.{◌≡◌, ℕ, zero, suc, Bool, List, [], ◌∷◌, ◌++◌, refl, sym, ap, subst, inl, inr}
-use Rattle.std.specs.Prelude.{map, slice_index_or}
+use Rattle.std.proofs.Common.{◌≡◌, ℕ, Bool, true, false, List, [], ◌∷◌, refl, sym, subst, inl, inr}
+use Rattle.std.specs.Prelude.{slice_index_or}
 use Rattle.rtl_bits.specs.declared.bit.Bit.{Bit}
 use Rattle.rtl_bits.specs.declared.bit.Bit.TheVariants.{X}
-use Rattle.rtl_bits.specs.Knowledge.{Placewise}
 use Rattle.cell_types.specs.declared.kind.CellKind.{CellKind}
 use Rattle.cell_types.specs.declared.kind.CellKind.TheVariants as Cell
+use Rattle.cell_types.specs.declared.level.Level.{Level}
+use Rattle.cell_types.specs.declared.level.Level.TheVariants.{Low, High}
 use Rattle.cell_types.specs.declared.shape.Shape.{Shape}
-use Rattle.cell_word.specs.Values.{InputsBelow, input_of}
+use Rattle.cell_word.specs.Values.{InputsBelow}
+use Rattle.cell_gate.specs.Control.{active_of, was_of}
 use Rattle.cell_gate.specs.Storage.{PinsBelow}
 use Rattle.rtl_ir.specs.Flat.Place.{Place}
-use Rattle.rtl_ir.specs.Flat.Point.{Point, Constant, At}
-use Rattle.rtl_ir.specs.Flat.Driver.{StorePoints, Driver, Nothing, Given, Joined, Worked, Stored, Driven}
-use Rattle.rtl_ir.specs.Flat.Tree.{places}
-use Rattle.rtl_ir.specs.Flat.Reads.{words_places, store_list, reads}
+use Rattle.rtl_ir.specs.Flat.Point.{Point, At}
+use Rattle.rtl_ir.specs.Flat.Driver.{StorePoints, Driver, Nothing, Given, Joined, Worked, Stored, Decided, Held, Raced, Remembered, Fetched, Driven}
+use Rattle.rtl_ir.specs.Flat.Reads.{store_list, read_points, reads}
 use Rattle.net_model.specs.Lists.{In}
 use Rattle.net_model.specs.Settle.{Pointwise, KeepsOrder}
 use Rattle.net_model.specs.Run.{Time, Start, Step, TimeBelow}
-use Rattle.net_model.specs.Value.{Valuation, read, read_all, read_words, gate_input, worked_of, pins_of, value_of, meaning, meanings}
-use Rattle.net_model.proofs.Members.{In-left, In-right, In-mapped}
+use Rattle.net_model.specs.Valuation.{Valuation, read}
+use Rattle.net_model.specs.Value.{worked_of, pins_of, edge_at, level_bit, value_of, meaning, meanings}
+use Rattle.net_model.proofs.Members.{In-mapped}
 use Rattle.net_model.proofs.Orders.{Kept}
+use Rattle.net_model.proofs.Reading.{BelowOn as BelowAt, PointsOn, points_on, on_left, on_right, word_on, words_on, at_kept}
+use Rattle.net_model.proofs.Choosing.{picked_kept, holds_kept, held_kept}
+use Rattle.net_model.proofs.Racing.{raced_kept}
+use Rattle.net_model.proofs.Writing.{pick_kept, ports_kept, fetched_kept}
 use Rattle.net_model.proofs.Running.{AlwaysMonotone}
 
 module _ (order : Bit → Bit → Type 0) (k : Kept order) where
   -- two valuations stand in the order at these bits
   abbrev pub BelowOn : List Place → Valuation → Valuation → Type 0
-  BelowOn qs v w = (q : Place) → In q qs → order (v q) (w q)
+  BelowOn = BelowAt order k
 
   -- the same step of two runs, where the valuations before stand in the order at these bits
   abbrev pub TimeOn : List Place → Time Place → Time Place → Type 0
   TimeOn qs Start Start = Unit {0}
-  TimeOn qs (Step v x f) (Step w y g) = BelowOn qs v w × (x ≡ y) × (f ≡ g)
+  TimeOn qs (Step v x f) (Step w y g) = BelowAt order k qs v w × (x ≡ y) × (f ≡ g)
   TimeOn qs Start (Step w y g) = ⊥
   TimeOn qs (Step v x f) Start = ⊥
 
-  point_on : (v w : Valuation) (ps : List Point) → BelowOn (places ps) v w → (s : Point) → In s ps → order (read v s) (read w s)
-  point_on v w [] h s i = absurd i
-  point_on v w (Constant b ∷ ps) h s (inl e) = subst (λ z. order (read v z) (read w z)) (sym e) (k.bits.self b)
-  point_on v w (At q ∷ ps) h s (inl e) = subst (λ z. order (read v z) (read w z)) (sym e) (h q (inl refl))
-  point_on v w (Constant b ∷ ps) h s (inr i) = point_on v w ps h s i
-  point_on v w (At q ∷ ps) h s (inr i) = point_on v w ps (λ r j. h r (inr j)) s i
-
-  all_on : (v w : Valuation) (ps : List Point) → BelowOn (places ps) v w → Placewise order (read_all v ps) (read_all w ps)
-  all_on v w [] h = tt
-  all_on v w (Constant b ∷ ps) h = (k.bits.self b, all_on v w ps h)
-  all_on v w (At q ∷ ps) h = (h q (inl refl), all_on v w ps (λ r j. h r (inr j)))
-
-  pub at_kept : (as' bs : List Bit) → Placewise order as' bs → (at : ℕ) (d : Bit) → order (slice_index_or as' at d) (slice_index_or bs at d)
-  at_kept [] [] h at d = k.bits.self d
-  at_kept (a ∷ as') (b ∷ bs) h zero d = h.0
-  at_kept (a ∷ as') (b ∷ bs) h (suc at) d = at_kept as' bs h.1 at d
-  at_kept [] (b ∷ bs) h at d = absurd h
-  at_kept (a ∷ as') [] h at d = absurd h
-
-  words_on : (v w : Valuation) (words : List (List Point)) → BelowOn (words_places words) v w → InputsBelow order (read_words v words) (read_words w words)
-  words_on v w [] h at = tt
-  words_on v w (s ∷ words) h zero = all_on v w s (λ q i. h q (In-left q (places s) (words_places words) i))
-  words_on v w (s ∷ words) h (suc at) = words_on v w words (λ q i. h q (In-right q (places s) (words_places words) i)) at
-
   worked_kept : (kind : CellKind) (shape : Shape) (at : ℕ) (low high : List (List Bit)) → InputsBelow order low high → order (worked_of kind shape low at) (worked_of kind shape high at)
   worked_kept (Cell.Gate gate) shape at low high h =
-      k.gates gate _ _ _ _ _ _ (at_kept _ _ (h 0) 0 X) (at_kept _ _ (h 1) 0 X) (at_kept _ _ (h 2) 0 X)
-  worked_kept kind shape at low high h = at_kept _ _ (k.words shape low high h) at X
+      k.gates gate _ _ _ _ _ _ (at_kept order k _ _ (h 0) 0 X) (at_kept order k _ _ (h 1) 0 X) (at_kept order k _ _ (h 2) 0 X)
+  worked_kept kind shape at low high h = at_kept order k _ _ (k.words shape low high h) at X
 
-  pins_on : (v w : Valuation) (s : StorePoints) (own : Place) → BelowOn (own ∷ places (store_list s)) v w → PinsBelow order (pins_of v s own) (pins_of w s own)
+  pins_on : (v w : Valuation) (s : StorePoints) (own : Place) → PointsOn order k (At own ∷ store_list s) v w → PinsBelow order (pins_of v s own) (pins_of w s own)
   pins_on v w s own h = record {
     clk = at s.clk (inl refl);
     en = at s.en (inr (inl refl));
@@ -74,23 +56,72 @@ module _ (order : Bit → Bit → Type 0) (k : Kept order) where
     set = at s.set (inr (inr (inr (inr (inr (inr (inl refl)))))));
     clr = at s.clr (inr (inr (inr (inr (inr (inr (inr (inl refl))))))));
     d = at s.d (inr (inr (inr (inr (inr (inr (inr (inr (inl refl)))))))));
-    q = h own (inl refl);
+    q = h (At own) (inl refl);
   }
     where
       at : (p : Point) → In p (store_list s) → order (read v p) (read w p)
-      at p i = point_on v w (store_list s) (λ q j. h q (inr j)) p i
+      at p i = h p (inr i)
+
+  active_kept : (level : Level) (a b : Bit) → order a b → order (active_of level a) (active_of level b)
+  active_kept High a b h = k.bits.seen a b h
+  active_kept Low a b h = k.bits.not a b h
+
+  was_kept : (first : Bool) (a b : Bit) → order a b → order (was_of first a) (was_of first b)
+  was_kept true a b h = k.bits.self X
+  was_kept false a b h = h
+
+  edge_kept : (a b v w : Valuation) (first : Bool) (s : Point) (level : Level) → order (read a s) (read b s) → order (read v s) (read w s) → order (edge_at a v first s level) (edge_at b w first s level)
+  edge_kept a b v w first s level h i =
+      k.bits.and _ _ _ _ (k.bits.not _ _ (active_kept level _ _ (was_kept first _ _ h))) (active_kept level _ _ i)
+
+  -- a driver keeps the order in the points that it reads, in a step of two runs with the same inputs
+  step_on : (d : Driver) (x : List Bit) (f : Bool) (a b : Valuation) → PointsOn order k (read_points d) a b → (v w : Valuation) → PointsOn order k (read_points d) v w → order (value_of d (Step a x f) v) (value_of d (Step b x f) w)
+  step_on Nothing x f a b e v w h = k.bits.self X
+  step_on (Given at) x f a b e v w h = k.bits.self (slice_index_or x at X)
+  step_on (Joined from) x f a b e v w h = k.passed _ _ (h from (inl refl))
+  step_on (Worked shape inputs at) x f a b e v w h = worked_kept shape.kind shape at _ _ (words_on order k v w inputs h)
+  step_on (Stored start shape at pins own) x f a b e v w h =
+      k.storage shape at f _ _ _ _ (pins_on a b pins own e) (pins_on v w pins own h)
+  step_on (Decided tree) x f a b e v w h = picked_kept order k v w X X (k.bits.self X) tree h
+  step_on (Held start value tree own) x f a b e v w h =
+      held_kept order k _ _ _ _ _ _ (holds_kept order k own v w tree (λ s i. h s (inr (inr i)))) (e (At own) (inl refl)) (h value (inr (inl refl)))
+  step_on (Raced start clock clock_level reset reset_level tree own) x f a b e v w h =
+      let before : PointsOn order k _ a b = λ s i. e s (inr (inr (inr i))) in
+      let was = e reset (inr (inr (inl refl))) in
+      let is = h reset (inr (inr (inl refl))) in
+      raced_kept order k _ _ _ _ _ _ _ _ _ _ _ _
+      (edge_kept a b v w f clock clock_level (e clock (inr (inl refl))) (h clock (inr (inl refl))))
+      (edge_kept a b v w f reset reset_level was is)
+      (picked_kept order k a b _ _ (was_kept f _ _ was) tree before)
+      (picked_kept order k a b _ _ is tree before)
+      (picked_kept order k a b _ _ (k.bits.self (level_bit reset_level)) tree before)
+      (e (At own) (inl refl))
+  step_on (Remembered start clock level address ports own) x f a b e v w h =
+      let old = e (At own) (inl refl) in
+      pick_kept order k _ _ _ _ _ _
+      (edge_kept a b v w f clock level (e clock (inr (inl refl))) (h clock (inr (inl refl))))
+      (ports_kept order k a b address ports [] [] _ _ tt (λ s i. e s (inr (inr i))) old) old
+  step_on (Fetched address first words) x f a b e v w h =
+      fetched_kept order k _ _ first _ _ (word_on order k v w address (on_left order k v w address words h)) (word_on order k v w words (on_right order k v w address words h))
+
+  start_on : (d : Driver) (v w : Valuation) → PointsOn order k (read_points d) v w → order (value_of d Start v) (value_of d Start w)
+  start_on Nothing v w h = k.bits.self X
+  start_on (Given at) v w h = k.bits.self X
+  start_on (Joined from) v w h = k.passed _ _ (h from (inl refl))
+  start_on (Worked shape inputs at) v w h = worked_kept shape.kind shape at _ _ (words_on order k v w inputs h)
+  start_on (Stored start shape at pins own) v w h = k.bits.self start
+  start_on (Decided tree) v w h = picked_kept order k v w X X (k.bits.self X) tree h
+  start_on (Held start value tree own) v w h = k.bits.self start
+  start_on (Raced start clock clock_level reset reset_level tree own) v w h = k.bits.self start
+  start_on (Remembered start clock level address ports own) v w h = k.bits.self start
+  start_on (Fetched address first words) v w h =
+      fetched_kept order k _ _ first _ _ (word_on order k v w address (on_left order k v w address words h)) (word_on order k v w words (on_right order k v w address words h))
 
   -- a driver keeps the order in the bits that it reads, before and now
   pub value_on : (d : Driver) (t u : Time Place) → TimeOn (reads d) t u → (v w : Valuation) → BelowOn (reads d) v w → order (value_of d t v) (value_of d u w)
-  value_on Nothing t u e v w h = k.bits.self X
-  value_on (Given at) Start Start e v w h = k.bits.self X
-  value_on (Given at) (Step a x f) (Step b y g) e v w h =
-      subst (λ z. order (slice_index_or x at X) (slice_index_or z at X)) e.1 (k.bits.self (slice_index_or x at X))
-  value_on (Joined from) t u e v w h = k.passed _ _ (point_on v w (from ∷ []) h from (inl refl))
-  value_on (Worked shape inputs at) t u e v w h = worked_kept shape.kind shape at _ _ (words_on v w inputs h)
-  value_on (Stored start shape at pins own) Start Start e v w h = k.bits.self start
-  value_on (Stored start shape at pins own) (Step a x f) (Step b y g) e v w h =
-      subst (λ z. order (value_of (Stored start shape at pins own) (Step a x f) v) (value_of (Stored start shape at pins own) (Step b y z) w)) e.2 (k.storage shape at f _ _ _ _ (pins_on a b pins own e.0) (pins_on v w pins own h))
+  value_on d Start Start e v w h = start_on d v w (points_on order k v w (read_points d) h)
+  value_on d (Step a x f) (Step b y g) e v w h =
+      subst (λ z. order (value_of d (Step a x f) v) (value_of d (Step b y z) w)) e.2 (subst (λ z. order (value_of d (Step a x f) v) (value_of d (Step b z f) w)) e.1 (step_on d x f a b (points_on order k a b (read_points d) e.0) v w (points_on order k v w (read_points d) h)))
   value_on d Start (Step b y g) e v w h = absurd e
   value_on d (Step a x f) Start e v w h = absurd e
 

@@ -1,5 +1,5 @@
 -- Rows of instances, found in a module and put back into one; and rows that speak only of the ports of the instances.
-use Rattle.std.proofs.Common.{◌≡◌, ℕ, zero, suc, List, [], ◌∷◌, ◌++◌, Option, Some, None, inl, inr, ⊎_elim, refl, sym, ◌∙◌, ap, subst}
+use Rattle.std.proofs.Common.{◌≡◌, List, [], ◌∷◌, ◌++◌, Option, Some, None, inl, inr, ⊎_elim, refl, sym, ◌∙◌, ap, subst}
 use Rattle.rtl_bits.specs.declared.bit.Bit.{Bit}
 use Rattle.rtl_sig.specs.declared.sig.SigBit.{SigBit}
 use Rattle.cell_types.specs.declared.kind.CellKind.{CellKind}
@@ -9,11 +9,10 @@ use Rattle.rtl_ir.specs.declared.module.Module.{Module}
 use Rattle.rtl_ir.specs.declared.wire.Wire.{Wire}
 use Rattle.rtl_ir.specs.Flat.Cell.{cell_kind, instance_of, listed, instances, instance_rows, Ports, cell_rows, cells_rows}
 use Rattle.rtl_ir.specs.Flat.Driver.{Driven}
-use Rattle.rtl_ir.specs.Flat.Link.{link_rows}
 use Rattle.rtl_ir.specs.Flat.Place.{Frame, frame, Path}
-use Rattle.rtl_ir.specs.Flat.Rows.{rows_of}
+use Rattle.rtl_ir.specs.Flat.Rows.{plain_rows, rows_of}
 use Rattle.rtl_ir.specs.Flat.Tree.{named, in_module, in_instances}
-use Rattle.rtl_ir.specs.Flat.Value.{start_bit}
+use Rattle.rtl_ir.specs.Flat.Start.{start_of}
 use Rattle.net_model.specs.Lists.{In}
 use Rattle.net_model.specs.Refine.{AgreeOn}
 use Rattle.net_model.proofs.Members.{In-left, In-right, In-cases}
@@ -61,7 +60,7 @@ cells_agree start ports ports' p wires (c ∷ cs) h =
 
 pub rows_agree : (ports ports' : Ports) (p : Path) (m : Module) → AgreeOn ports ports' (instances m.cells) → rows_of ports p m ≡ rows_of ports' p m
 rows_agree ports ports' p m h =
-    ap (λ z. z ++ link_rows p m.wires m.links) (cells_agree (start_bit m.wires) ports ports' p m.wires m.cells h)
+    ap (λ z. z ++ plain_rows p m) (cells_agree (start_of m.wires m.processes) ports ports' p m.wires m.cells h)
 
 pub agree_at : (ports ports' : Ports) (frames : List Frame) → AgreeOn ports ports' frames → (f : Frame) → In f frames → ports f.module_name ≡ ports' f.module_name
 agree_at ports ports' [] a f i = absurd i

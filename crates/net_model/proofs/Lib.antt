@@ -3,7 +3,15 @@ pub mod Settling
 pub mod Running
 pub mod Places
 pub mod Orders
+pub mod Reading
+pub mod Choosing
+pub mod Racing
+pub mod Writing
 pub mod Drivers
+pub mod Own
+pub mod OwnCells
+pub mod OwnProcesses
+pub mod OwnMemories
 pub mod Reaching
 pub mod Instances
 pub mod Relating

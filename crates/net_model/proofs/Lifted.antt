@@ -1,5 +1,5 @@
 -- From what a pass owes to refinement in any two designs that differ in its module.
-use Rattle.std.proofs.Common.{◌≡◌, ℕ, zero, suc, List, ◌∷◌, ◌++◌, inl, inr, ⊎_elim, sym, subst}
+use Rattle.std.proofs.Common.{◌≡◌, ℕ, zero, suc, List, ◌∷◌, ◌++◌, ⊎_elim, sym, subst}
 use Rattle.rtl_bits.specs.declared.bit.Bit.{Bit}
 use Rattle.rtl_bits.specs.Knowledge.{Below}
 use Rattle.rtl_bits.proofs.Orders.{Below_trans}
@@ -12,7 +12,8 @@ use Rattle.rtl_ir.specs.Flat.Rows.{rows_of}
 use Rattle.rtl_ir.specs.Flat.Tree.{design_ports}
 use Rattle.net_model.specs.Lists.{In}
 use Rattle.net_model.specs.Run.{Time, Start, Step}
-use Rattle.net_model.specs.Value.{Valuation, value_of}
+use Rattle.net_model.specs.Valuation.{Valuation}
+use Rattle.net_model.specs.Value.{value_of}
 use Rattle.net_model.specs.Refine.{with_body, AgreeOn, RefinesOver, SolvedBefore, RowsRefine}
 use Rattle.net_model.specs.Relate.{Reached, Says, Related, SameMoment, RowsRelate}
 use Rattle.net_model.proofs.Orders.{below as below_order}

@@ -1,5 +1,5 @@
 -- The test of whether two bits of the flat netlist are the same.
-use Rattle.std.proofs.Common.{◌≡◌, ℕ, Bool, true, false, ◌&&◌, List, refl, ap}
+use Rattle.std.proofs.Common.{◌≡◌, ◌&&◌, ap}
 use Rattle.std.specs.Prelude.{nat_eq}
 use Rattle.std.specs.Cmp.Lexicographic.{pointwise, pointwise_decides}
 use Rattle.std.specs.Str.{bytes_eq}
@@ -7,7 +7,7 @@ use Rattle.std.specs.Bool.{Decides}
 use Rattle.std.proofs.lemmas.Slice.Eq.{bytes_eq-Decides}
 use Rattle.std.proofs.lemmas.Bool.Decides.{Decides-eqb}
 use Rattle.std.proofs.lemmas.Bool.{and_parts, and_from}
-use Rattle.rtl_ir.specs.Flat.Place.{Frame, frame_same, Spot, OfWire, OfWord, spot_same, Place, place_same}
+use Rattle.rtl_ir.specs.Flat.Place.{Frame, frame_same, Spot, OfWire, OfWord, spot_same, place_same}
 use Rattle.net_model.specs.Settle.{IsSame}
 
 frame_same-same : (a b : Frame) → Decides (frame_same a b) (a ≡ b)

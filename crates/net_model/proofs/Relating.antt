@@ -14,26 +14,28 @@ use Rattle.rtl_ir.specs.declared.wire.Role.{Role}
 use Rattle.rtl_ir.specs.declared.wire.Role.TheVariants.{Inner, Input, Output, Inout}
 use Rattle.rtl_ir.specs.Ports.{ports_of}
 use Rattle.rtl_ir.specs.Flat.Cell.{Ports, instances}
-use Rattle.rtl_ir.specs.Flat.Driver.{Driver, Nothing, Given, Driven}
+use Rattle.rtl_ir.specs.Flat.Driver.{Given, Driven}
 use Rattle.rtl_ir.specs.Flat.Place.{Frame, frame, Path, Place, place_same, IsOf}
 use Rattle.rtl_ir.specs.Flat.Point.{Point, Constant, At, wire_points}
 use Rattle.rtl_ir.specs.Flat.Reads.{reads}
 use Rattle.rtl_ir.specs.Flat.Rows.{rows_of}
-use Rattle.rtl_ir.specs.Flat.Tree.{named, ports_or_none, design_ports, in_module, in_instances, in_tree, tree_rows, tree_points, root, if_role, role_points, places, given_rows, driven_rows, undriven, undriven_rows, flat, output_places}
+use Rattle.rtl_ir.specs.Flat.Tree.{named, ports_or_none, design_ports, in_instances, in_tree, tree_rows, tree_points, root, if_role, role_points, places, given_rows, driven_rows, undriven, undriven_rows, flat, output_places}
 use Rattle.net_model.specs.Lists.{In, Apart, Distinct}
 use Rattle.net_model.specs.Settle.{applied}
 use Rattle.net_model.specs.Run.{Time, Start, Step, rows_at, row_at, run, TraceBelow}
-use Rattle.net_model.specs.Value.{Valuation, value_of, meaning, meanings}
-use Rattle.net_model.specs.Refine.{run_of, ModuleBelow, ModulesBelow, AgreeOn, places_of, Solved, SolvedBefore, RowsRefine}
+use Rattle.net_model.specs.Valuation.{Valuation}
+use Rattle.net_model.specs.Value.{value_of, meaning, meanings}
+use Rattle.net_model.specs.Refine.{run_of, ModuleBelow, ModulesBelow, AgreeOn, places_of, Solved}
 use Rattle.net_model.specs.Relate.{is_zero, Reached, OwnerIs, Says, PortOf, Reach, Related as Locally, SameMoment as LocalMoment, RowsRelate}
 use Rattle.net_model.proofs.Members.{In-left, In-right, In-cases, In-map, In-mapped, map-append, map-map}
 use Rattle.net_model.proofs.Settling.{applied_keeps}
-use Rattle.net_model.proofs.Running.{AlwaysMonotone, Solves, SameTime, run_below, driven_bits}
+use Rattle.net_model.proofs.Running.{AlwaysMonotone, Solves, SameTime, run_below}
 use Rattle.net_model.proofs.Places.{place_same-same}
 use Rattle.net_model.proofs.Orders.{below as below_order, flat as flat_order}
-use Rattle.net_model.proofs.Drivers.{value_on, BelowOn, TimeOn, meanings_kept}
+use Rattle.net_model.proofs.Drivers.{value_on, TimeOn, meanings_kept}
 use Rattle.net_model.proofs.Instances.{instances_find, instances_have, rows_agree, agree_at}
-use Rattle.net_model.proofs.Reaching.{rows_reach, wire_own}
+use Rattle.net_model.proofs.Own.{wire_own}
+use Rattle.net_model.proofs.Reaching.{rows_reach}
 
 -- in instances of the module, what is said; elsewhere the order of knowledge
 abbrev Rel : List ℕ → Says → Valuation → Place → Bit → Type 0

@@ -1,12 +1,12 @@
 -- A relation that the rows of one list keep against what another list settles to is kept over whole runs.
-use Rattle.std.proofs.Common.{◌≡◌, ℕ, zero, suc, Bool, true, false, List, [], ◌∷◌, ◌++◌, length, inl, inr, refl, sym, ap, subst}
+use Rattle.std.proofs.Common.{◌≡◌, ℕ, zero, suc, Bool, true, false, List, [], ◌∷◌, ◌++◌, length, refl, sym, subst}
 use Rattle.std.specs.Prelude.{map}
 use Rattle.rtl_bits.specs.declared.bit.Bit.{Bit}
 use Rattle.rtl_bits.specs.declared.bit.Bit.TheVariants.{X}
 use Rattle.rtl_bits.specs.Knowledge.{AreBelow, FlatBelow}
 use Rattle.rtl_bits.proofs.Keeping.{flat_kept}
 use Rattle.net_model.specs.Lists.{In, Distinct}
-use Rattle.net_model.specs.Settle.{Row, bits_of, KeepsOrder, AreMonotone, IsSame, applied, rounds, settled}
+use Rattle.net_model.specs.Settle.{bits_of, KeepsOrder, AreMonotone, IsSame, applied, rounds, settled}
 use Rattle.net_model.specs.Run.{Time, Start, Step, Drive, row_at, rows_at, settle, trace, run, TraceBelow}
 use Rattle.net_model.proofs.Members.{In-map, In-mapped, map-append, map-map}
 use Rattle.net_model.proofs.Settling.{settled_at}

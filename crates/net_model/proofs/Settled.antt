@@ -1,9 +1,8 @@
 -- The laws of settling, of rows of the flat netlist.
 use Rattle.std.proofs.Common.{◌≡◌, List, ◌++◌, sym, ap, subst}
-use Rattle.std.specs.Prelude.{map}
 use Rattle.rtl_bits.specs.declared.bit.Bit.{Bit}
 use Rattle.rtl_bits.specs.Knowledge.{Below, FlatBelow}
-use Rattle.rtl_bits.proofs.Keeping.{below_kept, flat_kept}
+use Rattle.rtl_bits.proofs.Keeping.{flat_kept}
 use Rattle.rtl_ir.specs.declared.module.Design.{Design}
 use Rattle.rtl_ir.specs.declared.module.Module.{Module}
 use Rattle.rtl_ir.specs.Flat.Driver.{Driven}
@@ -12,7 +11,8 @@ use Rattle.rtl_ir.specs.Flat.Tree.{driven_rows, undriven_rows, tree_points, plac
 use Rattle.net_model.specs.Lists.{In, Distinct}
 use Rattle.net_model.specs.Settle.{Pointwise, AreMonotone, applied}
 use Rattle.net_model.specs.Run.{Time, row_at, rows_at, settle}
-use Rattle.net_model.specs.Value.{Valuation, value_of, meaning, meanings}
+use Rattle.net_model.specs.Valuation.{Valuation}
+use Rattle.net_model.specs.Value.{value_of, meaning, meanings}
 use Rattle.net_model.specs.Refine.{HasOneDriver}
 use Rattle.net_model.proofs.Members.{In-map, In-mapped, map-append, map-map}
 use Rattle.net_model.proofs.Settling.{settled_least, settled_stable}

@@ -1,13 +1,12 @@
 -- What settling comes to is a solution of the rows, exactly, and the least one.
 use Rattle.std.proofs.Common.{◌≡◌, ℕ, zero, suc, ◌+◌, ◌≤◌, Bool, true, false, cond, List, [], ◌∷◌, ◌++◌, length, ◌⊎◌, inl, inr, ⊎_elim, refl, sym, ◌∙◌, ap, subst, arith}
-use Rattle.std.specs.Prelude.{map}
 use Rattle.std.proofs.lemmas.Bool.{cond_both, cases_lt, true≢false}
 use Rattle.rtl_bits.specs.declared.bit.Bit.{Bit}
 use Rattle.rtl_bits.specs.declared.bit.Bit.TheVariants.{S0, S1, X, Z, M, Dash}
-use Rattle.rtl_bits.specs.Knowledge.{Below, FlatBelow}
+use Rattle.rtl_bits.specs.Knowledge.{FlatBelow}
 use Rattle.rtl_bits.proofs.Keeping.{Keeps}
-use Rattle.net_model.specs.Lists.{In, Apart, Distinct}
-use Rattle.net_model.specs.Settle.{Pointwise, Row, bits_of, KeepsOrder, AreMonotone, IsAboveRows, IsSame, applied, rounds, settled}
+use Rattle.net_model.specs.Lists.{In, Distinct}
+use Rattle.net_model.specs.Settle.{Pointwise, Row, bits_of, AreMonotone, IsAboveRows, IsSame, applied, rounds, settled}
 use Rattle.net_model.proofs.Members.{In-map, apart_at}
 
 module _ {B : Type 0} (same : B → B → Bool) (is_same : IsSame same) where

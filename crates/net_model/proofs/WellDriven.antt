@@ -12,9 +12,9 @@ use Rattle.rtl_ir.specs.Flat.Driver.{Driven}
 use Rattle.rtl_ir.specs.Flat.Place.{Frame, Path, Place}
 use Rattle.rtl_ir.specs.Flat.Rows.{rows_of}
 use Rattle.rtl_ir.specs.Flat.Tree.{named, ports_or_none, design_ports, in_module, in_instances, in_tree, tree_rows, root, role_points, places, given_rows, driven_rows}
-use Rattle.net_model.specs.Lists.{In, Apart, Distinct}
+use Rattle.net_model.specs.Lists.{In, Distinct}
 use Rattle.net_model.specs.Refine.{places_of, AreWellDriven, HasOneDriver}
-use Rattle.net_model.proofs.Members.{In-left, In-right, In-cases, In-map, In-mapped, map-append, apart_at, apart_from, Distinct-append}
+use Rattle.net_model.proofs.Members.{In-cases, In-map, In-mapped, map-append, apart_at, Distinct-append}
 use Rattle.net_model.proofs.Instances.{instances_find}
 use Rattle.net_model.proofs.Reaching.{rows_reach}
 use Rattle.net_model.proofs.Relating.{role_is}

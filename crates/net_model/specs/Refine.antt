@@ -15,7 +15,8 @@ use Rattle.rtl_ir.specs.Flat.Rows.{rows_of}
 use Rattle.rtl_ir.specs.Flat.Tree.{design_ports, table_ports, role_points, places, driven_rows, flat, output_places}
 use Rattle.net_model.specs.Lists.{In, Distinct}
 use Rattle.net_model.specs.Run.{Time, Start, Step, run, TraceBelow}
-use Rattle.net_model.specs.Value.{Valuation, value_of, meanings}
+use Rattle.net_model.specs.Valuation.{Valuation}
+use Rattle.net_model.specs.Value.{value_of, meanings}
 
 -- the output vectors of a module of a design, for a list of input vectors
 abbrev pub run_of : Design → Module → List (List Bit) → List (List Bit)

@@ -14,7 +14,8 @@ use Rattle.rtl_ir.specs.Flat.Place.{Frame, Path, Spot, OfWire, Place, wire_place
 use Rattle.rtl_ir.specs.Flat.Rows.{rows_of}
 use Rattle.net_model.specs.Lists.{In}
 use Rattle.net_model.specs.Run.{Time, Start, Step}
-use Rattle.net_model.specs.Value.{Valuation, value_of}
+use Rattle.net_model.specs.Valuation.{Valuation}
+use Rattle.net_model.specs.Value.{value_of}
 use Rattle.net_model.specs.Refine.{Solved}
 
 -- whether a number is 0

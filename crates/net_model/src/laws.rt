@@ -8,7 +8,8 @@ ghost use Rattle.rtl_ir.specs.Flat.Tree.{design_ports, driven_rows, flat};
 ghost use Rattle.net_model.specs.Lists.{In, Distinct};
 ghost use Rattle.net_model.specs.Settle.{Pointwise, applied};
 ghost use Rattle.net_model.specs.Run.{Time, TimeBelow, rows_at, settle};
-ghost use Rattle.net_model.specs.Value.{Valuation, value_of, meanings};
+ghost use Rattle.net_model.specs.Valuation.{Valuation};
+ghost use Rattle.net_model.specs.Value.{value_of, meanings};
 ghost use Rattle.net_model.specs.Refine.{Refines, RefinesIn, RowsRefine, EachRefines, AreWellDriven, HasOneDriver};
 ghost use Rattle.rtl_ir.specs.Flat.Tree.{table_ports};
 

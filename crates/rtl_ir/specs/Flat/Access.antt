@@ -1,5 +1,5 @@
 -- The write ports of a memory: cells in rising number, and then lines of processes.
-use Rattle.std.specs.Prelude.{ℕ, ◌+◌, ◌==◌, max, Bool, true, false, ◌&&◌, ◌||◌, List, [], ◌∷◌, ◌++◌, length, map, filter, flat_map, Option, Some, None, if◌then◌else◌, nat_le}
+use Rattle.std.specs.Prelude.{ℕ, ◌+◌, ◌==◌, max, Bool, false, ◌&&◌, ◌||◌, List, [], ◌∷◌, ◌++◌, length, map, filter, flat_map, Option, Some, None, if◌then◌else◌, nat_le}
 use Rattle.std.specs.List.{range_with_len}
 use Rattle.std.specs.Str.{bytes_eq}
 use Rattle.rtl_bits.specs.declared.bit.Bit.{Bit}
@@ -7,7 +7,6 @@ use Rattle.rtl_bits.specs.declared.bit.Bit.TheVariants.{S0, S1, X}
 use Rattle.rtl_bits.specs.Numbers.{is_one}
 use Rattle.rtl_sig.specs.declared.sig.SigBit.{SigBit}
 use Rattle.rtl_sig.specs.declared.sig.SigBit.TheVariants.{Fixed}
-use Rattle.cell_types.specs.declared.level.Level.{Level}
 use Rattle.cell_types.specs.declared.level.Level.TheVariants as At
 use Rattle.cell_types.specs.declared.param_name.ParamName.TheVariants.{ClkPolarity, Portid, PriorityMask}
 use Rattle.cell_types.specs.declared.pin_name.PinName.TheVariants.{Clk, En, Addr, Data}
@@ -15,7 +14,6 @@ use Rattle.cell_types.specs.Given.{number_in, value_in}
 use Rattle.cell_types.specs.Levels.{level_in}
 use Rattle.cell_types.specs.PinName.{pin_text}
 use Rattle.rtl_ir.specs.declared.cell.Cell.{Cell}
-use Rattle.rtl_ir.specs.declared.module.Module.{Module}
 use Rattle.rtl_ir.specs.declared.process.Event.{Event}
 use Rattle.rtl_ir.specs.declared.process.Event.TheVariants.{Posedge, Negedge}
 use Rattle.rtl_ir.specs.declared.process.Process.{Process}

@@ -1,11 +1,10 @@
 -- The rows of memories: bits of words, and bits that read ports give.
-use Rattle.std.specs.Prelude.{ℕ, suc, ◌+◌, ◌-◌, ◌*◌, Bool, true, false, ◌&&◌, List, [], ◌∷◌, ◌++◌, map, filter, flat_map, nat_abs, nat_le, nat_lt, Option, Some, None, if◌then◌else◌, slice_index_or}
+use Rattle.std.specs.Prelude.{ℕ, suc, ◌+◌, ◌-◌, ◌*◌, Bool, true, false, ◌&&◌, List, [], ◌∷◌, ◌++◌, map, filter, flat_map, nat_abs, nat_le, nat_lt, Option, Some, if◌then◌else◌, slice_index_or}
 use Rattle.std.specs.List.{range_with_len}
 use Rattle.rtl_bits.specs.declared.bit.Bit.{Bit}
 use Rattle.rtl_bits.specs.declared.bit.Bit.TheVariants.{S1, X}
-use Rattle.rtl_bits.specs.Numbers.{is_one, number_of}
+use Rattle.rtl_bits.specs.Numbers.{is_one}
 use Rattle.rtl_bits.specs.Tables.{seen_of}
-use Rattle.rtl_sig.specs.declared.sig.SigBit.{SigBit}
 use Rattle.rtl_sig.specs.declared.sig.SigBit.TheVariants as sig
 use Rattle.cell_types.specs.declared.kind.CellKind.{CellKind}
 use Rattle.cell_types.specs.declared.kind.CellKind.TheVariants as Cells
@@ -15,7 +14,6 @@ use Rattle.cell_types.specs.declared.pin_name.PinName.TheVariants.{En, Addr, Dat
 use Rattle.cell_types.specs.PinName.{pin_text}
 use Rattle.cell_gate.specs.Control.{pick_of}
 use Rattle.rtl_ir.specs.declared.cell.Cell.{Cell}
-use Rattle.rtl_ir.specs.declared.module.Module.{Module}
 use Rattle.rtl_ir.specs.declared.process.Process.{Process}
 use Rattle.rtl_ir.specs.declared.store.Store.{Store}
 use Rattle.rtl_ir.specs.declared.wire.Wire.{Wire}
