@@ -19,4 +19,6 @@ pub mod WellDriven
 pub mod Composing
 pub mod Lifted
 pub mod Settled
+pub mod Parts
 pub mod Worked
+pub mod WorkedMore
