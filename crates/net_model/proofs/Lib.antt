@@ -19,6 +19,11 @@ pub mod WellDriven
 pub mod Composing
 pub mod Lifted
 pub mod Settled
+pub mod Ranges
+pub mod Growing
+pub mod GrowingMore
+pub mod Grown
+pub mod Swapping
 pub mod Parts
 pub mod Worked
 pub mod WorkedMore

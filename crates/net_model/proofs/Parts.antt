@@ -1,9 +1,8 @@
 -- Parts of which the worked examples are made.
-use Rattle.std.proofs.Common.{ℕ, false, true, List, [], ◌∷◌, ◌++◌}
+use Rattle.std.proofs.Common.{ℕ, false, List, [], ◌∷◌}
 use Rattle.std.specs.Prelude.{codes, pos, map}
 use Rattle.std.specs.List.{range_with_len}
 use Rattle.rtl_bits.specs.declared.bit.Bit.{Bit}
-use Rattle.rtl_bits.specs.declared.bit.Bit.TheVariants.{S0, S1, X}
 use Rattle.rtl_sig.specs.declared.sig.SigBit.{SigBit}
 use Rattle.rtl_sig.specs.declared.sig.SigBit.TheVariants.{Fixed, Wire as OnWire}
 use Rattle.rtl_ir.specs.declared.cell.Cell.{Cell}
@@ -16,11 +15,10 @@ use Rattle.rtl_ir.specs.declared.process.Event.{Event}
 use Rattle.rtl_ir.specs.declared.process.Process.{Process}
 use Rattle.rtl_ir.specs.declared.process.SyncRule.{SyncRule}
 use Rattle.rtl_ir.specs.declared.value.Attribute.{Attribute}
-use Rattle.rtl_ir.specs.declared.value.Value.TheVariants.{Int, Bits, Chars}
+use Rattle.rtl_ir.specs.declared.value.Value.TheVariants.{Int, Bits}
 use Rattle.rtl_ir.specs.declared.wire.Role.{Role}
-use Rattle.rtl_ir.specs.declared.wire.Role.TheVariants.{Inner, Input, Output}
 use Rattle.rtl_ir.specs.declared.wire.Wire.{Wire}
-use Rattle.rtl_ir.specs.Tree.{Switches, NoSwitch, OneSwitch, Cases, NoCase, OneCase, CaseView}
+use Rattle.rtl_ir.specs.Tree.{Switches, NoSwitch, OneSwitch, Cases, NoCase, OneCase}
 
 -- a wire of a width
 abbrev pub wire : List ℕ → ℕ → Role → ℕ → Wire

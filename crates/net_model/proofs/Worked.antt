@@ -1,17 +1,16 @@
 -- Worked examples, computed by the definitions: loops, trees, latches, resets, codes of states.
-use Rattle.std.proofs.Common.{◌≡◌, ℕ, List, [], ◌∷◌, refl}
+use Rattle.std.proofs.Common.{◌≡◌, [], ◌∷◌, refl}
 use Rattle.std.specs.Prelude.{codes}
 use Rattle.rtl_bits.specs.declared.bit.Bit.TheVariants.{S0, S1, X}
 use Rattle.rtl_ir.specs.declared.module.Module.{Module}
 use Rattle.rtl_ir.specs.declared.process.Event.TheVariants.{Posedge, Always}
 use Rattle.rtl_ir.specs.declared.wire.Role.TheVariants.{Inner, Input, Output}
-use Rattle.rtl_ir.specs.Constants.{low_bits}
 use Rattle.rtl_ir.specs.Empty.{empty_module}
 use Rattle.rtl_ir.specs.Flat.Cell.{cell_kind, cell_shape}
 use Rattle.rtl_ir.specs.Follow.{follow_joins}
 use Rattle.rtl_ir.specs.Tree.{NoSwitch, NoCase}
 use Rattle.net_model.specs.Refine.{run_of}
-use Rattle.net_model.proofs.Parts.{wire, init, bit, word, fixed, pin, number, cell, link, on, otherwise, switch, rule, process, alone}
+use Rattle.net_model.proofs.Parts.{wire, init, bit, fixed, pin, cell, link, on, otherwise, switch, rule, process, alone}
 
 -- two NOR gates, each of which reads the other
 abbrev latch : Module

@@ -4,16 +4,16 @@ ghost use Rattle.std.specs.Prelude.{◌≡◌, List, map};
 ghost use Rattle.rtl_bits.specs.Knowledge.{Below, FlatBelow};
 ghost use Rattle.rtl_ir.specs.Flat.Driver.{Driver, Driven};
 ghost use Rattle.rtl_ir.specs.Flat.Place.{Place, place_same};
-ghost use Rattle.rtl_ir.specs.Flat.Tree.{design_ports, driven_rows, flat};
+ghost use Rattle.rtl_ir.specs.Flat.Tree.{design_ports, driven_rows, flat, table_ports};
 ghost use Rattle.net_model.specs.Lists.{In, Distinct};
 ghost use Rattle.net_model.specs.Settle.{Pointwise, applied};
 ghost use Rattle.net_model.specs.Run.{Time, TimeBelow, rows_at, settle};
 ghost use Rattle.net_model.specs.Valuation.{Valuation};
 ghost use Rattle.net_model.specs.Value.{value_of, meanings};
 ghost use Rattle.net_model.specs.Refine.{Refines, RefinesIn, RowsRefine, EachRefines, AreWellDriven, HasOneDriver};
-ghost use Rattle.rtl_ir.specs.Flat.Tree.{table_ports};
+ghost use Rattle.net_model.specs.Within.{IsWithin, AreInner, with_wires};
 
-use rtl_ir::{Design, Module, PortTable};
+use rtl_ir::{Design, Module, PortTable, Wire};
 
 /// Every driver keeps both orders of knowledge, in the step before and now together.
 pub fn drivers_are_monotone()
@@ -72,4 +72,11 @@ pub fn rows_are_enough()
 /// Where no bit of any module has two drivers, none has in a module with all its instances.
 pub fn modules_are_enough()
     ensures one_driver { (d : Design) → AreWellDriven d → HasOneDriver d }
+{}
+
+/// A module with fresh wires behind its own refines the one without, where its signals name its own
+/// wires.
+pub fn fresh_wires_change_nothing()
+    ensures refines { (m : Module) (fresh : List Wire) (table : PortTable) → IsWithin m → AreInner fresh →
+        RefinesIn m (with_wires fresh m) table }
 {}
