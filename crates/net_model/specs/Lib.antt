@@ -1,0 +1,13 @@
+pub mod Lists
+pub mod Settle
+pub mod Run
+pub mod Valuation
+pub mod Picked
+pub mod Race
+pub mod Words
+pub mod Value
+pub mod Refine
+pub mod Relate
+pub mod Within
+pub mod Swap
+pub mod Gates
