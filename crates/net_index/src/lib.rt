@@ -2,5 +2,7 @@
 #![tactic(auto)]
 
 mod numbering;
+mod types;
 
 pub use numbering::Numbering;
+pub use types::{CellType, Port, PortNames, Types};
