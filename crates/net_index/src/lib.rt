@@ -2,7 +2,9 @@
 #![tactic(auto)]
 
 mod numbering;
+mod outputs;
 mod types;
 
 pub use numbering::Numbering;
-pub use types::{CellType, Port, PortNames, Types};
+pub use outputs::{drives_pin, output_pin};
+pub use types::{CellType, Port, PortNames, Types, is_port};

@@ -23,6 +23,7 @@ pub struct Port {
 pub type PortNames<'a> = HashMap<&'a [u8], Port>;
 
 /// What the type of a cell names.
+#[derive(Clone, Copy)]
 pub enum CellType<'a> {
     /// A cell of the library.
     Library(CellKind),
