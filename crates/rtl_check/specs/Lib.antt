@@ -1,0 +1,3 @@
+pub mod Words
+pub mod Finds
+pub mod Numbers
