@@ -4,6 +4,8 @@ pub mod Gives
 pub mod Constant
 pub mod Signal
 pub mod Meaning
+pub mod Draft
+pub mod Act
 pub mod ReadOn
 pub mod Words
 pub mod Numbers

@@ -4,9 +4,11 @@
 //! whole wires.
 #![tactic(auto)]
 
+mod act;
 mod attributes;
 mod cell;
 mod constant;
+mod draft;
 mod expect;
 mod fault;
 mod form;
