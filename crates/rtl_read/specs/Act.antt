@@ -12,8 +12,8 @@ pub mod Sync
 pub mod Signal
 use Rattle.std.specs.Prelude.{Result, Ok}
 use Rattle.rtl_lex.specs.Items.{Seen}
-use Rattle.rtl_read.specs.declared.expect.Expect.{Expect}
-use Rattle.rtl_read.specs.declared.expect.Expect.TheVariants as expects
+use Rattle.rtl_grammar.specs.declared.expect.Expect.{Expect}
+use Rattle.rtl_grammar.specs.declared.expect.Expect.TheVariants as expects
 use Rattle.rtl_read.specs.declared.read_fault.ReadFault.{ReadFault}
 use Rattle.rtl_read.specs.declared.draft.Draft.{Draft}
 use Rattle.rtl_read.specs.Act.File.{act_autoidx_number, act_modules}

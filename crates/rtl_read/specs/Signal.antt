@@ -13,7 +13,7 @@ use Rattle.rtl_read.specs.declared.limits.TheConstants.{MAX_BITS, MAX_DEPTH}
 use Rattle.rtl_read.specs.declared.read_fault.ReadFault.{ReadFault}
 use Rattle.rtl_read.specs.declared.read_fault.ReadFault.TheVariants as faults
 use Rattle.rtl_read.specs.declared.signal.OpenSignal.{OpenSignal}
-use Rattle.rtl_read.specs.Uses.{◌>>=◌}
+use Rattle.rtl_grammar.specs.Uses.{◌>>=◌}
 use Rattle.rtl_read.specs.Constant.{integer, constant, fixed}
 
 -- the signal in which nothing was read

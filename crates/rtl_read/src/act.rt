@@ -20,8 +20,8 @@ ghost use Rattle.rtl_read.specs.Gives.{Sets};
 ghost use Rattle.rtl_read.specs.Act.{act};
 
 use crate::draft::Draft;
-use crate::expect::Expect;
 use crate::read_fault::ReadFault;
+use rtl_grammar::Expect;
 use rtl_lex::Item;
 use std::alloc::Global;
 

@@ -5,7 +5,7 @@ use Rattle.rtl_lex.specs.declared.sort.Sort.TheVariants as sorts
 use Rattle.rtl_lex.specs.Items.{Seen}
 use Rattle.rtl_read.specs.declared.draft.Draft.{Draft}
 use Rattle.rtl_read.specs.declared.read_fault.ReadFault.{ReadFault}
-use Rattle.rtl_read.specs.Uses.{◌>>=◌}
+use Rattle.rtl_grammar.specs.Uses.{◌>>=◌}
 use Rattle.rtl_read.specs.Constant.{constant}
 use Rattle.rtl_read.specs.Meaning.Module.{with_item_name, with_cell}
 use Rattle.rtl_read.specs.Meaning.Cell.{plain_cell, with_kind, with_cell_name, with_param_name, with_pin_name, with_param, with_pin}

@@ -5,7 +5,7 @@ use Rattle.rtl_lex.specs.declared.sort.Sort.TheVariants as sorts
 use Rattle.rtl_lex.specs.Items.{Seen}
 use Rattle.rtl_read.specs.declared.draft.Draft.{Draft}
 use Rattle.rtl_read.specs.declared.read_fault.ReadFault.{ReadFault}
-use Rattle.rtl_read.specs.Uses.{◌>>=◌}
+use Rattle.rtl_grammar.specs.Uses.{◌>>=◌}
 use Rattle.rtl_read.specs.Meaning.Module.{with_store}
 use Rattle.rtl_read.specs.Meaning.Wire.{plain_store, store_width, store_size, store_offset}
 

@@ -9,7 +9,7 @@ use Rattle.rtl_read.specs.declared.draft.PairKind.TheVariants.{Connect}
 use Rattle.rtl_read.specs.declared.limits.TheConstants.{MAX_CELLS}
 use Rattle.rtl_read.specs.declared.read_fault.ReadFault.{ReadFault}
 use Rattle.rtl_read.specs.declared.read_fault.ReadFault.TheVariants as faults
-use Rattle.rtl_read.specs.Uses.{◌>>=◌}
+use Rattle.rtl_grammar.specs.Uses.{◌>>=◌}
 use Rattle.rtl_read.specs.Constant.{constant}
 use Rattle.rtl_read.specs.Meaning.Attribute.{no_attributes}
 use Rattle.rtl_read.specs.Meaning.Module.{fresh_module, with_parameter}

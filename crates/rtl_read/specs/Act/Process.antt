@@ -7,7 +7,7 @@ use Rattle.rtl_read.specs.declared.draft.Draft.{Draft}
 use Rattle.rtl_read.specs.declared.draft.PairKind.TheVariants.{Assign}
 use Rattle.rtl_read.specs.declared.read_fault.ReadFault.{ReadFault}
 use Rattle.rtl_read.specs.declared.tree.OpenTree.{OpenTree}
-use Rattle.rtl_read.specs.Uses.{◌>>=◌}
+use Rattle.rtl_grammar.specs.Uses.{◌>>=◌}
 use Rattle.rtl_read.specs.Meaning.Attribute.{no_attributes}
 use Rattle.rtl_read.specs.Meaning.Module.{with_item_name, with_process}
 use Rattle.rtl_read.specs.Meaning.Tree.{deeper}

@@ -4,7 +4,7 @@ use Rattle.rtl_lex.specs.declared.sort.Sort.{Sort}
 use Rattle.rtl_lex.specs.Items.{Seen}
 use Rattle.rtl_read.specs.declared.draft.Draft.{Draft}
 use Rattle.rtl_read.specs.declared.read_fault.ReadFault.{ReadFault}
-use Rattle.rtl_read.specs.Uses.{◌>>=◌}
+use Rattle.rtl_grammar.specs.Uses.{◌>>=◌}
 use Rattle.rtl_read.specs.Signal.{no_signal, begin, inside, behind_inside, open_index, set_high, set_low, slice, behind_index}
 
 -- a signal begins, with the wires that stand above it in its module

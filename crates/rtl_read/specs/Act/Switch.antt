@@ -6,7 +6,7 @@ use Rattle.rtl_lex.specs.Items.{Seen}
 use Rattle.rtl_read.specs.declared.draft.Draft.{Draft}
 use Rattle.rtl_read.specs.declared.draft.PairKind.TheVariants.{Assign}
 use Rattle.rtl_read.specs.declared.read_fault.ReadFault.{ReadFault}
-use Rattle.rtl_read.specs.Uses.{◌>>=◌}
+use Rattle.rtl_grammar.specs.Uses.{◌>>=◌}
 use Rattle.rtl_read.specs.Signal.{some_bits}
 use Rattle.rtl_read.specs.Meaning.Attribute.{no_attributes}
 use Rattle.rtl_read.specs.Meaning.Tree.{enter_switch, open_case, close_case, close_switch, with_pattern}
