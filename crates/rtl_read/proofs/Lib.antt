@@ -6,3 +6,4 @@ pub mod WireLemmas
 pub mod CellLemmas
 pub mod LineLemmas
 pub mod FormLemmas
+pub mod Refusing
