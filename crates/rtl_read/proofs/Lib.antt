@@ -1,8 +1,3 @@
-pub mod Viable
-pub mod Table
-pub mod Reading
-pub mod Exactly
-pub mod Closed
 pub mod Stacks
 pub mod Signals
 pub mod Faults
@@ -11,3 +6,4 @@ pub mod WireLemmas
 pub mod CellLemmas
 pub mod LineLemmas
 pub mod FormLemmas
+pub mod Refusing
