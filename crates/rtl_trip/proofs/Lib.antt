@@ -1,0 +1,9 @@
+pub mod Printed
+pub mod Lexing
+pub mod Forms
+pub mod Integers
+pub mod Values
+pub mod Strings
+pub mod Tokens
+pub mod Spelling
+pub mod Statements
