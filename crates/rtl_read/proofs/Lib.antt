@@ -1,8 +1,3 @@
-pub mod Viable
-pub mod Table
-pub mod Reading
-pub mod Exactly
-pub mod Closed
 pub mod Stacks
 pub mod Signals
 pub mod Faults

@@ -1,10 +1,9 @@
-pub mod Grammar
-pub mod Uses
 pub mod Gives
 pub mod Constant
 pub mod Signal
 pub mod Meaning
-pub mod ReadOn
+pub mod Draft
+pub mod Act
 pub mod Words
 pub mod Numbers
 pub mod Answers

@@ -4,13 +4,13 @@
 //! whole wires.
 #![tactic(auto)]
 
+mod act;
 mod attributes;
 mod cell;
 mod constant;
-mod expect;
+mod draft;
 mod fault;
 mod form;
-mod grammar;
 mod limits;
 mod number;
 mod open_cell;
@@ -24,9 +24,7 @@ mod tree;
 mod wire;
 mod word;
 
-pub use expect::Expect;
 pub use fault::FormFault;
 pub use form::read_first_form;
-pub use grammar::after;
 pub use number::{decimal_within, is_digits};
 pub use read_fault::ReadFault;

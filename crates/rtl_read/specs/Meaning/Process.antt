@@ -55,6 +55,10 @@ plain_process attributes = record {
   write = plain_write [];
 }
 
+-- its name
+abbrev pub with_process_name : Seen → OpenProcess → OpenProcess
+with_process_name i p = record p { name = i.text }
+
 -- a rule begins; it has its signal; it is whole
 abbrev pub open_rule : Sort → OpenProcess → OpenProcess
 open_rule sort p = record p { rule = plain_rule (event_of sort) }
