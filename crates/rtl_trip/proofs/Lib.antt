@@ -7,3 +7,5 @@ pub mod Strings
 pub mod Tokens
 pub mod Spelling
 pub mod Statements
+pub mod Runs
+pub mod Whole

@@ -69,7 +69,7 @@ pub record IsTail (ps : List Printed) : Type 0 where
   pub opens : Opens ps
   pub lines : AreLines false ps
 
-opens_follows : (kind : TokenKind) (ps : List Printed) → Opens ps → Follows kind ps
+pub opens_follows : (kind : TokenKind) (ps : List Printed) → Opens ps → Follows kind ps
 opens_follows kind [] o = absurd o
 opens_follows kind (EndLine ∷ ps) o = tt
 opens_follows kind (Piece zero next text ∷ ps) o = absurd o
