@@ -9,3 +9,6 @@ pub mod Spelling
 pub mod Statements
 pub mod Runs
 pub mod Whole
+pub mod Names
+pub mod Going
+pub mod GoingSignals

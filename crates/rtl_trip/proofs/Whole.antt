@@ -52,7 +52,7 @@ name_is (b ∷ bs) is =
     let two = and_parts (nat_lt 0 (length bs)) (list_all is_name bs) one.1 in
     name_token b bs one.0 (ltb-true 0 (length bs) two.0) two.1
 
-chars_are : (chars : List ℕ) → All IsChar chars → list_all is_char chars ≡ true
+pub chars_are : (chars : List ℕ) → All IsChar chars → list_all is_char chars ≡ true
 chars_are [] all = refl
 chars_are (c ∷ cs) all =
     let first = All-head IsChar c cs all in
@@ -112,7 +112,7 @@ tail_index false true low count ps lt f =
 tail_index false false low count ps lt f =
     record { opens = tt; lines = (mark_token 91 refl, refl, (number_is (low + count - 1) (omega arith), refl, (mark_token 58 refl, refl, (number_is low (omega arith), refl, tail_closed ps f)))) }
 
-wire_at : (wires : List Wire) (k : ℕ) (w : Wire) → All IsWire wires → slice_get wires k ≡ Some w → IsWire w
+pub wire_at : (wires : List Wire) (k : ℕ) (w : Wire) → All IsWire wires → slice_get wires k ≡ Some w → IsWire w
 wire_at [] k w all e = absurd cc
 wire_at (v ∷ vs) zero w all e =
     let same : v ≡ w = cc in
@@ -125,7 +125,7 @@ tail_part w o low count ps is e le f =
     (tail_name w.name (tokens.index ((low == 0) && (count == w.width)) (count == 1) low count ++ ps) is.name
     (tail_index ((low == 0) && (count == w.width)) (count == 1) low count ps (omega (arith, is.width)) f))
 
-constants_back : (cs : List Bit) → map constant_of (map bits.Fixed cs) ≡ cs
+pub constants_back : (cs : List Bit) → map constant_of (map bits.Fixed cs) ≡ cs
 constants_back [] = refl
 constants_back (c ∷ cs) = ap (λ (l : List Bit). c ∷ l) (constants_back cs)
 
