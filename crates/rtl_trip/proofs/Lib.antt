@@ -12,3 +12,5 @@ pub mod Whole
 pub mod Names
 pub mod Going
 pub mod GoingSignals
+pub mod GoingWires
+pub mod GoingCells

@@ -75,3 +75,8 @@ module _ {X : Type 0} (name : X → List ℕ) where
       let at = first_at xs k x d e in
       let within : nat_lt k (length (map name xs)) ≡ true = lt-ltb k (length (map name xs)) (omega (arith, at.1, length-map xs name)) in
       ap (λ (n : ℕ). cond (nat_lt n (length (map name xs))) (Some n) None) at.0 ∙ ap (λ (b : Bool). cond b (Some k) None) within
+
+  -- the name of an item in the middle is new among those before it
+  pub new_among : (front : List X) (x : X) (back all : List X) → front ++ x ∷ back ≡ all → AreDistinct (map name all) → IsNew (map name front) (name x)
+  new_among front x back all e d =
+      is_new (map name front) (name x) (not_before (map name front) (name x) (map name back) (subst AreDistinct (ap (map name) (sym e) ∙ map-append name front (x ∷ back)) d))
