@@ -1,3 +1,4 @@
+pub mod Accept
 pub mod Fresh
 pub mod Gates
-pub mod Replies
+pub mod Numbers
