@@ -4,6 +4,7 @@
 mod accept;
 mod fresh;
 mod gates;
+mod laws;
 mod number;
 mod program;
 mod reply;
