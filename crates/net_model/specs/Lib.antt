@@ -11,3 +11,5 @@ pub mod Relate
 pub mod Within
 pub mod Swap
 pub mod Gates
+pub mod Build
+pub mod Proc

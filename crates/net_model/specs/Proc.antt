@@ -1,0 +1,3 @@
+-- The steps of `proc`, each over all processes in order.
+pub mod Start
+pub mod Mux
