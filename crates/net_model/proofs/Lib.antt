@@ -27,3 +27,4 @@ pub mod Swapping
 pub mod Parts
 pub mod Worked
 pub mod WorkedMore
+pub mod WorkedPasses

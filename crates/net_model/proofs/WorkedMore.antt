@@ -49,7 +49,7 @@ port_cell n mask wire =
     cell (codes "$memwr_v2") (memid ∷ number (codes "\\ABITS") 3 ∷ number (codes "\\WIDTH") 1 ∷ number (codes "\\CLK_ENABLE") 1 ∷ number (codes "\\CLK_POLARITY") 1 ∷ number (codes "\\PORTID") n ∷ record { name = codes "\\PRIORITY_MASK"; value = Bits (mask ∷ []) false; signed = false } ∷ []) (pin (codes "\\CLK") (bit 0) ∷ pin (codes "\\EN") (fixed (S1 ∷ [])) ∷ pin (codes "\\ADDR") (word 1 3) ∷ pin (codes "\\DATA") (bit wire) ∷ [])
 
 -- five words of one bit, two ports that write at one address, and a port that reads; the second port has this mask
-abbrev memory : Bit → Module
+abbrev pub memory : Bit → Module
 memory mask = record (empty_module (codes "\\m")) {
   wires =
       wire (codes "\\clk") 1 Input 1
@@ -68,7 +68,7 @@ memory mask = record (empty_module (codes "\\m")) {
 }
 
 -- the clock, the address 2, the data 0 and 1, and this address to read at
-abbrev inputs : Bit → List Bit → List Bit
+abbrev pub inputs : Bit → List Bit → List Bit
 inputs clk address = clk ∷ S0 ∷ S1 ∷ S0 ∷ S0 ∷ S1 ∷ address
 
 -- where the second port may follow the first one it wins; an address outside, or not known, reads x

@@ -13,3 +13,4 @@ pub mod Swap
 pub mod Gates
 pub mod Build
 pub mod Proc
+pub mod Mem
