@@ -12,15 +12,20 @@ use Rattle.rtl_ir.specs.declared.wire.Wire.{Wire}
 use Rattle.rtl_ir.specs.Constants.{low_bits}
 use Rattle.rtl_ir.specs.Empty.{empty_module}
 use Rattle.rtl_ir.specs.Flat.Cell.{cell_kind, cell_shape}
+use Rattle.rtl_ir.specs.Flat.Process.{no_modules}
+use Rattle.rtl_ir.specs.Follow.{follow_joins}
 use Rattle.rtl_ir.specs.Tree.{NoSwitch, NoCase}
+use Rattle.rtl_ir.specs.Types.{cell_type}
 use Rattle.rtl_ir.specs.WritePorts.{is_write_cell}
 use Rattle.net_model.specs.Build.{made_number}
 use Rattle.net_model.specs.Mem.Expand.{memory_of}
 use Rattle.net_model.specs.Proc.Start.{proc_tree_of, init_attribute}
 use Rattle.net_model.specs.Proc.Sync.{proc_sync_of}
 use Rattle.net_model.specs.Proc.Mux.{proc_mux_of}
+use Rattle.net_model.specs.Proc.Steps.{proc_of}
 use Rattle.net_model.specs.Refine.{run_of}
 use Rattle.net_model.proofs.Parts.{wire, bit, bit_at, word, fixed, pin, number, cell, link, on, otherwise, switch, rule, process, alone}
+use Rattle.net_model.proofs.Worked.{resetting, holding}
 use Rattle.net_model.proofs.WorkedMore.{memory, inputs}
 
 -- a tree with one case, over a value that is assigned before it
@@ -73,3 +78,32 @@ begun_flops = refl
 memory_cells : length (memory_of (memory S1)).cells ≡ 29
 unfolding made_number digits cell_kind low_bits is_write_cell
 memory_cells = refl
+
+-- the types of the cells, and their names
+abbrev types_of : Module → List (List ℕ)
+types_of m = map (λ (c : Cell). c.kind_name) m.cells
+
+-- a register with an enable and a reset of its own edge becomes an `$adff` and a multiplexer; the reset is not tested any more
+resetting_cells : types_of (proc_of no_modules resetting) ≡ codes "$adff" ∷ codes "$mux" ∷ []
+unfolding made_number digits follow_joins cell_type
+resetting_cells = refl
+
+-- a bit that holds while it is not enabled: its data, its enable, the latch, and then the multiplexer of the tree bit
+holding_cells : types_of (proc_of no_modules holding) ≡ codes "$mux" ∷ codes "$mux" ∷ codes "$dlatch" ∷ codes "$mux" ∷ []
+unfolding made_number digits follow_joins cell_type
+holding_cells = refl
+
+-- its trace is that of the source
+holding_runs : run_of (alone (proc_of no_modules holding)) (proc_of no_modules holding) ((S1 ∷ S1 ∷ []) ∷ (S0 ∷ S0 ∷ []) ∷ (S1 ∷ X ∷ []) ∷ []) ≡ (S1 ∷ []) ∷ (S1 ∷ []) ∷ (X ∷ []) ∷ []
+unfolding made_number digits follow_joins cell_type cell_kind cell_shape low_bits
+holding_runs = refl
+
+-- a register with a reset that comes with the clock: what was a race has the reset value
+resetting_runs : run_of (alone (proc_of no_modules resetting)) (proc_of no_modules resetting) ((S0 ∷ S0 ∷ S1 ∷ S1 ∷ []) ∷ (S1 ∷ S1 ∷ S1 ∷ S1 ∷ []) ∷ []) ≡ (S1 ∷ []) ∷ (S0 ∷ []) ∷ []
+unfolding made_number digits follow_joins cell_type cell_kind cell_shape low_bits
+resetting_runs = refl
+
+-- two words of a memory with ports that clash: the chain lets the later port win
+memory_runs : run_of (alone (memory_of (memory S0))) (memory_of (memory S0)) (inputs S0 (S0 ∷ S1 ∷ S0 ∷ []) ∷ inputs S1 (S0 ∷ S1 ∷ S0 ∷ []) ∷ []) ≡ (X ∷ []) ∷ (S1 ∷ []) ∷ []
+unfolding made_number digits cell_kind cell_shape low_bits is_write_cell
+memory_runs = refl
