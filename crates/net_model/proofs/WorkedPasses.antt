@@ -4,10 +4,9 @@ use Rattle.std.specs.Prelude.{codes, map}
 use Rattle.std.specs.Fmt.{digits}
 use Rattle.rtl_bits.specs.declared.bit.Bit.TheVariants.{S0, S1, X, Z}
 use Rattle.rtl_ir.specs.declared.cell.Cell.{Cell}
-use Rattle.rtl_ir.specs.declared.module.Link.{Link}
 use Rattle.rtl_ir.specs.declared.module.Module.{Module}
 use Rattle.rtl_ir.specs.declared.process.Event.TheVariants.{Posedge, Init}
-use Rattle.rtl_ir.specs.declared.wire.Role.TheVariants.{Inner, Input, Output}
+use Rattle.rtl_ir.specs.declared.wire.Role.TheVariants.{Input, Output}
 use Rattle.rtl_ir.specs.declared.wire.Wire.{Wire}
 use Rattle.rtl_ir.specs.Constants.{low_bits}
 use Rattle.rtl_ir.specs.Empty.{empty_module}
@@ -18,15 +17,16 @@ use Rattle.rtl_ir.specs.Tree.{NoSwitch, NoCase}
 use Rattle.rtl_ir.specs.Types.{cell_type}
 use Rattle.rtl_ir.specs.WritePorts.{is_write_cell}
 use Rattle.net_model.specs.Build.{made_number}
+use Rattle.net_model.specs.Fsm.Code.{fsm_of}
 use Rattle.net_model.specs.Mem.Expand.{memory_of}
 use Rattle.net_model.specs.Proc.Start.{proc_tree_of, init_attribute}
 use Rattle.net_model.specs.Proc.Sync.{proc_sync_of}
 use Rattle.net_model.specs.Proc.Mux.{proc_mux_of}
 use Rattle.net_model.specs.Proc.Steps.{proc_of}
 use Rattle.net_model.specs.Refine.{run_of}
-use Rattle.net_model.proofs.Parts.{wire, bit, bit_at, word, fixed, pin, number, cell, link, on, otherwise, switch, rule, process, alone}
+use Rattle.net_model.proofs.Parts.{wire, bit, bit_at, word, fixed, pin, number, link, on, switch, rule, process, alone}
 use Rattle.net_model.proofs.Worked.{resetting, holding}
-use Rattle.net_model.proofs.WorkedMore.{memory, inputs}
+use Rattle.net_model.proofs.WorkedMore.{states, memory, inputs}
 
 -- a tree with one case, over a value that is assigned before it
 abbrev half : Module
@@ -107,3 +107,17 @@ resetting_runs = refl
 memory_runs : run_of (alone (memory_of (memory S0))) (memory_of (memory S0)) (inputs S0 (S0 ∷ S1 ∷ S0 ∷ []) ∷ inputs S1 (S0 ∷ S1 ∷ S0 ∷ []) ∷ []) ≡ (X ∷ []) ∷ (S1 ∷ []) ∷ []
 unfolding made_number digits cell_kind cell_shape low_bits is_write_cell
 memory_runs = refl
+
+-- the state of two bits gets a code of three, its compare a connection
+states_cells : types_of (fsm_of no_modules states) ≡ codes "$dff" ∷ codes "$mux" ∷ codes "$mux" ∷ []
+unfolding made_number digits follow_joins cell_type cell_kind low_bits
+states_cells = refl
+
+states_links : (fsm_of no_modules states).links ≡ link (bit 3) (bit_at 7 1 ∷ []) ∷ []
+unfolding made_number digits follow_joins cell_type cell_kind low_bits
+states_links = refl
+
+-- and the trace is the same
+states_run : run_of (alone (fsm_of no_modules states)) (fsm_of no_modules states) ((S0 ∷ X ∷ S0 ∷ []) ∷ (S1 ∷ X ∷ S0 ∷ []) ∷ []) ≡ (X ∷ []) ∷ (S0 ∷ []) ∷ []
+unfolding made_number digits follow_joins cell_type cell_kind cell_shape low_bits
+states_run = refl

@@ -13,4 +13,5 @@ pub mod Swap
 pub mod Gates
 pub mod Build
 pub mod Proc
+pub mod Fsm
 pub mod Mem

@@ -1,11 +1,10 @@
 -- A memory becomes words, write chains and read trees.
-use Rattle.std.specs.Prelude.{ℕ, zero, suc, ◌+◌, ◌^◌, ◌==◌, ◌&&◌, Bool, true, false, not, nat_abs, nat_le, nat_lt, List, [], ◌∷◌, ◌++◌, length, map, filter, take, drop, replicate, codes, slice_get, Option, Some, None, if◌then◌else◌}
-use Rattle.std.specs.Str.{bytes_eq}
+use Rattle.std.specs.Prelude.{ℕ, zero, suc, ◌+◌, ◌^◌, ◌==◌, ◌&&◌, Bool, true, false, not, nat_abs, nat_lt, List, [], ◌∷◌, ◌++◌, length, map, filter, take, drop, replicate, codes, Option, Some, None, if◌then◌else◌}
 use Rattle.rtl_bits.specs.declared.bit.Bit.{Bit}
 use Rattle.rtl_bits.specs.declared.bit.Bit.TheVariants.{S1, X}
-use Rattle.rtl_bits.specs.Numbers.{bits_of, is_one}
+use Rattle.rtl_bits.specs.Numbers.{bits_of}
 use Rattle.rtl_sig.specs.declared.sig.SigBit.{SigBit}
-use Rattle.rtl_sig.specs.declared.sig.SigBit.TheVariants.{Fixed, Wire as OnWire}
+use Rattle.rtl_sig.specs.declared.sig.SigBit.TheVariants.{Fixed}
 use Rattle.cell_types.specs.declared.kind.CellKind.{CellKind}
 use Rattle.cell_types.specs.declared.kind.CellKind.TheVariants as Cells
 use Rattle.rtl_ir.specs.declared.cell.Cell.{Cell}
@@ -47,9 +46,9 @@ low_bit (s ∷ signal) = s
 abbrev pub address_match : List SigBit → ℕ → Build SigBit
 address_match address number b =
     let made =
-        new_driver (codes "$eq")
-        (integer_param (codes "\\A_SIGNED") 0 ∷ integer_param (codes "\\A_WIDTH") (length address) ∷ integer_param (codes "\\B_SIGNED") 0 ∷ integer_param (codes "\\B_WIDTH") (length address) ∷ integer_param (codes "\\Y_WIDTH") 1 ∷ [])
-        (pin_of (codes "\\A") address ∷ pin_of (codes "\\B") (map Fixed (bits_of number (length address))) ∷ []) (codes "\\Y") 1 b in
+    new_driver (codes "$eq")
+    (integer_param (codes "\\A_SIGNED") 0 ∷ integer_param (codes "\\A_WIDTH") (length address) ∷ integer_param (codes "\\B_SIGNED") 0 ∷ integer_param (codes "\\B_WIDTH") (length address) ∷ integer_param (codes "\\Y_WIDTH") 1 ∷ [])
+    (pin_of (codes "\\A") address ∷ pin_of (codes "\\B") (map Fixed (bits_of number (length address))) ∷ []) (codes "\\Y") 1 b in
     (low_bit made.0, made.1)
 
 -- the select of a run of equal enable bits: the match where the bit is the constant 1, else an `$and` of the two
@@ -57,9 +56,9 @@ abbrev pub run_select : SigBit → SigBit → Build SigBit
 run_select match (Fixed S1) b = (match, b)
 run_select match enable b =
     let made =
-        new_driver (codes "$and")
-        (integer_param (codes "\\A_SIGNED") 0 ∷ integer_param (codes "\\A_WIDTH") 1 ∷ integer_param (codes "\\B_SIGNED") 0 ∷ integer_param (codes "\\B_WIDTH") 1 ∷ integer_param (codes "\\Y_WIDTH") 1 ∷ [])
-        (pin_of (codes "\\A") (match ∷ []) ∷ pin_of (codes "\\B") (enable ∷ []) ∷ []) (codes "\\Y") 1 b in
+    new_driver (codes "$and")
+    (integer_param (codes "\\A_SIGNED") 0 ∷ integer_param (codes "\\A_WIDTH") 1 ∷ integer_param (codes "\\B_SIGNED") 0 ∷ integer_param (codes "\\B_WIDTH") 1 ∷ integer_param (codes "\\Y_WIDTH") 1 ∷ [])
+    (pin_of (codes "\\A") (match ∷ []) ∷ pin_of (codes "\\B") (enable ∷ []) ∷ []) (codes "\\Y") 1 b in
     (low_bit made.0, made.1)
 
 -- a `$mux` of two signals by a bit
@@ -93,8 +92,8 @@ abbrev pub port_step : ℕ → WritePort → List SigBit → Build (List SigBit)
 port_step address port acc b =
     if nat_lt address (2 ^ length port.address)
     then
-        (let match = address_match port.address address b in
-        port_runs match.0 (run_lengths (length port.enable) port.enable) acc port.data port.enable match.1)
+    (let match = address_match port.address address b in
+    port_runs match.0 (run_lengths (length port.enable) port.enable) acc port.data port.enable match.1)
     else (acc, b)
 
 -- the write ports in number order

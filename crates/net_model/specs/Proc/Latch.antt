@@ -1,7 +1,6 @@
 -- A step of `proc`: bits that are always updated become latches, or connections where they never hold.
 use Rattle.std.specs.Prelude.{ℕ, zero, suc, ◌+◌, Bool, true, false, List, [], ◌∷◌, ◌++◌, length, map, filter, codes, Option, Some, None, if◌then◌else◌}
 use Rattle.std.specs.Option.{option_map_or}
-use Rattle.rtl_bits.specs.declared.bit.Bit.{Bit}
 use Rattle.rtl_bits.specs.declared.bit.Bit.TheVariants.{S0, S1, X}
 use Rattle.rtl_sig.specs.declared.sig.SigBit.{SigBit}
 use Rattle.rtl_sig.specs.declared.sig.SigBit.TheVariants.{Fixed, Wire as OnWire}
@@ -13,10 +12,9 @@ use Rattle.rtl_ir.specs.declared.process.Event.TheVariants.{Always}
 use Rattle.rtl_ir.specs.declared.process.Process.{Process}
 use Rattle.rtl_ir.specs.declared.process.SyncRule.{SyncRule}
 use Rattle.rtl_ir.specs.Assigns.{cases_assigns, tree_bits, assigned}
-use Rattle.rtl_ir.specs.EventTests.{is_bit}
 use Rattle.rtl_ir.specs.Flat.Process.{may_hold}
 use Rattle.rtl_ir.specs.Follow.{Join, all_joins}
-use Rattle.rtl_ir.specs.Rules.{has_line, acting_rules}
+use Rattle.rtl_ir.specs.Rules.{acting_rules}
 use Rattle.rtl_ir.specs.Signals.{same_bit, has_bit}
 use Rattle.rtl_ir.specs.Tree.{Switches, NoSwitch, OneSwitch, Cases, NoCase, OneCase, CaseView}
 use Rattle.net_model.specs.Build.{Building, building_of, integer_param, pin_of, new_cell, new_link}
@@ -77,9 +75,9 @@ abbrev mutual
   switches_chain leaf b above number NoSwitch prior t = (prior, t)
   switches_chain leaf b above number (OneSwitch signal attributes cases rest) prior t =
       let value =
-          if assigns_run (cases_assigns cases) (b ∷ [])
-          then cases_chain leaf b (above ++ number ∷ []) 0 signal cases prior t
-          else (prior, t) in
+      if assigns_run (cases_assigns cases) (b ∷ [])
+      then cases_chain leaf b (above ++ number ∷ []) 0 signal cases prior t
+      else (prior, t) in
       switches_chain leaf b above (number + 1) rest value.0 value.1
 
   -- the cases of a switch from a number on, the last one first

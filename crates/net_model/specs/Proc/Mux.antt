@@ -1,9 +1,8 @@
 -- The last step of `proc`: trees become multiplexers, and the processes go.
-use Rattle.std.specs.Prelude.{ℕ, zero, suc, ◌+◌, ◌==◌, Bool, true, false, not, ◌&&◌, ◌||◌, nat_lt, List, [], ◌∷◌, ◌++◌, length, map, filter, flat_map, codes, Option, Some, None, if◌then◌else◌, zip}
+use Rattle.std.specs.Prelude.{ℕ, ◌+◌, ◌==◌, Bool, true, false, not, ◌&&◌, ◌||◌, nat_lt, List, [], ◌∷◌, ◌++◌, length, map, filter, codes, Option, Some, None, if◌then◌else◌, zip}
 use Rattle.std.specs.List.{list_any, list_all}
-use Rattle.std.specs.Option.{option_map_or, is_some}
+use Rattle.std.specs.Option.{option_map_or}
 use Rattle.std.specs.Cmp.Lexicographic.{pointwise}
-use Rattle.rtl_bits.specs.declared.bit.Bit.{Bit}
 use Rattle.rtl_bits.specs.declared.bit.Bit.TheVariants.{S1, X}
 use Rattle.rtl_bits.specs.Knowledge.{is_known}
 use Rattle.rtl_sig.specs.declared.sig.SigBit.{SigBit}
@@ -12,7 +11,7 @@ use Rattle.rtl_sig.specs.declared.sig.WireBit.{WireBit}
 use Rattle.rtl_ir.specs.declared.module.Link.{Link}
 use Rattle.rtl_ir.specs.declared.module.Module.{Module}
 use Rattle.rtl_ir.specs.declared.process.Process.{Process}
-use Rattle.rtl_ir.specs.Assigns.{switches_assigns, cases_assigns, case_assigns, tree_bits, assigned}
+use Rattle.rtl_ir.specs.Assigns.{cases_assigns, case_assigns, tree_bits, assigned}
 use Rattle.rtl_ir.specs.Follow.{Join, joins}
 use Rattle.rtl_ir.specs.Signals.{same_bit}
 use Rattle.rtl_ir.specs.Tree.{Switches, NoSwitch, OneSwitch, Cases, NoCase, OneCase, CaseView}
@@ -110,10 +109,10 @@ lowest (s ∷ signal) = s
 abbrev pub equal_cell : List (SigBit × SigBit) → Build SigBit
 equal_cell places b =
     let made =
-        new_driver (codes "$eq")
-        (integer_param (codes "\\A_SIGNED") 0 ∷ integer_param (codes "\\A_WIDTH") (length places) ∷ integer_param (codes "\\B_SIGNED") 0 ∷ integer_param (codes "\\B_WIDTH") (length places) ∷ integer_param (codes "\\Y_WIDTH") 1 ∷ [])
-        (pin_of (codes "\\A") (map (λ (q : SigBit × SigBit). q.1) places) ∷ pin_of (codes "\\B") (map (λ (q : SigBit × SigBit). q.0) places) ∷ [])
-        (codes "\\Y") 1 b in
+    new_driver (codes "$eq")
+    (integer_param (codes "\\A_SIGNED") 0 ∷ integer_param (codes "\\A_WIDTH") (length places) ∷ integer_param (codes "\\B_SIGNED") 0 ∷ integer_param (codes "\\B_WIDTH") (length places) ∷ integer_param (codes "\\Y_WIDTH") 1 ∷ [])
+    (pin_of (codes "\\A") (map (λ (q : SigBit × SigBit). q.1) places) ∷ pin_of (codes "\\B") (map (λ (q : SigBit × SigBit). q.0) places) ∷ [])
+    (codes "\\Y") 1 b in
     (lowest made.0, made.1)
 
 -- what a pattern gives: 1 where no place is asked, the signal's bit where one is and is 1, else an `$eq`
@@ -135,9 +134,9 @@ abbrev pub joined_bits : List SigBit → Build SigBit
 joined_bits (s ∷ []) b = (s, b)
 joined_bits bits b =
     let made =
-        new_driver (codes "$reduce_or")
-        (integer_param (codes "\\A_SIGNED") 0 ∷ integer_param (codes "\\A_WIDTH") (length bits) ∷ integer_param (codes "\\Y_WIDTH") 1 ∷ [])
-        (pin_of (codes "\\A") bits ∷ []) (codes "\\Y") 1 b in
+    new_driver (codes "$reduce_or")
+    (integer_param (codes "\\A_SIGNED") 0 ∷ integer_param (codes "\\A_WIDTH") (length bits) ∷ integer_param (codes "\\Y_WIDTH") 1 ∷ [])
+    (pin_of (codes "\\A") bits ∷ []) (codes "\\Y") 1 b in
     (lowest made.0, made.1)
 
 -- the match of the case at these places: made once, by its patterns
@@ -170,9 +169,9 @@ with_case at signal patterns body acc t =
     else if same_signal body acc
     then (acc, t)
     else
-        let m = match_bit at signal patterns t in
-        let mux = mux_cell acc body m.0 m.1.building in
-        (mux.0, record { building = mux.1; made = m.1.made })
+    let m = match_bit at signal patterns t in
+    let mux = mux_cell acc body m.0 m.1.building in
+    (mux.0, record { building = mux.1; made = m.1.made })
 
 abbrev mutual
   -- the switches from a number on, below these places, act in order on the value of a run
@@ -180,9 +179,9 @@ abbrev mutual
   switches_value run above number NoSwitch prior t = (prior, t)
   switches_value run above number (OneSwitch signal attributes cases rest) prior t =
       let value =
-          if assigns_run (cases_assigns cases) run
-          then cases_value run (above ++ number ∷ []) 0 signal cases prior t
-          else (prior, t) in
+      if assigns_run (cases_assigns cases) run
+      then cases_value run (above ++ number ∷ []) 0 signal cases prior t
+      else (prior, t) in
       switches_value run above (number + 1) rest value.0 value.1
 
   -- the cases of a switch from a number on, the last one first, over the value before the switch
