@@ -25,6 +25,10 @@ use Rattle.rtl_ir.specs.Types.{Ports, CellType, Library, Instance, Unsupported, 
 abbrev pub pin_widths : List Pin → List PinWidth
 pin_widths pins = map (λ (p : Pin). record { name = p.name; width = length p.sig }) pins
 
+-- the first fault of a cell's parameters and pins
+unfoldable pub misfit : CellKind → Cell → Option CellFault
+misfit kind c = fault_of kind (given_params c.params) (pin_widths c.pins)
+
 -- the fault of a cell's parameters and pins, as a fault of the design
 abbrev pub shape_fault : Spot → Option CellFault → List Fault
 shape_fault here None = []
@@ -36,6 +40,10 @@ shape_fault here (Some cell.Memory) = []
 -- a pin that the cell drives is connected to a constant
 abbrev pub has_constant_output : CellType → List Pin → Bool
 has_constant_output type pins = list_any (λ (p : Pin). drives_pin type p.name && has_constant p.sig) pins
+
+-- the fault of a cell that drives a constant
+abbrev pub output_faults : Spot → CellType → List Pin → List Fault
+output_faults here type pins = fault_if (has_constant_output type pins) (BadPort here)
 
 -- a pin of an instance is no port of its module
 abbrev pub lacks_port : List PortLine → Pin → Bool
@@ -63,13 +71,13 @@ memory_faults m earlier c kind = []
 abbrev pub faults_by_type : Scope → Module → List Cell → Cell → CellType → List Fault
 faults_by_type scope m earlier c (Library kind) =
     fault_if (is_memory_kind kind && not scope.memories) (UnsupportedCell (spot m.id c.name))
-    ++ shape_fault (spot m.id c.name) (fault_of kind (given_params c.params) (pin_widths c.pins))
-    ++ fault_if (has_constant_output (Library kind) c.pins) (BadPort (spot m.id c.name))
+    ++ shape_fault (spot m.id c.name) (misfit kind c)
+    ++ output_faults (spot m.id c.name) (Library kind) c.pins
     ++ memory_faults m earlier c kind
 faults_by_type scope m earlier c (Instance ports) =
     fault_if (has_item c.params || list_any (lacks_port ports) c.pins) (BadParameterOrPort (spot m.id c.name))
     ++ fault_if (list_any (has_other_width ports) c.pins) (Width (spot m.id c.name))
-    ++ fault_if (has_constant_output (Instance ports) c.pins) (BadPort (spot m.id c.name))
+    ++ output_faults (spot m.id c.name) (Instance ports) c.pins
 faults_by_type scope m earlier c Unsupported = UnsupportedCell (spot m.id c.name) ∷ []
 faults_by_type scope m earlier c Unknown = UnknownCell (spot m.id c.name) ∷ []
 
