@@ -52,6 +52,19 @@ pub fn settling_is_least()
         Pointwise FlatBelow (settle place_same (meanings rows) t) w }
 {}
 
+/// What an evaluator may do in any order: from x at every bit, applying drivers one by one never leads
+/// beyond what is settled, and where no driver gives anything new, it is what is settled, exactly.
+pub fn drivers_may_go_in_any_order()
+    ensures below { (d : Design) → HasOneDriver d → (m : Module) → In m d.modules →
+        (t : Time Place) (v : Valuation) → Pointwise FlatBelow v (settle place_same (meanings (flat d m)) t) →
+        (row : Driven) → In row (driven_rows d m) →
+        FlatBelow (value_of row.driver t v) (settle place_same (meanings (flat d m)) t row.place) }
+    ensures reached { (rows : List Driven) (t : Time Place) (v : Valuation) →
+        Pointwise FlatBelow v (settle place_same (meanings rows) t) →
+        ((row : Driven) → In row rows → FlatBelow (value_of row.driver t v) (v row.place)) →
+        (q : Place) → v q ≡ settle place_same (meanings rows) t q }
+{}
+
 /// Refinement is transitive.
 pub fn refinement_is_transitive()
     ensures transitive { (d e f : Design) → Refines d e → Refines e f → Refines d f }
