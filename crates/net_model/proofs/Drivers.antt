@@ -135,7 +135,7 @@ module _ (order : Bit → Bit → Type 0) (k : Kept order) where
   pub value_kept : (d : Driver) (t u : Time Place) → TimeBelow order t u → (v w : Valuation) → Pointwise order v w → order (value_of d t v) (value_of d u w)
   value_kept d t u e v w h = value_on d t u (time_on (reads d) t u e) v w (λ q i. h q)
 
-  time_refl : (t : Time Place) → TimeBelow order t t
+  pub time_refl : (t : Time Place) → TimeBelow order t t
   time_refl Start = tt
   time_refl (Step v x f) = (λ b. k.bits.self (v b), refl, refl)
 

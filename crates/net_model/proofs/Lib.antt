@@ -24,6 +24,8 @@ pub mod Growing
 pub mod GrowingMore
 pub mod Grown
 pub mod Swapping
+pub mod Finding
 pub mod Parts
 pub mod Worked
 pub mod WorkedMore
+pub mod WorkedPasses

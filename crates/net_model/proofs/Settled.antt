@@ -3,6 +3,7 @@ use Rattle.std.proofs.Common.{◌≡◌, List, ◌++◌, sym, ap, subst}
 use Rattle.rtl_bits.specs.declared.bit.Bit.{Bit}
 use Rattle.rtl_bits.specs.Knowledge.{Below, FlatBelow}
 use Rattle.rtl_bits.proofs.Keeping.{flat_kept}
+use Rattle.rtl_bits.proofs.Orders.{FlatBelow_antisym}
 use Rattle.rtl_ir.specs.declared.module.Design.{Design}
 use Rattle.rtl_ir.specs.declared.module.Module.{Module}
 use Rattle.rtl_ir.specs.Flat.Driver.{Driven}
@@ -19,7 +20,7 @@ use Rattle.net_model.proofs.Settling.{settled_least, settled_stable}
 use Rattle.net_model.proofs.Running.{AlwaysMonotone, Solves, rows_monotone, settle_solves}
 use Rattle.net_model.proofs.Places.{place_same-same}
 use Rattle.net_model.proofs.Orders.{Kept, below as below_order, flat as flat_order}
-use Rattle.net_model.proofs.Drivers.{meanings_kept}
+use Rattle.net_model.proofs.Drivers.{meanings_kept, value_kept, time_refl}
 
 monotone : (order : Bit → Bit → Type 0) → Kept order → (rows : List Driven) (t : Time Place) → AreMonotone order (rows_at t (meanings rows))
 monotone order k rows t = rows_monotone order t (meanings rows) (meanings_kept order k rows)
@@ -44,3 +45,12 @@ solution d h m i t row j =
     let parts : meanings (flat d m) ≡ meanings (driven_rows d m) ++ meanings more = map-append meaning (driven_rows d m) more in
     let solves : Solves (meanings (driven_rows d m)) t (settle place_same (meanings (driven_rows d m) ++ meanings more) t) = settle_solves place_same place_same-same (meanings (driven_rows d m)) (meanings more) (subst (λ z. AlwaysMonotone FlatBelow z) parts (meanings_kept FlatBelow flat_order (flat d m))) (subst Distinct (sym (map-map meaning (λ z. z.bit) (driven_rows d m))) (h.rows m i)) t in
     subst (λ z. value_of row.driver t (settle place_same z t) ≡ settle place_same z t row.place) (sym parts) (solves.at (meaning row) (In-map meaning row (driven_rows d m) j))
+
+-- a valuation that is not above what is settled in the flat order, and above what the drivers give from it, is what is settled
+pub reached : (rows : List Driven) (t : Time Place) (v : Valuation) → Pointwise FlatBelow v (settle place_same (meanings rows) t) → ((row : Driven) → In row rows → FlatBelow (value_of row.driver t v) (v row.place)) → (q : Place) → v q ≡ settle place_same (meanings rows) t q
+reached rows t v h above q = FlatBelow_antisym (v q) (settle place_same (meanings rows) t q) (h q) (least_flat rows t v above q)
+
+-- applying a driver to such a valuation does not lead beyond what is settled
+pub stays_below : (d : Design) → HasOneDriver d → (m : Module) → In m d.modules → (t : Time Place) (v : Valuation) → Pointwise FlatBelow v (settle place_same (meanings (flat d m)) t) → (row : Driven) → In row (driven_rows d m) → FlatBelow (value_of row.driver t v) (settle place_same (meanings (flat d m)) t row.place)
+stays_below d h m i t v below row j =
+    subst (FlatBelow (value_of row.driver t v)) (solution d h m i t row j) (value_kept FlatBelow flat_order row.driver t t (time_refl FlatBelow flat_order t) v (settle place_same (meanings (flat d m)) t) below)

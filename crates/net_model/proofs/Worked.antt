@@ -72,7 +72,7 @@ half_runs : run_of (alone half) half ((S0 ∷ []) ∷ (S1 ∷ []) ∷ (X ∷ [])
 half_runs = refl
 
 -- a bit that is always updated and holds while it is not enabled; an enable that is not known gives x
-abbrev holding : Module
+abbrev pub holding : Module
 holding = record (empty_module (codes "\\m")) {
   wires =
       wire (codes "\\d") 1 Input 1
@@ -93,7 +93,7 @@ holding_runs = refl
 
 -- a register with an enable and a reset of its own edge; in the first step the reset's edge is open, and the reset value
 -- is merged with the start value
-abbrev resetting : Module
+abbrev pub resetting : Module
 resetting = record (empty_module (codes "\\m")) {
   wires =
       wire (codes "\\clock") 1 Input 1

@@ -2,6 +2,8 @@
 
 ghost use Rattle.std.specs.Prelude.{◌≡◌, List, map};
 ghost use Rattle.rtl_bits.specs.Knowledge.{Below, FlatBelow};
+ghost use Rattle.rtl_ir.specs.Ports.{ports_of};
+ghost use Rattle.rtl_ir.specs.Flat.Cell.{Ports, instances};
 ghost use Rattle.rtl_ir.specs.Flat.Driver.{Driver, Driven};
 ghost use Rattle.rtl_ir.specs.Flat.Place.{Place, place_same};
 ghost use Rattle.rtl_ir.specs.Flat.Tree.{design_ports, driven_rows, flat, table_ports};
@@ -10,7 +12,7 @@ ghost use Rattle.net_model.specs.Settle.{Pointwise, applied};
 ghost use Rattle.net_model.specs.Run.{Time, TimeBelow, rows_at, settle};
 ghost use Rattle.net_model.specs.Valuation.{Valuation};
 ghost use Rattle.net_model.specs.Value.{value_of, meanings};
-ghost use Rattle.net_model.specs.Refine.{Refines, RefinesIn, RowsRefine, EachRefines, AreWellDriven, HasOneDriver};
+ghost use Rattle.net_model.specs.Refine.{Refines, RefinesIn, RowsRefine, EachRefines, IsWellDriven, AreWellDriven, HasOneDriver};
 ghost use Rattle.net_model.specs.Within.{IsWithin, AreInner, with_wires};
 
 use rtl_ir::{Design, Module, PortTable, Wire};
@@ -50,6 +52,19 @@ pub fn settling_is_least()
         Pointwise FlatBelow (settle place_same (meanings rows) t) w }
 {}
 
+/// What an evaluator may do in any order: from x at every bit, applying drivers one by one never leads
+/// beyond what is settled, and where no driver gives anything new, it is what is settled, exactly.
+pub fn drivers_may_go_in_any_order()
+    ensures below { (d : Design) → HasOneDriver d → (m : Module) → In m d.modules →
+        (t : Time Place) (v : Valuation) → Pointwise FlatBelow v (settle place_same (meanings (flat d m)) t) →
+        (row : Driven) → In row (driven_rows d m) →
+        FlatBelow (value_of row.driver t v) (settle place_same (meanings (flat d m)) t row.place) }
+    ensures reached { (rows : List Driven) (t : Time Place) (v : Valuation) →
+        Pointwise FlatBelow v (settle place_same (meanings rows) t) →
+        ((row : Driven) → In row rows → FlatBelow (value_of row.driver t v) (v row.place)) →
+        (q : Place) → v q ≡ settle place_same (meanings rows) t q }
+{}
+
 /// Refinement is transitive.
 pub fn refinement_is_transitive()
     ensures transitive { (d e f : Design) → Refines d e → Refines e f → Refines d f }
@@ -60,6 +75,15 @@ pub fn modules_in_turn()
     ensures refines { (bs cs : List Module) → Distinct (map (λ m. m.id) bs) →
         EachRefines (design_ports (record { modules = bs })) bs cs →
         Refines (record { modules = bs }) (record { modules = cs }) }
+{}
+
+/// One pass after another, where the first keeps the module's name, its ports, its instances, and that
+/// no bit has two drivers.
+pub fn passes_in_turn()
+    ensures refines { (b c d : Module) (table : PortTable) → b.id ≡ c.id → ports_of b.wires ≡ ports_of c.wires →
+        instances b.cells ≡ instances c.cells →
+        ((ports : Ports) → IsWellDriven ports b → IsWellDriven ports c) →
+        RefinesIn b c table → RefinesIn c d table → RefinesIn b d table }
 {}
 
 /// What a pass shows of the rows of one module leads to any two designs that differ in it alone, to

@@ -1,3 +1,4 @@
 pub mod Chars
 pub mod Firsts
 pub mod CellLemmas
+pub mod Tallying

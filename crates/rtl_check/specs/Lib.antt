@@ -1,3 +1,4 @@
 pub mod Words
 pub mod Finds
 pub mod Numbers
+pub mod Tallies
