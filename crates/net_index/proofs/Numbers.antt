@@ -1,6 +1,6 @@
 -- Where wires begin, and that each number is of one bit.
 use Rattle.std.proofs.Common.{◌≡◌, ℕ, zero, suc, ◌+◌, ◌<◌, ◌≤◌, Bool, true, false, cond, ltb, List, [], ◌∷◌, ◌++◌, length, get_or, drop, map, Option, Some, None, refl, sym, ◌∙◌, ap, arith}
-use Rattle.std.proofs.lemmas.Bool.{lt-ltb}
+use Rattle.std.proofs.lemmas.Bool.{lt-ltb, ltb-true}
 use Rattle.std.proofs.lemmas.List.{append-nil}
 use Rattle.std.proofs.Math.ListN.{drop_of_length-le}
 use Rattle.rtl_sig.specs.declared.sig.WireBit.{WireBit}
@@ -79,3 +79,46 @@ view_made widths made total are = ap (map (λ (row : Row). row.width)) are.rows 
 pub rows_made : (widths : List ℕ) (made : List Row) (total : ℕ) → AreRows widths made total
     → (made ≡ rows_from 0 (map (λ (row : Row). row.width) made)) × (total ≡ bit_count (map (λ (row : Row). row.width) made))
 rows_made widths made total are = rw (view_made widths made total are) (are.rows, are.count)
+
+-- where a bit with a number stands
+pub record IsAt (ws : List ℕ) (b : WireBit) (number : ℕ) : Type 0 where
+  pub inside : b.at < get_or ws b.wire 0
+  pub value : start_of ws b.wire + b.at ≡ number
+
+pub number_at : (ws : List ℕ) (b : WireBit) (number : ℕ) → number_of ws b ≡ Some number → IsAt ws b number
+number_at ws b number e =
+    by (ltb b.at (get_or ws b.wire 0)) refl e
+  where
+    by : (t : Bool) → ltb b.at (get_or ws b.wire 0) ≡ t → cond t (Some (start_of ws b.wire + b.at)) None ≡ Some number → IsAt ws b number
+    by true f g = record { inside = ltb-true b.at (get_or ws b.wire 0) f; value = cc }
+    by false f g = absurd (cc)
+
+pub at_number : (ws : List ℕ) (b : WireBit) → b.at < get_or ws b.wire 0 → number_of ws b ≡ Some (start_of ws b.wire + b.at)
+at_number ws b h = rw (lt-ltb b.at (get_or ws b.wire 0) h) refl
+
+-- the number of a bit is below the end
+pub number_within : (ws : List ℕ) (b : WireBit) (number : ℕ) → number_of ws b ≡ Some number → number < bit_count ws
+number_within ws b number e =
+    let p = number_at ws b number e in
+    omega (arith, p.value, start_within ws b.wire b.at p.inside)
+
+-- bits of one number are one
+pub record IsSamePlace (i a j c : ℕ) : Type 0 where
+  pub wire : i ≡ j
+  pub at : a ≡ c
+
+one_place : (ws : List ℕ) (i a j c : ℕ) → a < get_or ws i 0 → c < get_or ws j 0 → start_of ws i + a ≡ start_of ws j + c → IsSamePlace i a j c
+one_place [] i a j c h k e = absurd (omega arith)
+one_place (w ∷ ws) zero a zero c h k e = record { wire = refl; at = omega arith }
+one_place (w ∷ ws) zero a (suc j) c h k e = absurd (omega arith)
+one_place (w ∷ ws) (suc i) a zero c h k e = absurd (omega arith)
+one_place (w ∷ ws) (suc i) a (suc j) c h k e =
+    let p = one_place ws i a j c h k (omega arith) in
+    record { wire = ap suc p.wire; at = p.at }
+
+pub number-inj : (ws : List ℕ) (b c : WireBit) (number : ℕ) → number_of ws b ≡ Some number → number_of ws c ≡ Some number → b ≡ c
+number-inj ws b c number e f =
+    let p = number_at ws b number e in
+    let q = number_at ws c number f in
+    let s = one_place ws b.wire b.at c.wire c.at p.inside q.inside (p.value ∙ sym q.value) in
+    (λ i. record { wire = s.wire i; at = s.at i })

@@ -1,12 +1,13 @@
 -- How often each bit of a module is driven, as far as it matters: not, once, or more often.
-use Rattle.std.specs.Prelude.{ℕ, ◌+◌, min, Bool, List, [], ◌∷◌, ◌++◌, length, take, flat_map, replicate, slice_index, slice_set, if◌then◌else◌, Option}
+use Rattle.std.specs.Prelude.{◌≡◌, ℕ, ◌+◌, min, nat_lt, Some, Bool, List, [], ◌∷◌, ◌++◌, length, take, flat_map, replicate, slice_index, slice_set, if◌then◌else◌, Option}
 use Rattle.std.specs.Option.{option_map_or}
 use Rattle.rtl_sig.specs.declared.sig.WireBit.{WireBit}
 use Rattle.rtl_ir.specs.declared.cell.Cell.{Cell}
 use Rattle.rtl_ir.specs.declared.cell.Pin.{Pin}
 use Rattle.rtl_ir.specs.declared.module.Link.{Link}
 use Rattle.rtl_ir.specs.declared.wire.Wire.{Wire}
-use Rattle.rtl_ir.specs.Drivers.{is_input}
+use Rattle.rtl_ir.specs.Drivers.{Drive, is_input}
+use Rattle.rtl_ir.specs.Faults.Bits.{has_two}
 use Rattle.rtl_ir.specs.Outputs.{drives_pin}
 use Rattle.rtl_ir.specs.Signals.{bits_of_wire, wire_bits}
 use Rattle.rtl_ir.specs.Types.{CellType, Ports, cell_type}
@@ -54,3 +55,7 @@ bits_of_cell ports c = flat_map (bits_of_pin (cell_type ports c.kind_name)) c.pi
 -- the bits that a connection drives, of unequal sides as far as both go
 abbrev pub bits_of_link : Link → List WireBit
 bits_of_link l = wire_bits (take (min (length l.left) (length l.right)) l.left)
+
+-- the counts tell which bits are driven more than once
+abbrev pub Tells : Tallied → List Drive → Type 0
+Tells t drives = (b : WireBit) (number : ℕ) → number_of t.widths b ≡ Some number → nat_lt 1 (slice_index t.counts number) ≡ has_two drives b

@@ -4,6 +4,7 @@
 mod bits;
 mod cells;
 mod fault;
+mod items;
 mod links;
 mod params;
 mod tally;

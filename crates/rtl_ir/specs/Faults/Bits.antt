@@ -1,5 +1,5 @@
 -- The faults of bits: of their drivers.
-use Rattle.std.specs.Prelude.{ℕ, ◌+◌, Bool, ◌&&◌, nat_lt, List, [], ◌∷◌, ◌++◌, flat_map}
+use Rattle.std.specs.Prelude.{ℕ, ◌+◌, Bool, ◌&&◌, nat_lt, List, [], ◌∷◌, ◌++◌, flat_map, if◌then◌else◌}
 use Rattle.std.specs.List.{range_with_len}
 use Rattle.rtl_sig.specs.declared.sig.WireBit.{WireBit}
 use Rattle.rtl_ir.specs.declared.wire.Wire.{Wire}
@@ -10,11 +10,13 @@ use Rattle.rtl_ir.specs.Fault.{Fault, TwoDrivers, BadPort, spot, fault_if}
 abbrev pub has_two : List Drive → WireBit → Bool
 has_two drives b = nat_lt 1 (drive_count drives b)
 
--- the faults of a bit: an input port's bit is driven from outside, so no other driver may be there
+-- the faults of a bit with two drivers: an input port has one outside, so it may have no other
+abbrev pub faults_of_two : List ℕ → Wire → ℕ → List Fault
+faults_of_two id w at = fault_if (is_input w.role) (BadPort (spot id w.name)) ++ TwoDrivers id w.name at ∷ []
+
+-- the faults of a bit
 abbrev pub bit_faults : List ℕ → List Drive → ℕ → Wire → ℕ → List Fault
-bit_faults id drives wire w at =
-    let two = has_two drives (record { wire = wire; at = at }) in
-    fault_if (is_input w.role && two) (BadPort (spot id w.name)) ++ fault_if two (TwoDrivers id w.name at)
+bit_faults id drives wire w at = if has_two drives (record { wire = wire; at = at }) then faults_of_two id w at else []
 
 -- the faults of the bits of the wires from a place on, in order of wire and bit
 abbrev pub bits_faults : List ℕ → List Drive → ℕ → List Wire → List Fault
