@@ -4,9 +4,5 @@ pub mod Signal
 pub mod Meaning
 pub mod Draft
 pub mod Act
-pub mod Words
-pub mod Numbers
-pub mod Answers
-pub mod Wires
-pub mod Cells
-pub mod Form
+pub mod Reads
+pub mod Taking
