@@ -51,7 +51,9 @@ pub record IsWellDriven (ports : Ports) (m : Module) : Type 0 where
   -- no bit has two rows
   pub rows : (p : Path) → Distinct (places_of (rows_of ports p m))
   -- no row drives a bit of an input port
-  pub apart : (p : Path) (x : Driven) → In x (rows_of ports p m) → x.place.path ≡ p → (n : PortLine) → In n (ports_of m.wires) → n.role ≡ Input → IsOf n.name x.place.spot → ⊥
+  pub apart :
+      (p : Path) (x : Driven) → In x (rows_of ports p m) → x.place.path ≡ p → (n : PortLine) → In n (ports_of m.wires) →
+      n.role ≡ Input → IsOf n.name x.place.spot → ⊥
   -- no two instances have one name
   pub instances : Distinct (map (λ f. f.name) (instances m.cells))
 
@@ -77,7 +79,10 @@ AgreeOn ports ports' (f ∷ frames) = (ports f.module_name ≡ ports' f.module_n
 -- of any two designs that differ only in one module, which has the first body in the one and the second in the other, the
 -- second design refines the first; the modules that the first body instantiates have these ports
 pub record RefinesOver (b c : Module) (ports : Ports) : Type 0 where
-  pub holds : (pre post : List Module) → AreWellDriven (with_body pre b post) → AreWellDriven (with_body pre c post) → AgreeOn ports (design_ports (with_body pre b post)) (instances b.cells) → Refines (with_body pre b post) (with_body pre c post)
+  pub holds :
+      (pre post : List Module) → AreWellDriven (with_body pre b post) → AreWellDriven (with_body pre c post) →
+      AgreeOn ports (design_ports (with_body pre b post)) (instances b.cells) →
+      Refines (with_body pre b post) (with_body pre c post)
 
 -- the same with the ports in a table
 abbrev pub RefinesIn : Module → Module → PortTable → Type 0
@@ -106,7 +111,9 @@ pub record RowsRefine (b c : Module) (ports : Ports) : Type 0 where
   pub id : b.id ≡ c.id
   pub ports_same : ports_of b.wires ≡ ports_of c.wires
   pub children : instances b.cells ≡ instances c.cells
-  pub rows : (p : Path) (t : Time Place) (w : Valuation) → Solved (rows_of ports p c) t w → SolvedBefore (rows_of ports p c) t → (d : Driven) → In d (rows_of ports p b) → IsMet d t w
+  pub rows :
+      (p : Path) (t : Time Place) (w : Valuation) → Solved (rows_of ports p c) t w →
+      SolvedBefore (rows_of ports p c) t → (d : Driven) → In d (rows_of ports p b) → IsMet d t w
 
 -- one module after another: the same name and ports, no bit with two drivers before or after, and refined
 abbrev pub EachRefines : Ports → List Module → List Module → Type 0

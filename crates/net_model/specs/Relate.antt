@@ -73,9 +73,16 @@ pub record RowsRelate (b c : Module) (ports : Ports) (says : Says) : Type 0 wher
   pub ports_same : ports_of b.wires ≡ ports_of c.wires
   pub children : instances b.cells ≡ instances c.cells
   -- of a port it is said just that the bit before is below the bit after
-  pub port_to : (p : Path) (w : Valuation) (n : PortLine) → In n (ports_of b.wires) → (at : ℕ) (a : Bit) → Below a (w (wire_place p n.name at)) → says p w (OfWire n.name at) a
-  pub port_from : (p : Path) (w : Valuation) (n : PortLine) → In n (ports_of b.wires) → (at : ℕ) (a : Bit) → says p w (OfWire n.name at) a → Below a (w (wire_place p n.name at))
+  pub port_to :
+      (p : Path) (w : Valuation) (n : PortLine) → In n (ports_of b.wires) → (at : ℕ) (a : Bit) →
+      Below a (w (wire_place p n.name at)) → says p w (OfWire n.name at) a
+  pub port_from :
+      (p : Path) (w : Valuation) (n : PortLine) → In n (ports_of b.wires) → (at : ℕ) (a : Bit) →
+      says p w (OfWire n.name at) a → Below a (w (wire_place p n.name at))
   -- x is allowed everywhere
   pub unknown : (p : Path) (w : Valuation) (s : Spot) → says p w s X
   -- at the same moment of two runs, the second of which solves the rows after the pass now and in all its past
-  pub rows : (p : Path) (t u : Time Place) → SameMoment ports (instances b.cells) says p t u → (v w : Valuation) → Related ports (instances b.cells) says p v w → (n : ℕ) → Reached n (rows_of ports p c) u w → (x : Driven) → In x (rows_of ports p b) → KeepsTo ports (instances b.cells) says p w x.place (value_of x.driver t v)
+  pub rows :
+      (p : Path) (t u : Time Place) → SameMoment ports (instances b.cells) says p t u → (v w : Valuation) →
+      Related ports (instances b.cells) says p v w → (n : ℕ) → Reached n (rows_of ports p c) u w → (x : Driven) →
+      In x (rows_of ports p b) → KeepsTo ports (instances b.cells) says p w x.place (value_of x.driver t v)

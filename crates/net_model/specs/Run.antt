@@ -27,7 +27,8 @@ abbrev pub settle : {B : Type 0} → (B → B → Bool) → List (Drive B) → T
 settle same drives t = settled same (rows_at t drives)
 
 -- the output vectors, one for each input vector, from the valuation before
-abbrev pub trace : {B : Type 0} → (B → B → Bool) → List (Drive B) → List B → (B → Bit) → Bool → List (List Bit) → List (List Bit)
+abbrev pub trace :
+    {B : Type 0} → (B → B → Bool) → List (Drive B) → List B → (B → Bit) → Bool → List (List Bit) → List (List Bit)
 trace same drives outputs before first [] = []
 trace same drives outputs before first (x ∷ stimulus) =
     map (settle same drives (Step before x first)) outputs

@@ -21,4 +21,7 @@ with_cells cells m = record m { cells = cells }
 -- cell is, and each solution of their rows meets the cell's rows
 pub record StandsFor (ports : Ports) (start : SigBit → Bit) (wires : List Wire) (c : Cell) (cells : List Cell) : Type 0 where
   pub children : instances cells ≡ instances (c ∷ [])
-  pub rows : (p : Path) (t : Time Place) (w : Valuation) → Solved (cells_rows start ports p wires cells) t w → SolvedBefore (cells_rows start ports p wires cells) t → (d : Driven) → In d (cell_rows start ports p wires c (cell_kind c)) → IsMet d t w
+  pub rows :
+      (p : Path) (t : Time Place) (w : Valuation) → Solved (cells_rows start ports p wires cells) t w →
+      SolvedBefore (cells_rows start ports p wires cells) t → (d : Driven) →
+      In d (cell_rows start ports p wires c (cell_kind c)) → IsMet d t w
