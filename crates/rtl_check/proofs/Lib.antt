@@ -5,3 +5,4 @@ pub mod Tallying
 pub mod Telling
 pub mod Driven
 pub mod Scanning
+pub mod Searches

@@ -2,3 +2,4 @@ pub mod Words
 pub mod Finds
 pub mod Numbers
 pub mod Tallies
+pub mod Search

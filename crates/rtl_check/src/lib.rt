@@ -7,6 +7,7 @@ mod fault;
 mod items;
 mod links;
 mod params;
+mod search;
 mod tally;
 mod wires;
 
