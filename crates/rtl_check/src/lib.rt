@@ -6,6 +6,7 @@ mod cells;
 mod fault;
 mod items;
 mod links;
+mod module;
 mod params;
 mod search;
 mod tally;
