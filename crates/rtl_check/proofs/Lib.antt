@@ -6,3 +6,4 @@ pub mod Telling
 pub mod Driven
 pub mod Scanning
 pub mod Searches
+pub mod PlaceLemmas

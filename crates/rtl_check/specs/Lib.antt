@@ -3,3 +3,4 @@ pub mod Finds
 pub mod Numbers
 pub mod Tallies
 pub mod Search
+pub mod Places

@@ -8,6 +8,7 @@ mod items;
 mod links;
 mod module;
 mod params;
+mod recursion;
 mod search;
 mod tally;
 mod wires;
