@@ -7,3 +7,4 @@ pub mod Driven
 pub mod Scanning
 pub mod Searches
 pub mod PlaceLemmas
+pub mod Recursions

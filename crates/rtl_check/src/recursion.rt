@@ -2,20 +2,35 @@
 
 ghost use Rattle.std.specs.Prelude.{◌≡◌, List, IfOk, OnOk};
 ghost use Rattle.rtl_ir.specs.declared.module.Module.{Module};
-ghost use Rattle.rtl_ir.specs.Faults.Recursion.{instance_graph, instance_place, instance_places};
+ghost use Rattle.rtl_ir.specs.Faults.Recursion.{instance_graph, instance_place, instance_places, recursion_faults};
 ghost use Rattle.rtl_ir.specs.Ports.{is_library_cell};
+ghost use Rattle.rtl_check.specs.Finds.{Finds};
 ghost use Rattle.rtl_check.specs.Places.{ArePlaces, with_place};
 ghost use Rattle.rtl_check.specs.Search.{rows_of};
 
-use crate::search::Graph;
+use crate::fault::CheckFault;
+use crate::search::{Graph, leads_back};
 use cell_types::kind_of;
-use rtl_bits::Memory;
+use rtl_bits::{Copied, Memory};
 use rtl_ir::{Cell, Module};
 use std::alloc::Global;
 use std::collections::HashMap;
 
 /// The places of modules by their names.
 type Places<'a> = HashMap<&'a [u8], usize>;
+
+/// The first module that instantiates itself, through other modules or not.
+pub(crate) fn check_recursion(alloc: Global, modules: &[Module]) -> Result<(), CheckFault>
+    ensures first { Finds result (recursion_faults modules.now) }
+{
+    let graph = graph_of(alloc, modules)?;
+    for at in 0..modules.len() {
+        if leads_back(alloc, graph.as_slice(), at)? {
+            return Err(CheckFault::Recursion(modules[at].id.copy()?));
+        }
+    }
+    Ok(())
+}
 
 /// For each module the places of those that it has instances of.
 fn graph_of(alloc: Global, modules: &[Module]) -> Result<Graph, Memory>
