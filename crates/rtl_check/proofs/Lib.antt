@@ -8,3 +8,4 @@ pub mod Scanning
 pub mod Searches
 pub mod PlaceLemmas
 pub mod Recursions
+pub mod Designs

@@ -3,6 +3,7 @@
 
 mod bits;
 mod cells;
+mod design;
 mod fault;
 mod items;
 mod links;
