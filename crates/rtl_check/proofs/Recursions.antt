@@ -1,12 +1,11 @@
 -- The faults of recursion, one module after the other.
-use Rattle.std.proofs.Common.{◌≡◌, ℕ, suc, ◌+◌, ◌-◌, ◌<◌, ◌≤◌, Bool, true, false, cond, List, [], ◌∷◌, ◌++◌, length, get_or, map, Some, None, Vec, Global, add-one, refl, sym, ◌∙◌, ap, subst, arith, zero, ⊎_elim, nat_lt, Option}
+use Rattle.std.proofs.Common.{◌≡◌, ℕ, suc, ◌+◌, ◌-◌, ◌<◌, ◌≤◌, Bool, true, false, cond, List, [], ◌∷◌, length, get_or, map, Some, None, Vec, Global, refl, sym, ◌∙◌, ap, subst, arith, zero, ⊎_elim, nat_lt, Option}
 use Rattle.std.proofs.lemmas.Bool.Decides.{nat_tests}
 use Rattle.std.proofs.lemmas.List.{length-map}
 use Rattle.std.specs.Str.{bytes_eq}
 use Rattle.std.specs.List.{position_or_len}
 use Rattle.rtl_ir.specs.declared.cell.Cell.{Cell}
 use Rattle.rtl_ir.specs.declared.module.Module.{Module}
-use Rattle.rtl_ir.specs.Fault as rtl
 use Rattle.rtl_ir.specs.Faults.Recursion.{id_at, instance_graph, instance_place, instance_places, is_recursive, leads_within, place_named, recursion_faults}
 use Rattle.rtl_check.specs.declared.fault.CheckFault.TheVariants as check
 use Rattle.rtl_check.specs.Finds.{first_answer}

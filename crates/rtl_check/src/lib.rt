@@ -1,8 +1,10 @@
 //! Whether a design has a fault, and which is the first.
 #![tactic(auto)]
 
+mod answer;
 mod bits;
 mod cells;
+mod checked;
 mod design;
 mod fault;
 mod items;
@@ -14,4 +16,6 @@ mod search;
 mod tally;
 mod wires;
 
+pub use answer::{Refused, check};
+pub use checked::Checked;
 pub use fault::{CheckFault, Item, Spot, WireSpot};
