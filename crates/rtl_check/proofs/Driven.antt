@@ -1,5 +1,5 @@
 -- The bits that are driven in a module without processes.
-use Rattle.std.proofs.Common.{◌≡◌, ℕ, zero, suc, ◌+◌, min, Bool, true, false, cond, List, [], ◌∷◌, ◌++◌, length, map, flat_map, take, refl, sym, ◌∙◌, ap, subst}
+use Rattle.std.proofs.Common.{◌≡◌, ℕ, ◌+◌, min, Bool, true, false, cond, List, [], ◌∷◌, ◌++◌, length, map, flat_map, take, refl, ◌∙◌, ap}
 use Rattle.std.proofs.Math.Nat.{min-zero, suc-min-suc, zero-min}
 use Rattle.std.proofs.lemmas.List.{map-append, append-nil}
 use Rattle.rtl_sig.specs.declared.sig.SigBit.{SigBit}
@@ -9,14 +9,13 @@ use Rattle.rtl_ir.specs.declared.cell.Cell.{Cell}
 use Rattle.rtl_ir.specs.declared.cell.Pin.{Pin}
 use Rattle.rtl_ir.specs.declared.module.Link.{Link}
 use Rattle.rtl_ir.specs.declared.module.Module.{Module}
-use Rattle.rtl_ir.specs.declared.process.Process.{Process}
 use Rattle.rtl_ir.specs.declared.wire.Wire.{Wire}
 use Rattle.rtl_ir.specs.Drivers.{Source, Drive, FromPort, FromCell, FromLink, all_by, port_drives, places_by, pin_drives, cell_drives, link_drives, drives_of, tree_drives, rule_drives, is_input}
 use Rattle.rtl_ir.specs.Follow.{Join, joins, all_joins}
 use Rattle.rtl_ir.specs.Outputs.{drives_pin}
 use Rattle.rtl_ir.specs.Signals.{bits_of_wire, wire_bits}
 use Rattle.rtl_ir.specs.Types.{CellType, Ports, cell_type}
-use Rattle.rtl_check.specs.Tallies.{bits_of_cell, bits_of_link, bits_of_pin, bits_of_port, port_bits}
+use Rattle.rtl_check.specs.Tallies.{bits_of_cell, bits_of_link, bits_of_pin, port_bits}
 use Rattle.rtl_check.proofs.Telling.{driven}
 
 driven-append : (xs ys : List Drive) → driven (xs ++ ys) ≡ driven xs ++ driven ys

@@ -1,10 +1,9 @@
 -- First faults of lists that are joined.
-use Rattle.std.proofs.Common.{◌≡◌, List, [], ◌∷◌, ◌++◌, Result, Ok, Err, Option, Some, None, option_map, refl, sym, ◌∙◌, ap, subst}
+use Rattle.std.proofs.Common.{◌≡◌, List, [], ◌∷◌, ◌++◌, Some, sym, ◌∙◌, ap, subst}
 use Rattle.rtl_ir.specs.Fault as rtl
-use Rattle.rtl_ir.specs.Faults.{first_of}
 use Rattle.rtl_check.specs.declared.fault.CheckFault.{CheckFault}
 use Rattle.rtl_check.specs.declared.fault.CheckFault.TheVariants as check
-use Rattle.rtl_check.specs.Finds.{Finds, IsFirst, first_answer}
+use Rattle.rtl_check.specs.Finds.{IsFirst, first_answer}
 
 some_first : (f : CheckFault) (xs ys : List rtl.Fault) → first_answer xs ≡ Some f → first_answer (xs ++ ys) ≡ Some f
 some_first f [] ys e = absurd (cc)

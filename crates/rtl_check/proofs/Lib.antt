@@ -5,3 +5,7 @@ pub mod Tallying
 pub mod Telling
 pub mod Driven
 pub mod Scanning
+pub mod Searches
+pub mod PlaceLemmas
+pub mod Recursions
+pub mod Designs

@@ -1,5 +1,5 @@
 -- The bits of wires, one after another.
-use Rattle.std.proofs.Common.{◌≡◌, ℕ, zero, suc, ◌+◌, ◌-◌, ◌<◌, Bool, true, false, cond, ltb, List, [], ◌∷◌, ◌++◌, length, get_or, map, flat_map, Option, Some, None, refl, sym, ◌∙◌, ap, subst, arith}
+use Rattle.std.proofs.Common.{◌≡◌, ℕ, suc, ◌+◌, ◌-◌, ◌<◌, Bool, true, false, cond, ltb, List, [], ◌∷◌, ◌++◌, get_or, flat_map, Some, sym, ◌∙◌, ap, subst, arith}
 use Rattle.std.specs.List.{range_with_len}
 use Rattle.rtl_sig.specs.declared.sig.WireBit.{WireBit}
 use Rattle.rtl_ir.specs.declared.module.Module.{Module}
@@ -15,7 +15,7 @@ use Rattle.rtl_check.specs.declared.fault.CheckFault.TheVariants as check
 use Rattle.rtl_check.specs.Finds.{IsFirst, first_answer}
 use Rattle.rtl_check.specs.Tallies.{Tallied, Tells, bits_of_cell, bits_of_link, port_bits, untallied, with_bits}
 use Rattle.rtl_check.proofs.Driven.{driven-drives_of}
-use Rattle.rtl_check.proofs.Firsts.{first_before, first_behind}
+use Rattle.rtl_check.proofs.Firsts.{first_before}
 use Rattle.rtl_check.proofs.Tallying.{with_bits-append}
 use Rattle.rtl_check.proofs.Telling.{tells_driven}
 

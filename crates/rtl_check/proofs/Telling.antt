@@ -1,26 +1,15 @@
 -- The counts of the bits tell which are driven more than once.
-use Rattle.std.proofs.Common.{◌≡◌, ◌≢◌, ℕ, zero, suc, ◌+◌, ◌<◌, ◌≤◌, min, Bool, true, false, cond, ltb, List, [], ◌∷◌, ◌++◌, length, get_or, set, map, flat_map, take, replicate, Option, Some, None, refl, sym, ◌∙◌, ap, subst, arith, nat_eq, ◌&&◌}
-use Rattle.std.proofs.lemmas.List.{length-set, get_or-set_same, get_or-set_other, get_or-replicate, map-append, length-replicate, append-nil}
+use Rattle.std.proofs.Common.{◌≡◌, ◌≢◌, ℕ, zero, suc, ◌+◌, ◌<◌, ◌≤◌, min, Bool, true, false, cond, ltb, List, [], ◌∷◌, length, get_or, map, replicate, Option, Some, None, refl, sym, ◌∙◌, ap, subst, arith, nat_eq, ◌&&◌}
+use Rattle.std.proofs.lemmas.List.{length-set, get_or-set_same, get_or-set_other, get_or-replicate, length-replicate}
 use Rattle.std.proofs.lemmas.Bool.{eq-eqb, eqb-true, false≢true, lt-ltb}
 use Rattle.std.proofs.lemmas.List.Recursion.{is_count_by}
 use Rattle.std.specs.Option.{option_map_or}
-use Rattle.rtl_sig.specs.declared.sig.SigBit.{SigBit}
-use Rattle.rtl_sig.specs.declared.sig.SigBit.TheVariants as sig
 use Rattle.rtl_sig.specs.declared.sig.WireBit.{WireBit}
-use Rattle.rtl_ir.specs.declared.cell.Cell.{Cell}
-use Rattle.rtl_ir.specs.declared.cell.Pin.{Pin}
-use Rattle.rtl_ir.specs.declared.module.Link.{Link}
-use Rattle.rtl_ir.specs.declared.module.Module.{Module}
-use Rattle.rtl_ir.specs.declared.process.Process.{Process}
-use Rattle.rtl_ir.specs.declared.wire.Wire.{Wire}
-use Rattle.rtl_ir.specs.Drivers.{Source, Drive, FromPort, FromCell, FromLink, all_by, port_drives, places_by, pin_drives, cell_drives, link_drives, drives_of, tree_drives, rule_drives, drive_count, is_input}
-use Rattle.rtl_ir.specs.Follow.{Join, joins, all_joins}
-use Rattle.rtl_ir.specs.Outputs.{drives_pin}
-use Rattle.rtl_ir.specs.Signals.{same_bit, bits_of_wire, wire_bits}
-use Rattle.rtl_ir.specs.Types.{CellType, Ports, cell_type}
+use Rattle.rtl_ir.specs.Drivers.{Drive, drive_count}
+use Rattle.rtl_ir.specs.Signals.{same_bit}
 use Rattle.net_index.specs.Numbering.{bit_count, number_of}
 use Rattle.net_index.proofs.Numbers.{number-inj, number_within}
-use Rattle.rtl_check.specs.Tallies.{Tallied, Tells, bits_of_cell, bits_of_link, bits_of_pin, bits_of_port, port_bits, raised, untallied, with_bit, with_bits}
+use Rattle.rtl_check.specs.Tallies.{Tallied, Tells, raised, untallied, with_bit, with_bits}
 
 -- how often a bit stands in a list
 abbrev times : List WireBit → WireBit → ℕ

@@ -2,3 +2,5 @@ pub mod Words
 pub mod Finds
 pub mod Numbers
 pub mod Tallies
+pub mod Search
+pub mod Places

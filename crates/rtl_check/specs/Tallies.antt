@@ -1,5 +1,5 @@
 -- How often each bit of a module is driven, as far as it matters: not, once, or more often.
-use Rattle.std.specs.Prelude.{◌≡◌, ℕ, ◌+◌, min, nat_lt, Some, Bool, List, [], ◌∷◌, ◌++◌, length, take, flat_map, replicate, slice_index, slice_set, if◌then◌else◌, Option}
+use Rattle.std.specs.Prelude.{◌≡◌, ℕ, ◌+◌, min, nat_lt, Some, List, [], ◌∷◌, ◌++◌, length, take, flat_map, replicate, slice_index, slice_set, if◌then◌else◌}
 use Rattle.std.specs.Option.{option_map_or}
 use Rattle.rtl_sig.specs.declared.sig.WireBit.{WireBit}
 use Rattle.rtl_ir.specs.declared.cell.Cell.{Cell}

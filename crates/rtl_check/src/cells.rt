@@ -23,11 +23,7 @@ use rtl_ir::{Cell, Module, Pin};
 use std::alloc::Global;
 
 /// The first fault of the cells of a module, over the types of its design. There are no cells of memories so far.
-pub(crate) fn check_cells(
-    alloc: Global,
-    types: &Types,
-    body: &Module,
-) -> Result<(), CheckFault>
+pub(crate) fn check_cells(alloc: Global, types: &Types, body: &Module) -> Result<(), CheckFault>
     ensures first { (ports : rtl.Ports) → AreTypes types.now ports →
         Finds result (cells.cell_faults cells_alone ports body.now [] body.now.cells) }
 {
@@ -39,12 +35,7 @@ pub(crate) fn check_cells(
 }
 
 /// The first fault of a cell of this type.
-fn check_cell(
-    alloc: Global,
-    id: &Text,
-    cell: &Cell,
-    cell_type: &CellType,
-) -> Result<(), CheckFault>
+fn check_cell(alloc: Global, id: &Text, cell: &Cell, cell_type: &CellType) -> Result<(), CheckFault>
     ensures first { (type : rtl.CellType) → IsType cell_type.now type → (m : Module) → m.id ≡ id.now → (earlier : List Cell) →
         Finds result (cells.faults_by_type cells_alone m earlier cell.now type) }
 {
