@@ -1,6 +1,8 @@
 pub mod Stacks
 pub mod Signals
 pub mod Faults
+pub mod Taking
+pub mod Unique
 pub mod NumberLemmas
 pub mod WireLemmas
 pub mod CellLemmas
