@@ -13,7 +13,6 @@ use Rattle.rtl_grammar.proofs.Reading.{RefusesNoNumber}
 use Rattle.rtl_read.specs.declared.draft.Draft.{Draft}
 use Rattle.rtl_read.specs.declared.read_fault.ReadFault.{ReadFault}
 use Rattle.rtl_read.specs.declared.read_fault.ReadFault.TheVariants as faults
-use Rattle.rtl_read.specs.Signal.{some_bits, put_below, inside}
 use Rattle.rtl_read.specs.Act.{act}
 
 -- a call has some fault
