@@ -1,0 +1,7 @@
+pub mod Chars
+pub mod Firsts
+pub mod CellLemmas
+pub mod Tallying
+pub mod Telling
+pub mod Driven
+pub mod Scanning

@@ -1,0 +1,4 @@
+pub mod Words
+pub mod Finds
+pub mod Numbers
+pub mod Tallies
