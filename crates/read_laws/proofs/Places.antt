@@ -8,7 +8,7 @@ use Rattle.rtl_grammar.specs.declared.expect.Expect.TheVariants as expects
 use Rattle.rtl_grammar.specs.Grammar.{after, Derives}
 use Rattle.rtl_grammar.specs.Uses.{Use, roles_of, items_of}
 use Rattle.rtl_grammar.proofs.Reading.{ending, ends, some_is}
-use Rattle.read_laws.specs.SignalBits.{Written, Plain, At, Slice, Braced, Parts, NoPart, OnePart, is_plain, IsWritten, AreWritten, placed, places_of, places_in, is_behind}
+use Rattle.read_laws.specs.SignalBits.{Written, Plain, At, Slice, Braced, Parts, NoPart, OnePart, is_plain, IsWritten, AreWritten, placed, places_of, places_in, is_behind, may_stand, expected_at}
 
 -- ---- one list of places for the items
 
@@ -38,6 +38,34 @@ signal_plain sorts.Value e = refl
 signal_plain sorts.Int e = refl
 signal_plain sorts.Chars e = refl
 signal_plain sort e = absurd cc
+
+patterns_plain : (sort : Sort) → is_plain sort ≡ true → after expects.Patterns sort ≡ Some (expects.BehindPattern ∷ [])
+patterns_plain sorts.Id e = refl
+patterns_plain sorts.Value e = refl
+patterns_plain sorts.Int e = refl
+patterns_plain sorts.Chars e = refl
+patterns_plain sort e = absurd cc
+
+left_plain : (sort : Sort) → is_plain sort ≡ true → after expects.BehindLeft sort ≡ Some (expects.BehindRight ∷ [])
+left_plain sorts.Id e = refl
+left_plain sorts.Value e = refl
+left_plain sorts.Int e = refl
+left_plain sorts.Chars e = refl
+left_plain sort e = absurd cc
+
+address_plain : (sort : Sort) → is_plain sort ≡ true → after expects.BehindAddress sort ≡ Some (expects.BehindValue ∷ [])
+address_plain sorts.Id e = refl
+address_plain sorts.Value e = refl
+address_plain sorts.Int e = refl
+address_plain sorts.Chars e = refl
+address_plain sort e = absurd cc
+
+value_plain : (sort : Sort) → is_plain sort ≡ true → after expects.BehindValue sort ≡ Some (expects.BehindEnable ∷ [])
+value_plain sorts.Id e = refl
+value_plain sorts.Value e = refl
+value_plain sorts.Int e = refl
+value_plain sorts.Chars e = refl
+value_plain sort e = absurd cc
 
 inside_plain : (sort : Sort) → is_plain sort ≡ true → after expects.Inside sort ≡ Some (expects.BehindInside ∷ [])
 inside_plain sorts.Id e = refl
@@ -115,9 +143,29 @@ mutual
       let inner : Derives (expects.BehindInside ∷ roles) (roles_of (rest ++ more)) = derives_all parts right expects.BehindInside roles more behind_begins w.1 c d in
       subst (λ (x : List Use). Derives (place ∷ roles) (roles_of x)) (sym (append_assoc (places_of place expects.BehindInside signal) rest more)) (derives_bits signal place expects.BehindInside roles roles (rest ++ more) refl (st.begins roles) w.0 inner)
 
-pub stands_so : (signal : Written) (behind : Expect) (roles : List Expect) (more : List Use) → is_behind behind ≡ true → IsWritten signal → Derives (behind ∷ roles) (roles_of more) → Derives (expects.Signal ∷ behind ∷ roles) (roles_of (places_of expects.Signal behind signal ++ more))
-stands_so signal behind roles more b w d = derives_bits signal expects.Signal behind (behind ∷ roles) roles more b (signal_begins behind roles) w d
+-- ---- wherever a signal may stand
 
-pub only_so : (signal : Written) (behind : Expect) (roles : List Expect) (uses more : List Use) → is_behind behind ≡ true → IsWritten signal → items_of uses ≡ items_of (places_of expects.Signal behind signal) → Derives (expects.Signal ∷ behind ∷ roles) (roles_of (uses ++ more)) → uses ≡ places_of expects.Signal behind signal
-only_so signal behind roles uses more b w same d =
-    same_uses uses (places_of expects.Signal behind signal) more (ending (behind ∷ roles)) (expects.Signal ∷ behind ∷ roles) d (stands_so signal behind roles (ending (behind ∷ roles)) b w (ends (behind ∷ roles))) same
+pub stands_behind : (first behind : Expect) → may_stand first behind ≡ true → is_behind behind ≡ true
+stands_behind expects.Signal behind e = e
+stands_behind expects.Patterns expects.BehindPattern e = refl
+stands_behind expects.BehindLeft expects.BehindRight e = refl
+stands_behind expects.BehindAddress expects.BehindValue e = refl
+stands_behind expects.BehindValue expects.BehindEnable e = refl
+stands_behind first behind e = absurd cc
+
+pub stands_so : (signal : Written) (first behind : Expect) (roles : List Expect) (more : List Use) → may_stand first behind ≡ true → IsWritten signal → Derives (behind ∷ roles) (roles_of more) → Derives (expected_at first behind roles) (roles_of (places_of first behind signal ++ more))
+stands_so signal expects.Signal behind roles more b w d =
+    derives_bits signal expects.Signal behind (behind ∷ roles) roles more b (signal_begins behind roles) w d
+stands_so signal expects.Patterns expects.BehindPattern roles more b w d =
+    derives_bits signal expects.Patterns expects.BehindPattern roles roles more refl (record { plain = λ sort e. (expects.BehindPattern ∷ [], patterns_plain sort e, refl); brace = (expects.Inside ∷ expects.BehindPattern ∷ [], refl, refl) }) w d
+stands_so signal expects.BehindLeft expects.BehindRight roles more b w d =
+    derives_bits signal expects.BehindLeft expects.BehindRight roles roles more refl (record { plain = λ sort e. (expects.BehindRight ∷ [], left_plain sort e, refl); brace = (expects.Inside ∷ expects.BehindRight ∷ [], refl, refl) }) w d
+stands_so signal expects.BehindAddress expects.BehindValue roles more b w d =
+    derives_bits signal expects.BehindAddress expects.BehindValue roles roles more refl (record { plain = λ sort e. (expects.BehindValue ∷ [], address_plain sort e, refl); brace = (expects.Inside ∷ expects.BehindValue ∷ [], refl, refl) }) w d
+stands_so signal expects.BehindValue expects.BehindEnable roles more b w d =
+    derives_bits signal expects.BehindValue expects.BehindEnable roles roles more refl (record { plain = λ sort e. (expects.BehindEnable ∷ [], value_plain sort e, refl); brace = (expects.Inside ∷ expects.BehindEnable ∷ [], refl, refl) }) w d
+stands_so signal first behind roles more b w d = absurd cc
+
+pub only_so : (signal : Written) (first behind : Expect) (roles : List Expect) (uses more : List Use) → may_stand first behind ≡ true → IsWritten signal → items_of uses ≡ items_of (places_of first behind signal) → Derives (expected_at first behind roles) (roles_of (uses ++ more)) → uses ≡ places_of first behind signal
+only_so signal first behind roles uses more b w same d =
+    same_uses uses (places_of first behind signal) more (ending (behind ∷ roles)) (expected_at first behind roles) d (stands_so signal first behind roles (ending (behind ∷ roles)) b w (ends (behind ∷ roles))) same

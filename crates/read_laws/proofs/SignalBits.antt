@@ -1,10 +1,11 @@
 -- What signals stand for is what their items do.
-use Rattle.std.proofs.Common.{◌≡◌, ℕ, suc, ◌+◌, ◌-◌, ◌<◌, ◌≤◌, List, [], ◌∷◌, ◌++◌, length, take, drop, Option, Some, Result, Ok, Err, Bool, true, refl, sym, ap, subst, ◌∙◌, append_assoc, append-nil, length-append, arith}
+use Rattle.std.proofs.Common.{None, ◌≡◌, ℕ, suc, ◌+◌, ◌-◌, ◌<◌, ◌≤◌, List, [], ◌∷◌, ◌++◌, length, take, drop, Option, Some, Result, Ok, Err, Bool, true, refl, sym, ap, subst, ◌∙◌, append_assoc, append-nil, length-append, arith}
 use Rattle.std.specs.Prelude.{ℤ, pos, nat_lt, nat_le, if◌then◌else◌, ◌||◌}
 use Rattle.std.proofs.lemmas.Bool.{le-ltb, lt-leb}
 use Rattle.rtl_lex.specs.declared.sort.Sort.{Sort}
 use Rattle.rtl_lex.specs.declared.sort.Sort.TheVariants as sorts
 use Rattle.rtl_lex.specs.declared.place.Place.{Place}
+use Rattle.rtl_lex.specs.Place.{start}
 use Rattle.rtl_lex.specs.Items.{Seen}
 use Rattle.rtl_sig.specs.declared.sig.SigBit.{SigBit}
 use Rattle.rtl_ir.specs.declared.wire.Wire.{Wire}
@@ -19,7 +20,14 @@ use Rattle.rtl_read.specs.declared.signal.OpenSignal.{OpenSignal}
 use Rattle.rtl_read.specs.Constant.{integer}
 use Rattle.rtl_read.specs.Signal.{plain_signal, begin, close_brace, inside, put_below, open_index, behind_inside, slice, behind_index}
 use Rattle.rtl_read.specs.Act.{act}
-use Rattle.read_laws.specs.SignalBits.{Written, Plain, At, Slice, Braced, Parts, NoPart, OnePart, is_plain, IsWritten, AreWritten, IsCut, StandsFor, StandFor, depth_of, depth_in, placed, places_of, places_in, is_behind}
+use Rattle.rtl_read.specs.Act.Signal.{begin_signal, without_signal}
+use Rattle.rtl_read.specs.Act.Pair.{act_behind_left}
+use Rattle.rtl_read.specs.Act.Switch.{act_patterns}
+use Rattle.rtl_read.specs.Act.Sync.{act_behind_address, act_behind_value}
+use Rattle.rtl_read.specs.Meaning.Process.{with_address, with_value}
+use Rattle.rtl_read.specs.Signal.{some_bits}
+use Rattle.read_laws.proofs.Places.{stands_behind}
+use Rattle.read_laws.specs.SignalBits.{Written, Plain, At, Slice, Braced, Parts, NoPart, OnePart, is_plain, IsWritten, AreWritten, IsCut, StandsFor, StandFor, depth_of, depth_in, placed, places_of, places_in, is_behind, may_stand, taken_at, where_some}
 
 -- ---- what uses do one after another
 
@@ -33,6 +41,9 @@ run_on {S} {F} act (u ∷ us) vs x y e = first (act u.role u.item x) (λ n. run_
     first : (r : Result S F) → ((n : S) → run act n us ≡ Ok y → run act n (us ++ vs) ≡ run act y vs) → (r >>= λ n. run act n us) ≡ Ok y → (r >>= λ n. run act n (us ++ vs)) ≡ run act y vs
     first (Ok n) on e = on n e
     first (Err f) on e = absurd cc
+
+then_runs : {S F : Type 0} (act : Action S F) (us vs : List Use) (x y z : S) → run act x us ≡ Ok y → run act y vs ≡ Ok z → run act x (us ++ vs) ≡ Ok z
+then_runs act us vs x y z e f = run_on act us vs x y e ∙ f
 
 -- ---- where a signal begins
 
@@ -236,7 +247,7 @@ mutual
       ∙ ap (then_with d) (opens_brace d.current.body.wires d.current.wire_names left s (omega (arith, deep))) in
       let all : bits ++ [] ≡ bits = append-nil bits in
       let more = leaves_all parts right bits d (with d s1) s1 [] s.braces expects.Inside w.1 w.2 (inside_ready d s1) refl stands.0 (omega (arith, stands.1, ap length all)) (omega (arith, deep)) in
-      record { signal = more.signal; runs = bind_on (act first left x) (with d s1) (λ y. run act y (places_in expects.Inside parts right)) one ∙ more.runs; part = more.part ∙ all; around = more.around }
+      record { signal = more.signal; runs = then_runs act (placed first left ∷ []) (places_in expects.Inside parts right) x (with d s1) (with d more.signal) (bind_on (act first left x) (with d s1) fine one) more.runs; part = more.part ∙ all; around = more.around }
 
   leaves_all : (parts : Parts) (right : Seen) (bits : List SigBit) (d x : Draft) (s : OpenSignal) (acc : List SigBit) (outer : List (List SigBit)) (place : Expect) → AreWritten parts → right.sort ≡ sorts.CloseBrace → IsReady d place x s → s.braces ≡ acc ∷ outer → StandFor d.current.body.wires d.current.wire_names parts bits → length (bits ++ acc) ≤ MAX_BITS → depth_in parts + 1 + length outer ≤ MAX_DEPTH → Leaves d x (places_in place parts right) (bits ++ acc) outer
   leaves_all NoPart right bits d x s acc outer place w c ready braces stand le deep =
@@ -260,12 +271,83 @@ mutual
       let more = leaves_all parts right rest d (with d front.signal) t (top ++ acc) outer expects.BehindInside w.1 c (behind_ready d front.signal t put) refl stand.3 fits (omega (arith, deep)) in
       record {
         signal = more.signal;
-        runs = run_on act (places_of place expects.BehindInside signal) (places_in expects.BehindInside parts right) x (with d front.signal) front.runs ∙ more.runs;
+        runs = then_runs act (places_of place expects.BehindInside signal) (places_in expects.BehindInside parts right) x (with d front.signal) (with d more.signal) front.runs more.runs;
         part = more.part ∙ sym are;
         around = more.around;
       }
 
-pub bits_so : (signal : Written) (bits : List SigBit) (behind : Expect) (d : Draft) → is_behind behind ≡ true → IsWritten signal → StandsFor d.current.body.wires d.current.wire_names signal bits → depth_of signal + length d.signal.braces ≤ MAX_DEPTH → (s : OpenSignal) × (run act d (places_of expects.Signal behind signal) ≡ Ok (record d { signal = s })) × (s.part ≡ bits) × (s.braces ≡ d.signal.braces)
-bits_so signal bits behind d b w stands deep =
-    let last = leaves_bits signal bits d d d.signal expects.Signal behind b (signal_starts d d.signal) w stands deep in
+-- ---- wherever a signal may stand
+
+-- some item
+bare : Seen
+bare = record { sort = sorts.Line; text = []; number = None; place = start }
+
+some_same : {A : Type 0} (x y : A) → Some x ≡ Some y → x ≡ y
+some_same x y e = cc
+
+patterns_begin : (sort : Sort) (i : Seen) (d : Draft) → starts sort ≡ true → act_patterns sort i d ≡ begin_signal sort i d
+patterns_begin sorts.Id i d e = refl
+patterns_begin sorts.Value i d e = refl
+patterns_begin sorts.Int i d e = refl
+patterns_begin sorts.Chars i d e = refl
+patterns_begin sorts.OpenBrace i d e = refl
+patterns_begin sort i d e = absurd cc
+
+abbrev left_taken : Draft → Draft
+left_taken d = record (without_signal d) { left = d.signal.part }
+
+left_begins : (sort : Sort) (i : Seen) (d : Draft) → starts sort ≡ true → act_behind_left sort i d ≡ begin_signal sort i (left_taken d)
+left_begins sorts.Id i d e = refl
+left_begins sorts.Value i d e = refl
+left_begins sorts.Int i d e = refl
+left_begins sorts.Chars i d e = refl
+left_begins sorts.OpenBrace i d e = refl
+left_begins sort i d e = absurd cc
+
+-- where the bits are some, they are taken
+some_taken : (bits : List SigBit) (x d : Draft) (i : Seen) → where_some bits x ≡ Some d → (some_bits bits i ≡ Ok bits) × (x ≡ d)
+some_taken [] x d i e = absurd cc
+some_taken (b ∷ bs) x d i e = (refl, some_same x d e)
+
+abbrev address_taken : Draft → List SigBit → Draft
+address_taken d sig = record (without_signal d) { process = with_address sig d.process }
+
+abbrev value_taken : Draft → List SigBit → Draft
+value_taken d sig = record (without_signal d) { process = with_value sig d.process }
+
+address_begins : (sort : Sort) (i : Seen) (d : Draft) → starts sort ≡ true → act_behind_address sort i d ≡ (some_bits d.signal.part i >>= λ sig. begin_signal sort i (address_taken d sig))
+address_begins sorts.Id i d e = refl
+address_begins sorts.Value i d e = refl
+address_begins sorts.Int i d e = refl
+address_begins sorts.Chars i d e = refl
+address_begins sorts.OpenBrace i d e = refl
+address_begins sort i d e = absurd cc
+
+value_begins : (sort : Sort) (i : Seen) (d : Draft) → starts sort ≡ true → act_behind_value sort i d ≡ (some_bits d.signal.part i >>= λ sig. begin_signal sort i (value_taken d sig))
+value_begins sorts.Id i d e = refl
+value_begins sorts.Value i d e = refl
+value_begins sorts.Int i d e = refl
+value_begins sorts.Chars i d e = refl
+value_begins sorts.OpenBrace i d e = refl
+value_begins sort i d e = absurd cc
+
+starts_at : (first behind : Expect) (x d : Draft) → may_stand first behind ≡ true → taken_at first x ≡ Some d → Starts d first x d.signal
+starts_at expects.Signal behind x d b t = subst (λ (y : Draft). Starts y expects.Signal x y.signal) (some_same x d t) (signal_starts x x.signal)
+starts_at expects.Patterns expects.BehindPattern x d b t =
+    subst (λ (y : Draft). Starts y expects.Patterns x y.signal) (some_same x d t) (record { begins = λ i e. patterns_begin i.sort i x e })
+starts_at expects.BehindLeft expects.BehindRight x d b t =
+    subst (λ (y : Draft). Starts y expects.BehindLeft x y.signal) (some_same (left_taken x) d t) (record { begins = λ i e. left_begins i.sort i x e })
+starts_at expects.BehindAddress expects.BehindValue x d b t =
+    let y : Draft = address_taken x x.signal.part in
+    subst (λ (z : Draft). Starts z expects.BehindAddress x z.signal) (some_taken x.signal.part y d bare t).1
+    (record { begins = λ i e. address_begins i.sort i x e ∙ bind_on (some_bits x.signal.part i) x.signal.part (λ sig. begin_signal i.sort i (address_taken x sig)) (some_taken x.signal.part y d i t).0 })
+starts_at expects.BehindValue expects.BehindEnable x d b t =
+    let y : Draft = value_taken x x.signal.part in
+    subst (λ (z : Draft). Starts z expects.BehindValue x z.signal) (some_taken x.signal.part y d bare t).1
+    (record { begins = λ i e. value_begins i.sort i x e ∙ bind_on (some_bits x.signal.part i) x.signal.part (λ sig. begin_signal i.sort i (value_taken x sig)) (some_taken x.signal.part y d i t).0 })
+starts_at first behind x d b t = absurd cc
+
+pub bits_so : (signal : Written) (bits : List SigBit) (first behind : Expect) (before d : Draft) → may_stand first behind ≡ true → taken_at first before ≡ Some d → IsWritten signal → StandsFor d.current.body.wires d.current.wire_names signal bits → depth_of signal + length d.signal.braces ≤ MAX_DEPTH → (s : OpenSignal) × (run act before (places_of first behind signal) ≡ Ok (record d { signal = s })) × (s.part ≡ bits) × (s.braces ≡ d.signal.braces)
+bits_so signal bits first behind before d b t w stands deep =
+    let last = leaves_bits signal bits d before d.signal first behind (stands_behind first behind b) (starts_at first behind before d b t) w stands deep in
     (last.signal, last.runs, last.part, last.around)

@@ -1,5 +1,5 @@
 -- What a signal stands for as bits, by its parts.
-use Rattle.std.specs.Prelude.{◌≡◌, ℕ, ◌+◌, ◌-◌, ◌<◌, ◌≤◌, max, pos, List, [], ◌∷◌, ◌++◌, length, take, drop, Some, Ok, Bool, true, false}
+use Rattle.std.specs.Prelude.{Option, None, ◌≡◌, ℕ, ◌+◌, ◌-◌, ◌<◌, ◌≤◌, max, pos, List, [], ◌∷◌, ◌++◌, length, take, drop, Some, Ok, Bool, true, false}
 use Rattle.rtl_lex.specs.declared.sort.Sort.{Sort}
 use Rattle.rtl_lex.specs.declared.sort.Sort.TheVariants as sorts
 use Rattle.rtl_lex.specs.Items.{Seen}
@@ -9,7 +9,10 @@ use Rattle.rtl_grammar.specs.declared.expect.Expect.{Expect}
 use Rattle.rtl_grammar.specs.declared.expect.Expect.TheVariants as expects
 use Rattle.rtl_grammar.specs.Uses.{Use}
 use Rattle.rtl_read.specs.declared.limits.TheConstants.{MAX_BITS}
+use Rattle.rtl_read.specs.declared.draft.Draft.{Draft}
 use Rattle.rtl_read.specs.Signal.{plain_signal}
+use Rattle.rtl_read.specs.Meaning.Process.{with_address, with_value}
+use Rattle.rtl_read.specs.Act.Signal.{without_signal}
 
 mutual
   -- a signal as it is written, by its items: a name or a constant; a signal and `[n]`, or `[m:n]`; or signals in braces
@@ -100,7 +103,7 @@ abbrev mutual
   places_in place NoPart right = placed place right ∷ []
   places_in place (OnePart signal parts) right = places_of place expects.BehindInside signal ++ places_in expects.BehindInside parts right
 
--- what may be expected behind a signal
+-- the places of a bracket behind a signal
 abbrev pub is_behind : Expect → Bool
 is_behind expects.BehindPin = true
 is_behind expects.BehindLeft = true
@@ -113,3 +116,31 @@ is_behind expects.BehindValue = true
 is_behind expects.BehindEnable = true
 is_behind expects.BehindInside = true
 is_behind role = false
+
+-- where a signal may stand: where one is expected; or as the first pattern of a case, the right signal of a pair, the
+-- value or the enable of a `memwr` line; with the place of a bracket behind it
+abbrev pub may_stand : Expect → Expect → Bool
+may_stand expects.Signal behind = is_behind behind
+may_stand expects.Patterns expects.BehindPattern = true
+may_stand expects.BehindLeft expects.BehindRight = true
+may_stand expects.BehindAddress expects.BehindValue = true
+may_stand expects.BehindValue expects.BehindEnable = true
+may_stand first behind = false
+
+-- what is expected there, with this behind all
+abbrev pub expected_at : Expect → Expect → List Expect → List Expect
+expected_at expects.Signal behind roles = expects.Signal ∷ behind ∷ roles
+expected_at first behind roles = first ∷ roles
+
+-- the draft, where the bits are some
+abbrev pub where_some : List SigBit → Draft → Option Draft
+where_some [] d = None
+where_some (b ∷ bs) d = Some d
+
+-- what was read before the signal, once the signal before it is taken: the left one of a pair; the address and the
+-- value of a `memwr` line, which may not be empty
+abbrev pub taken_at : Expect → Draft → Option Draft
+taken_at expects.BehindLeft d = Some (record (without_signal d) { left = d.signal.part })
+taken_at expects.BehindAddress d = where_some d.signal.part (record (without_signal d) { process = with_address d.signal.part d.process })
+taken_at expects.BehindValue d = where_some d.signal.part (record (without_signal d) { process = with_value d.signal.part d.process })
+taken_at first d = Some d
