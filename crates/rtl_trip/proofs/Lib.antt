@@ -14,3 +14,5 @@ pub mod Going
 pub mod GoingSignals
 pub mod GoingWires
 pub mod GoingCells
+pub mod GoingPairs
+pub mod GoingTrees
