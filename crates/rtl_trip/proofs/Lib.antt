@@ -16,3 +16,4 @@ pub mod GoingWires
 pub mod GoingCells
 pub mod GoingPairs
 pub mod GoingTrees
+pub mod GoingRules
