@@ -17,3 +17,4 @@ pub mod GoingCells
 pub mod GoingPairs
 pub mod GoingTrees
 pub mod GoingRules
+pub mod GoingModules
