@@ -18,3 +18,4 @@ pub mod GoingPairs
 pub mod GoingTrees
 pub mod GoingRules
 pub mod GoingModules
+pub mod Trip
