@@ -19,3 +19,4 @@ pub mod GoingTrees
 pub mod GoingRules
 pub mod GoingModules
 pub mod Trip
+pub mod PortLemmas

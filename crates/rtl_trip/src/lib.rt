@@ -2,3 +2,6 @@
 #![tactic(auto)]
 
 mod laws;
+mod ports;
+
+pub use ports::read_ports;
