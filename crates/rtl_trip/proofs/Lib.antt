@@ -19,4 +19,6 @@ pub mod GoingTrees
 pub mod GoingRules
 pub mod GoingModules
 pub mod Trip
+pub mod Marks
 pub mod PortLemmas
+pub mod BodyLemmas

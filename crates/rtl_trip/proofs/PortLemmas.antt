@@ -17,62 +17,14 @@ use Rattle.rtl_ir.specs.declared.ports.PortTable.{PortTable}
 use Rattle.rtl_write.specs.Ports.{role_word, port_text, ports_by_module_text, ports_text}
 use Rattle.rtl_trip.specs.Readable.{IsName, IsInteger}
 use Rattle.rtl_trip.specs.PortTables.{IsPortLine, AreModulePorts, ArePorts, parts_of, role_of, natural_of, port_of, add_port, with_port, with_line, modules_of}
-use Rattle.rtl_trip.proofs.Integers.{AreDigits, decimal_digits, integer_back}
+use Rattle.rtl_trip.proofs.Integers.{integer_back}
+use Rattle.rtl_trip.proofs.Marks.{Lacks, Separates, lacks_by, number_lacks, integer_lacks, name_lacks}
 
 -- the last module has one port more
 pub add_port_last : (p : PortLine) (modules : List ModulePorts) (m : ModulePorts) → add_port p (modules ++ m ∷ []) ≡ modules ++ record m { ports = m.ports ++ p ∷ [] } ∷ []
 add_port_last p [] m = refl
 add_port_last p (n ∷ []) m = refl
 add_port_last p (n ∷ k ∷ modules) m = ap (λ (l : List ModulePorts). n ∷ l) (add_port_last p (k ∷ modules) m)
-
--- ---- bytes that are no mark
-
-abbrev Lacks : ℕ → List ℕ → Type 0
-Lacks mark bytes = All (λ b. (b == mark) ≡ false) bytes
-
--- what each byte of a test is not, no byte of them is
-lacks_by : (p : ℕ → Bool) (mark : ℕ) → ((b : ℕ) → p b ≡ true → (b == mark) ≡ false) → (bytes : List ℕ) → list_all p bytes ≡ true → Lacks mark bytes
-lacks_by p mark each [] all = All-nil (λ b. (b == mark) ≡ false)
-lacks_by p mark each (b ∷ bs) all =
-    let parts = and_parts (p b) (list_all p bs) all in
-    All-cons (λ b. (b == mark) ≡ false) b bs (each b parts.0) (lacks_by p mark each bs parts.1)
-
--- LF and blank
-abbrev Separates : ℕ → Type 0
-Separates mark = (mark < 33)
-
-digit_no : (mark : ℕ) → Separates mark → (b : ℕ) → is_digit b ≡ true → (b == mark) ≡ false
-digit_no mark lt b e = grind (arith, nat_tests)
-
-name_no : (mark : ℕ) → Separates mark → (b : ℕ) → is_name b ≡ true → (b == mark) ≡ false
-name_no mark lt b e = grind (arith, nat_tests)
-
-sigil_no : (mark : ℕ) → Separates mark → (b : ℕ) → is_sigil b ≡ true → (b == mark) ≡ false
-sigil_no mark lt b e = grind (arith, nat_tests)
-
-minus_no : (mark : ℕ) → Separates mark → (45 == mark) ≡ false
-minus_no mark lt = grind (arith, nat_tests)
-
-number_lacks : (mark n : ℕ) → Separates mark → n < 2 ^ 64 → Lacks mark (decimal n)
-number_lacks mark n lt small = lacks_by is_digit mark (digit_no mark lt) (decimal n) (decimal_digits n small).digits
-
-small_of : (n : ℕ) → nat_lt n (2 ^ 31) ≡ true → n < 2 ^ 64
-small_of n e =
-    let lt = ltb-true n (2 ^ 31) e in
-    omega arith
-
-integer_lacks : (mark : ℕ) (z : ℤ) → Separates mark → IsInteger z → Lacks mark (signed_decimal z)
-integer_lacks mark (pos n) lt is = number_lacks mark n lt (small_of n is)
-integer_lacks mark (negsuc n) lt is =
-    let small = ltb-true n (2 ^ 31) is in
-    All-cons (λ b. (b == mark) ≡ false) 45 (decimal (suc n)) (minus_no mark lt) (number_lacks mark (suc n) lt (omega arith))
-
-name_lacks : (mark : ℕ) (text : List ℕ) → Separates mark → IsName text → Lacks mark text
-name_lacks mark [] lt is = absurd cc
-name_lacks mark (b ∷ bs) lt is =
-    let one = and_parts (is_sigil b) (nat_lt 0 (length bs) && list_all is_name bs) is in
-    let two = and_parts (nat_lt 0 (length bs)) (list_all is_name bs) one.1 in
-    All-cons (λ b. (b == mark) ≡ false) b bs (sigil_no mark lt b one.0) (lacks_by is_name mark (name_no mark lt) bs two.1)
 
 -- ---- the line of a port
 
