@@ -22,3 +22,4 @@ pub mod Trip
 pub mod Marks
 pub mod PortLemmas
 pub mod BodyLemmas
+pub mod PortTableLemmas

@@ -1,6 +1,7 @@
 //! What is written is read again.
 #![tactic(auto)]
 
+mod bodies;
 mod laws;
 mod ports;
 
