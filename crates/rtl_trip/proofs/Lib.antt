@@ -23,3 +23,4 @@ pub mod Marks
 pub mod PortLemmas
 pub mod BodyLemmas
 pub mod PortTableLemmas
+pub mod Items
