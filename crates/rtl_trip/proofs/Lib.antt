@@ -24,3 +24,4 @@ pub mod PortLemmas
 pub mod BodyLemmas
 pub mod PortTableLemmas
 pub mod Items
+pub mod Grown
