@@ -25,3 +25,4 @@ pub mod BodyLemmas
 pub mod PortTableLemmas
 pub mod Items
 pub mod Grown
+pub mod Stages
