@@ -1,7 +1,5 @@
 -- What has been read so far, while a text is read: the modules that are whole, and what is open.
-use Rattle.std.specs.Prelude.{pos, List, [], ◌∷◌, ◌++◌}
-use Rattle.rtl_lex.specs.Place.{start}
-use Rattle.rtl_lex.specs.Items.{Seen}
+use Rattle.std.specs.Prelude.{[]}
 use Rattle.rtl_ir.specs.declared.module.Design.{Design}
 use Rattle.rtl_read.specs.Meaning.Attribute.{no_attributes}
 use Rattle.rtl_read.specs.Meaning.Module.{fresh_module}

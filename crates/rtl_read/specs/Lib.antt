@@ -4,6 +4,8 @@ pub mod Signal
 pub mod Meaning
 pub mod Draft
 pub mod Act
+pub mod Reads
+pub mod Taking
 pub mod Words
 pub mod Numbers
 pub mod Answers

@@ -1,5 +1,5 @@
 -- Switches: a signal, and cases up to `end`.
-use Rattle.std.specs.Prelude.{[], Result, Ok}
+use Rattle.std.specs.Prelude.{Result, Ok}
 use Rattle.rtl_lex.specs.declared.sort.Sort.{Sort}
 use Rattle.rtl_lex.specs.declared.sort.Sort.TheVariants as sorts
 use Rattle.rtl_lex.specs.Items.{Seen}

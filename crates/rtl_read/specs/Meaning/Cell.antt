@@ -1,5 +1,5 @@
 -- The cell that is open: what it has, the names of its parameters and pins, and the name that stands last.
-use Rattle.std.specs.Prelude.{ℕ, List, [], ◌∷◌, ◌++◌, Bool, true, false, is_some, if◌then◌else◌, Result, Ok, Err}
+use Rattle.std.specs.Prelude.{List, [], ◌∷◌, ◌++◌, false, is_some, if◌then◌else◌, Result, Ok, Err}
 use Rattle.rtl_lex.specs.Items.{Seen}
 use Rattle.rtl_sig.specs.declared.sig.SigBit.{SigBit}
 use Rattle.rtl_sig.specs.Names.{number_of, with_name}
