@@ -3,9 +3,4 @@ pub mod Signals
 pub mod Faults
 pub mod Taking
 pub mod Unique
-pub mod NumberLemmas
-pub mod WireLemmas
-pub mod CellLemmas
-pub mod LineLemmas
-pub mod FormLemmas
 pub mod Refusing

@@ -6,9 +6,3 @@ pub mod Draft
 pub mod Act
 pub mod Reads
 pub mod Taking
-pub mod Words
-pub mod Numbers
-pub mod Answers
-pub mod Wires
-pub mod Cells
-pub mod Form

@@ -1,7 +1,7 @@
 //! What has been read so far.
 
 ghost use Rattle.std.specs.Prelude.{◌≡◌};
-ghost use Rattle.rtl_read.specs.Draft.{nothing, design_of};
+ghost use Rattle.rtl_read.specs.Draft.{nothing};
 
 use crate::attributes::{Attributes, no_attributes};
 use crate::open_cell::{OpenCell, plain_cell};
@@ -10,7 +10,7 @@ use crate::open_process::{OpenProcess, plain_process};
 use crate::options::{plain_store, plain_wire};
 use crate::signal::{OpenSignal, no_signal};
 use rtl_bits::{Seq, Text};
-use rtl_ir::{Design, Module, Store, Wire};
+use rtl_ir::{Module, Store, Wire};
 use rtl_sig::{Names, SigSpec};
 use std::alloc::Global;
 
@@ -62,12 +62,4 @@ pub fn nothing(alloc: Global) -> Draft
         attributes: no_attributes(alloc),
         name: Text::make(alloc),
     }
-}
-
-/// The design of the modules that are whole.
-pub fn design_of(draft: Draft) -> Design
-    ensures { result ≡ design_of draft }
-{
-    let Draft { modules, .. } = draft;
-    Design { modules }
 }

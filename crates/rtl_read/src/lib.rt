@@ -1,19 +1,12 @@
-//! The reader of texts.
-//!
-//! So far it takes one form: no module, or one module of wires and of `$and` cells whose pins are
-//! whole wires.
+//! The reader of texts: the design of a text, or its first fault.
 #![tactic(auto)]
 
 mod act;
 mod attributes;
-mod cell;
 mod constant;
 mod draft;
-mod fault;
-mod form;
 mod laws;
 mod limits;
-mod number;
 mod open_cell;
 mod open_module;
 mod open_process;
@@ -23,12 +16,7 @@ mod reader;
 mod signal;
 mod stack;
 mod tree;
-mod wire;
-mod word;
 
-pub use fault::FormFault;
-pub use form::read_first_form;
 pub use laws::one_answer;
-pub use number::{decimal_within, is_digits};
 pub use read_fault::ReadFault;
 pub use reader::read;

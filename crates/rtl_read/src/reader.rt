@@ -10,14 +10,15 @@ ghost use Rattle.rtl_read.specs.Gives.{Gives};
 ghost use Rattle.rtl_read.specs.Reads.{AreItemsOf, Reads, refusal, IsFirstFault, OnFault};
 ghost use Rattle.rtl_read.specs.Taking.{reading, GoesOn, design_read};
 
-use crate::draft::{Draft, design_of, nothing};
+use crate::draft::{Draft, nothing};
 use crate::read_fault::ReadFault;
 use crate::stack::Stack;
-use rtl_bits::Memory;
+use rtl_bits::{Memory, Seq};
 use rtl_grammar::{Expect, after};
 use rtl_ir::Design;
 use rtl_lex::{Item, Place, Sort, next_item};
 use std::alloc::Global;
+use std::mem;
 
 /// The fault of an item that cannot stand where it stands.
 fn refusal(item: &Item<'_>) -> ReadFault
@@ -37,16 +38,14 @@ struct Reader {
 }
 
 impl Reader {
-    /// Before the first item of a text.
-    fn make(alloc: Global) -> Result<Reader, Memory>
-        ensures { IfOk result (λ reader. reader ≡ record { expected = Start ∷ []; draft = nothing }) }
+    /// Before the first item of a text. It is large, so it stands on the heap.
+    fn make(alloc: Global) -> Result<Box<Reader>, Memory>
+        ensures { IfOk result (λ reader. reader.value ≡ record { expected = Start ∷ []; draft = nothing }) }
     {
         let mut expected = Stack::make(alloc);
         expected.push(Expect::Start)?;
-        Ok(Reader {
-            expected,
-            draft: nothing(alloc),
-        })
+        let draft = nothing(alloc);
+        Ok(Box::new(alloc, Reader { expected, draft })?)
     }
 
     /// Takes an item: it stands where the top of what is expected says, does what it does there,
@@ -87,21 +86,23 @@ impl Reader {
     }
 
     /// The design, behind the last item.
-    fn finish(self) -> Result<Design, ReadFault>
-        ensures { Gives result (design_read (reading [] self.expected self.draft)) }
+    fn finish(&mut self, alloc: Global) -> Result<Design, ReadFault>
+        ensures { Gives result (design_read (reading [] self.old.expected self.old.draft)) }
     {
         if self.expected.depth() > 0 {
             return Err(ReadFault::Syntax(Place::start()));
         }
-        Ok(design_of(self.draft))
+        let modules = mem::replace(&mut self.draft.modules, Seq::make(alloc));
+        Ok(Design { modules })
     }
 
-    /// The design of the text, or its fault.
-    fn answer(mut self, alloc: Global, text: &[u8]) -> Result<Design, ReadFault>
-        ensures { (items : List Seen) → AreItemsOf text.now items → Gives result (design_read (reading items self.expected self.draft)) }
+    /// The design that all items of the text give.
+    #[tactic(auto, using(crate::proofs::Faults::fails_on))]
+    fn design(&mut self, alloc: Global, text: &[u8]) -> Result<Design, ReadFault>
+        ensures { (items : List Seen) → AreItemsOf text.now items → Gives result (design_read (reading items self.old.expected self.old.draft)) }
     {
         match self.take_all(alloc, text) {
-            Ok(()) => self.finish(),
+            Ok(()) => self.finish(alloc),
             Err(fault) => Err(fault),
         }
     }
@@ -111,8 +112,8 @@ impl Reader {
 fn read_all(alloc: Global, text: &[u8]) -> Result<Design, ReadFault>
     ensures { (items : List Seen) → AreItemsOf text.now items → Gives result (design_read (reading items (Start ∷ []) nothing)) }
 {
-    let reader = Reader::make(alloc)?;
-    reader.answer(alloc, text)
+    let mut reader = Reader::make(alloc)?;
+    reader.design(alloc, text)
 }
 
 /// The design of the text, or the text's first fault.

@@ -5,13 +5,11 @@ ghost use Rattle.std.specs.Io.KnownBytes.{Keeps};
 ghost use Rattle.synth_io.specs.Counts.{HasRisen};
 ghost use Rattle.synth_io.specs.Taking.{TakesAtMost};
 ghost use Rattle.synth_io.specs.declared.input.TheConstants.{LIMIT};
-ghost use Rattle.rtl_read.specs.Form.{first_form};
-ghost use Rattle.rtlsyn.specs.Replies.{meaning_of, synth_reply, reply_to, IsReadThrough, HasAnswered, HasBegun, IsCompleted, exit_code};
+ghost use Rattle.rtlsyn.specs.Replies.{meaning_of, IsReadThrough, HasAnswered, HasBegun, IsCompleted, IsReply, exit_code};
+ghost use Rattle.rtlsyn.specs.Said.{said_of};
 
-use crate::gates::netlist_of;
-use rtl_bits::{Memory, Text};
-use rtl_read::{FormFault, read_first_form};
-use rtl_write::write;
+use crate::reply::{Reply, text_reply, too_long};
+use rtl_bits::Memory;
 use std::alloc::Global;
 use synth_io::{InputError, Sink, Source, read_input, write_reply};
 
@@ -55,13 +53,6 @@ impl Status {
     }
 }
 
-/// What is written, and whether it is an error.
-#[derive(Drop)]
-struct Reply {
-    text: Text,
-    error: bool,
-}
-
 /// What the words ask for, where they have a meaning.
 fn meaning_of(words: &[String]) -> Option<Mode>
     ensures value { result ≡ meaning_of (map string_bytes words.now) }
@@ -72,27 +63,9 @@ fn meaning_of(words: &[String]) -> Option<Mode>
     }
 }
 
-/// The reply to a text: its netlist, or the error of a text that is not of the form.
-fn synthesised(alloc: Global, text: &[u8]) -> Result<Reply, Memory>
-    ensures value { IfOk result (λ reply. (reply.text ≡ (synth_reply (first_form text.now)).text) × (reply.error ≡ (synth_reply (first_form text.now)).error)) }
-{
-    match read_first_form(alloc, text) {
-        Ok(design) => Ok(Reply {
-            text: write(alloc, &netlist_of(alloc, &design)?)?,
-            error: false,
-        }),
-        Err(FormFault::Form) => Ok(Reply {
-            text: Text::from_slice(alloc, b"error 2 1:1\n")?,
-            error: true,
-        }),
-        Err(FormFault::Memory) => Err(Memory),
-    }
-}
-
 /// Reads the input, and makes the reply.
 fn reply_to<S: Source>(alloc: Global, mode: Mode, source: &mut S) -> Result<Reply, InputError>
-    ensures reply { IfOk result (λ reply. IfSome (S.left source.old) (λ input.
-        (reply.text ≡ (reply_to mode input).text) × (reply.error ≡ (reply_to mode input).error))) }
+    ensures reply { IfOk result (λ reply. IfSome (S.left source.old) (λ input. IsReply mode input (said_of reply))) }
     ensures through { OnOk result (IsReadThrough (S.left source.old) (S.left source.new)) }
     ensures taken { TakesAtMost (LIMIT + 1) (S.left source.old) (S.left source.new) }
     ensures long { result ≡ Err InputError.TooLong → ⊥ }
@@ -100,17 +73,15 @@ fn reply_to<S: Source>(alloc: Global, mode: Mode, source: &mut S) -> Result<Repl
     ensures same { (result ≡ Err InputError.Failed → ⊥) → S.faults source.new ≡ S.faults source.old }
 {
     let Mode::Synth = mode;
-    match read_input(alloc, source) {
-        Ok(bytes) => match synthesised(alloc, bytes.as_slice()) {
-            Ok(reply) => Ok(reply),
-            Err(Memory) => Err(InputError::Memory),
-        },
-        Err(InputError::TooLong) => match Text::from_slice(alloc, b"error 17 input\n") {
-            Ok(text) => Ok(Reply { text, error: true }),
-            Err(Memory) => Err(InputError::Memory),
-        },
-        Err(InputError::Failed) => Err(InputError::Failed),
-        Err(InputError::Memory) => Err(InputError::Memory),
+    let reply = match read_input(alloc, source) {
+        Ok(bytes) => text_reply(alloc, bytes.as_slice()),
+        Err(InputError::TooLong) => too_long(alloc),
+        Err(InputError::Failed) => return Err(InputError::Failed),
+        Err(InputError::Memory) => return Err(InputError::Memory),
+    };
+    match reply {
+        Ok(reply) => Ok(reply),
+        Err(Memory) => Err(InputError::Memory),
     }
 }
 

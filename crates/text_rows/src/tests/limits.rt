@@ -99,8 +99,14 @@ fn bits_of_wires_and_signals_are_limited(rt: HostRuntime) -> Result<(), Fail> {
         ("end\n", "read"),
         ("wire \\e\nend\n", "error 17 6:6"),
         ("connect { } { \\a \\b \\c \\d }\nend\n", "read"),
-        ("connect { } { \\a \\b \\c \\d 1'0 }\nend\n", "error 17 6:27"),
-        ("connect { } { \\a \\b \\c \\d \\a [0] }\nend\n", "error 17 6:32"),
+        (
+            "connect { } { \\a \\b \\c \\d 1'0 }\nend\n",
+            "error 17 6:27",
+        ),
+        (
+            "connect { } { \\a \\b \\c \\d \\a [0] }\nend\n",
+            "error 17 6:32",
+        ),
         ("wire width 1048577 \\e\nend\n", "error 17 6:12"),
     ];
     for (rest, answer) in rows {

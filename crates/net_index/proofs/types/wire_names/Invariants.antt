@@ -1,0 +1,8 @@
+-- The names have the ports from the place on.
+use Rattle.std.proofs.Common.{drop}
+use Rattle.rtl_ir.specs.Types.{port_lines}
+use Rattle.net_index.specs.Types.{IsTable}
+use Rattle.net_index.proofs.types.wire_names.Given as goal
+
+abbrev pub invariant-loop-at : goal.invariant-loop-at
+invariant-loop-at l = IsTable l.names (port_lines (drop l.at l.wires))

@@ -1,0 +1,10 @@
+//! What drives each bit of a module, by tables over the numbers of its bits.
+#![tactic(auto)]
+
+mod numbering;
+mod outputs;
+mod types;
+
+pub use numbering::Numbering;
+pub use outputs::{drives_pin, output_pin};
+pub use types::{CellType, Port, PortNames, Types, is_port};

@@ -1,0 +1,104 @@
+-- What is found of cells is what the faults say.
+use Rattle.std.proofs.Common.{Bor, nat_eq, is_some, is_none, ◌≡◌, ◌≢◌, ℕ, suc, ◌<◌, ◌==◌, Bool, false, not, ◌&&◌, List, [], ◌∷◌, ◌++◌, length, get_or, drop, Option, Some, None, option_map, Ok, Err, refl, sym, ◌∙◌, ap, subst}
+use Rattle.std.proofs.Math.Seq.{drop-cons}
+use Rattle.cell_types.specs.declared.fault.CellFault.{CellFault}
+use Rattle.cell_types.specs.declared.fault.CellFault.TheVariants as cell
+use Rattle.cell_types.specs.declared.given.Param.{Param}
+use Rattle.cell_types.specs.declared.given.PinWidth.{PinWidth}
+use Rattle.cell_types.specs.declared.kind.CellKind.{CellKind}
+use Rattle.cell_types.specs.declared.shape.Shape.{Shape}
+use Rattle.cell_types.specs.Fault.{fault_of}
+use Rattle.cell_types.specs.Shape.{unless, shape_of, made_shape}
+use Rattle.rtl_ir.specs.declared.cell.Cell.{Cell}
+use Rattle.rtl_ir.specs.declared.cell.Pin.{Pin}
+use Rattle.rtl_ir.specs.declared.module.Module.{Module}
+use Rattle.rtl_ir.specs.declared.ports.PortLine.{PortLine}
+use Rattle.rtl_ir.specs.Faults.Cells.{cell_faults, faults_by_type, has_other_width, lacks_port, misfit, pin_widths}
+use Rattle.rtl_ir.specs.Parameters.{given_params}
+use Rattle.rtl_ir.specs.Scope.{cells_alone}
+use Rattle.rtl_ir.specs.Types.{Ports, cell_type, port_named}
+use Rattle.rtl_ir.specs.Rules.{has_item}
+use Rattle.std.specs.Option.{option_map_or}
+use Rattle.rtl_sig.specs.declared.sig.SigBit.{SigBit}
+use Rattle.net_index.specs.declared.types.Port.{Port}
+use Rattle.net_index.specs.declared.types.CellType.TheVariants.{Instance}
+use Rattle.net_index.specs.Types.{Named, IsTable, IsType, at_name, port_of}
+use Rattle.rtl_ir.specs.Types as rtl_types
+use Rattle.rtl_ir.specs.Fault as rtl
+use Rattle.rtl_check.specs.declared.fault.CheckFault.{CheckFault}
+use Rattle.rtl_check.specs.Finds.{IsFirst, IsMisfit}
+use Rattle.rtl_check.proofs.Firsts.{first_before}
+
+no_fault : (o : Option CellFault) (made shape : Shape) → unless o made ≡ Ok shape → o ≡ None
+no_fault None made shape e = refl
+no_fault (Some f) made shape e = absurd (cc)
+
+one_fault : (o : Option CellFault) (made : Shape) (fault : CellFault) → unless o made ≡ Err fault → o ≡ Some fault
+one_fault None made fault e = absurd (cc)
+one_fault (Some f) made fault e = cc
+
+-- a cell with a shape has no fault
+pub misfit-none : (kind : CellKind) (c : Cell) (params : List Param) (pins : List PinWidth) → params ≡ given_params c.params → pins ≡ pin_widths c.pins
+    → (shape : Shape) → shape_of kind params pins ≡ Ok shape → misfit kind c ≡ None
+unfolding misfit
+misfit-none kind c params pins p q shape e =
+    (λ i. fault_of kind (sym p i) (sym q i)) ∙ no_fault (fault_of kind params pins) (made_shape kind params) shape e
+
+misfit-some : (kind : CellKind) (c : Cell) (params : List Param) (pins : List PinWidth) → params ≡ given_params c.params → pins ≡ pin_widths c.pins
+    → (fault : CellFault) → shape_of kind params pins ≡ Err fault → misfit kind c ≡ Some fault
+unfolding misfit
+misfit-some kind c params pins p q fault e =
+    (λ i. fault_of kind (sym p i) (sym q i)) ∙ one_fault (fault_of kind params pins) (made_shape kind params) fault e
+
+-- of a cell without a shape the fault is known
+pub misfit-of_fault : (kind : CellKind) (c : Cell) (params : List Param) (pins : List PinWidth) → params ≡ given_params c.params → pins ≡ pin_widths c.pins
+    → (fault : CellFault) → (fault ≢ cell.Memory → shape_of kind params pins ≡ Err fault) → IsMisfit fault (misfit kind c)
+misfit-of_fault kind c params pins p q cell.Bad h = misfit-some kind c params pins p q cell.Bad (h (λ e. cc))
+misfit-of_fault kind c params pins p q cell.Wide h = misfit-some kind c params pins p q cell.Wide (h (λ e. cc))
+misfit-of_fault kind c params pins p q cell.Width h = misfit-some kind c params pins p q cell.Width (h (λ e. cc))
+misfit-of_fault kind c params pins p q cell.Memory h = tt
+
+-- the width of a pin that is connected, against that of its port
+pub other_width : (lines : List PortLine) (p : Pin) (port : Port) (bits : List SigBit) → bits ≡ p.sig → length bits ≢ 0
+    → Some port ≡ option_map port_of (port_named lines p.name) → not (nat_eq (length bits) port.width) ≡ has_other_width lines p
+other_width lines p port bits e some is =
+    by (port_named lines p.name) is bits e some
+  where
+    by : (o : Option PortLine) → Some port ≡ option_map port_of o → (bs : List SigBit) → bs ≡ p.sig → length bs ≢ 0
+        → not (nat_eq (length bs) port.width) ≡ (has_item p.sig && option_map_or (λ (line : PortLine). not (length p.sig == line.width)) o false)
+    by None f bs g n = absurd (cc)
+    by (Some line) f [] g n = absurd (n refl)
+    by (Some line) f (b ∷ bs) g n =
+        let width : port.width ≡ line.width = let same : port ≡ port_of line = cc in ap (λ (q : Port). q.width) same in
+        rw (← g, width) refl
+
+-- a pin is a port where the table has it
+pub lacks_in_table : (lines : List PortLine) (p : Pin) (there : Bool) → there ≡ is_some (option_map port_of (port_named lines p.name)) → not there ≡ lacks_port lines p
+lacks_in_table lines p there e = rw e (by (port_named lines p.name))
+  where
+    by : (o : Option PortLine) → not (is_some (option_map port_of o)) ≡ is_none o
+    by None = refl
+    by (Some line) = refl
+
+-- the fault of a cell is that of the cells, where those before it have none
+pub cell_fault_in : (ports : Ports) (m : Module) (earlier items : List Cell) (i : ℕ) (c : Cell) (name : List ℕ) (f : CheckFault) (all : List rtl.Fault)
+    → items ≡ m.cells → i < length items → c ≡ get_or items i c → name ≡ c.kind_name → cell_faults cells_alone ports m earlier (drop i m.cells) ≡ all
+    → IsFirst f (faults_by_type cells_alone m earlier c (cell_type ports name)) → IsFirst f all
+cell_fault_in ports m earlier items i c name f all are h is named e first =
+    let here : drop i items ≡ c ∷ drop (suc i) items = drop-cons items i c h ∙ (λ j. sym is j ∷ drop (suc i) items) in
+    let mine : IsFirst f (faults_by_type cells_alone m earlier c (cell_type ports c.kind_name)) = subst (λ n. IsFirst f (faults_by_type cells_alone m earlier c (cell_type ports n))) named first in
+    subst (IsFirst f) e (subst (λ cs. IsFirst f (cell_faults cells_alone ports m earlier cs)) (sym here ∙ ap (drop i) are)
+    (first_before f (faults_by_type cells_alone m earlier c (cell_type ports c.kind_name)) (cell_faults cells_alone ports m (earlier ++ c ∷ []) (drop (suc i) items)) mine))
+
+-- what a table of ports has at a name
+pub at_pin : (table : Named Port) (lines : List PortLine) → IsTable table lines → (name other : List ℕ) → name ≡ other
+    → at_name table name ≡ option_map port_of (port_named lines other)
+at_pin table lines is name other e = is name ∙ ap (λ n. option_map port_of (port_named lines n)) e
+
+-- an instance's type names its ports
+pub instance_type : (table : Bor (Named Port)) (type : rtl_types.CellType) → IsType (Instance table) type → (P : rtl_types.CellType → Type 0)
+    → ((lines : List PortLine) → IsTable table.now lines → P (rtl_types.Instance lines)) → P type
+instance_type table (rtl_types.Library kind) is P h = absurd is
+instance_type table (rtl_types.Instance lines) is P h = h lines is
+instance_type table rtl_types.Unsupported is P h = absurd is
+instance_type table rtl_types.Unknown is P h = absurd is

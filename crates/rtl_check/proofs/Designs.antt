@@ -1,0 +1,21 @@
+-- The faults of the modules of a design, one module after the other.
+use Rattle.std.proofs.Common.{◌≡◌, ℕ, ◌+◌, ◌<◌, List, [], ◌∷◌, ◌++◌, length, get_or, drop, flat_map, add-one, sym, ◌∙◌, ap, subst}
+use Rattle.std.proofs.Math.Seq.{drop-cons}
+use Rattle.rtl_ir.specs.declared.module.Module.{Module}
+use Rattle.rtl_ir.specs.Fault as rtl
+use Rattle.rtl_check.specs.declared.fault.CheckFault.{CheckFault}
+use Rattle.rtl_check.specs.Finds.{IsFirst}
+use Rattle.rtl_check.proofs.Firsts.{first_before}
+
+module _ (faults : Module → List rtl.Fault) (modules : List Module) (at : ℕ) (m : Module) (inside : at < length modules) (is : m ≡ get_or modules at m)
+    (so_far : flat_map faults (drop at modules) ≡ flat_map faults modules) where
+  split : faults m ++ flat_map faults (drop (at + 1) modules) ≡ flat_map faults modules
+  split = sym (ap (flat_map faults) (drop-cons modules at m inside ∙ (λ i. sym is i ∷ drop (sym (add-one at) i) modules))) ∙ so_far
+
+  -- the first fault of a module behind others without any
+  pub first_at : (fault : CheckFault) → IsFirst fault (faults m) → IsFirst fault (flat_map faults modules)
+  first_at fault h = subst (IsFirst fault) split (first_before fault (faults m) (flat_map faults (drop (at + 1) modules)) h)
+
+  -- a module without faults
+  pub next_at : faults m ≡ [] → flat_map faults (drop (at + 1) modules) ≡ flat_map faults modules
+  next_at none = ap (λ xs. xs ++ flat_map faults (drop (at + 1) modules)) (sym none) ∙ split

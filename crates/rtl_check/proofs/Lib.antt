@@ -1,0 +1,11 @@
+pub mod Chars
+pub mod Firsts
+pub mod CellLemmas
+pub mod Tallying
+pub mod Telling
+pub mod Driven
+pub mod Scanning
+pub mod Searches
+pub mod PlaceLemmas
+pub mod Recursions
+pub mod Designs

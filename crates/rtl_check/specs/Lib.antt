@@ -1,0 +1,6 @@
+pub mod Words
+pub mod Finds
+pub mod Numbers
+pub mod Tallies
+pub mod Search
+pub mod Places

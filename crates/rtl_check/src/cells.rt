@@ -1,0 +1,179 @@
+//! The faults of cells: of their types, parameters and pins.
+
+ghost use Rattle.std.specs.Prelude.{◌≡◌, List, [], IfOk, option_map};
+ghost use Rattle.std.specs.List.{list_any};
+ghost use Rattle.rtl_ir.specs.declared.cell.Cell.{Cell};
+ghost use Rattle.rtl_ir.specs.declared.module.Module.{Module};
+ghost use Rattle.rtl_ir.specs.declared.ports.PortLine.{PortLine};
+ghost use Rattle.rtl_ir.specs.Fault.{spot};
+ghost use Rattle.rtl_ir.specs.Faults.Cells as cells;
+ghost use Rattle.rtl_ir.specs.Scope.{cells_alone};
+ghost use Rattle.rtl_ir.specs.Types as rtl;
+ghost use Rattle.net_index.specs.Types.{AreTypes, IsTable, IsType};
+ghost use Rattle.rtl_check.specs.Finds.{Finds, Misfits};
+
+use crate::fault::CheckFault;
+use crate::links::has_constant;
+use crate::params::given_params;
+use crate::wires::spot;
+use cell_types::{CellFault, CellKind, PinWidth, shape_of};
+use net_index::{CellType, PortNames, Types, drives_pin};
+use rtl_bits::{Copied, Memory, Text};
+use rtl_ir::{Cell, Module, Pin};
+use std::alloc::Global;
+
+/// The first fault of the cells of a module, over the types of its design. There are no cells of memories so far.
+pub(crate) fn check_cells(alloc: Global, types: &Types, body: &Module) -> Result<(), CheckFault>
+    ensures first { (ports : rtl.Ports) → AreTypes types.now ports →
+        Finds result (cells.cell_faults cells_alone ports body.now [] body.now.cells) }
+{
+    for cell in body.cells.as_slice() {
+        let cell_type = types.find(cell.kind_name.as_slice());
+        check_cell(alloc, &body.id, cell, &cell_type)?;
+    }
+    Ok(())
+}
+
+/// The first fault of a cell of this type.
+fn check_cell(alloc: Global, id: &Text, cell: &Cell, cell_type: &CellType) -> Result<(), CheckFault>
+    ensures first { (type : rtl.CellType) → IsType cell_type.now type → (m : Module) → m.id ≡ id.now → (earlier : List Cell) →
+        Finds result (cells.faults_by_type cells_alone m earlier cell.now type) }
+{
+    match cell_type {
+        CellType::Library(kind) => check_library_cell(alloc, id, cell, *kind),
+        CellType::Instance(ports) => check_instance(id, cell, ports),
+        CellType::Unsupported => Err(CheckFault::UnsupportedCell(spot(id, &cell.name)?)),
+        CellType::Unknown => Err(CheckFault::UnknownCell(spot(id, &cell.name)?)),
+    }
+}
+
+/// The first fault of a cell of the library.
+fn check_library_cell(
+    alloc: Global,
+    id: &Text,
+    cell: &Cell,
+    kind: CellKind,
+) -> Result<(), CheckFault>
+    ensures first { (m : Module) → m.id ≡ id.now → (earlier : List Cell) →
+        Finds result (cells.faults_by_type cells_alone m earlier cell.now (rtl.Library kind)) }
+{
+    if is_memory(kind) {
+        return Err(CheckFault::UnsupportedCell(spot(id, &cell.name)?));
+    }
+    check_shape(alloc, id, cell, kind)?;
+    check_outputs(id, cell, &CellType::Library(kind))
+}
+
+/// The first fault of a cell's parameters and pins.
+fn check_shape(alloc: Global, id: &Text, cell: &Cell, kind: CellKind) -> Result<(), CheckFault>
+    ensures first { Finds result (cells.shape_fault (spot id.now cell.now.name) (cells.misfit kind cell.now)) }
+{
+    match misfit(alloc, cell, kind) {
+        Ok(()) => Ok(()),
+        Err(CellFault::Bad) => Err(CheckFault::BadParameterOrPort(spot(id, &cell.name)?)),
+        Err(CellFault::Wide) => Err(CheckFault::TooWide(spot(id, &cell.name)?)),
+        Err(CellFault::Width) => Err(CheckFault::Width(spot(id, &cell.name)?)),
+        Err(CellFault::Memory) => Err(CheckFault::Memory),
+    }
+}
+
+/// The first fault of the parameters and pins of a cell of this kind.
+fn misfit(alloc: Global, cell: &Cell, kind: CellKind) -> Result<(), CellFault>
+    ensures fault { Misfits result (cells.misfit kind cell.now) }
+{
+    let params = given_params(alloc, cell.params.as_slice())?;
+    let pins = pin_widths(alloc, cell.pins.as_slice())?;
+    shape_of(alloc, kind, params.as_slice(), pins.as_slice())?;
+    Ok(())
+}
+
+/// The pins by their widths. More than 2^32 bits are taken for want of memory.
+fn pin_widths(alloc: Global, pins: &[Pin]) -> Result<Vec<PinWidth>, Memory>
+    ensures value { IfOk result (λ widths. widths.items ≡ cells.pin_widths pins.now) }
+{
+    let mut widths = Vec::with_capacity(alloc, pins.len())?;
+    for pin in pins {
+        let width = u32::try_from(pin.sig.as_slice().len()).ok().ok_or(Memory)?;
+        widths.push(PinWidth {
+            name: pin.name.copy()?,
+            width,
+        })?;
+    }
+    Ok(widths)
+}
+
+/// The fault of a cell that drives a constant.
+fn check_outputs(id: &Text, cell: &Cell, cell_type: &CellType) -> Result<(), CheckFault>
+    ensures first { (type : rtl.CellType) → IsType cell_type.now type →
+        Finds result (cells.output_faults (spot id.now cell.now.name) type cell.now.pins) }
+{
+    for pin in cell.pins.as_slice() {
+        if drives_pin(cell_type, pin.name.as_slice()) && has_constant(pin.sig.as_slice()) {
+            return Err(CheckFault::BadPort(spot(id, &cell.name)?));
+        }
+    }
+    Ok(())
+}
+
+/// The first fault of an instance of a module with these ports.
+fn check_instance(id: &Text, cell: &Cell, ports: &PortNames) -> Result<(), CheckFault>
+    ensures first { (lines : List PortLine) → IsTable ports.now lines → (m : Module) → m.id ≡ id.now → (earlier : List Cell) →
+        Finds result (cells.faults_by_type cells_alone m earlier cell.now (rtl.Instance lines)) }
+{
+    if !cell.params.as_slice().is_empty() || lacks_port(cell.pins.as_slice(), ports) {
+        return Err(CheckFault::BadParameterOrPort(spot(id, &cell.name)?));
+    }
+    if has_other_width(cell.pins.as_slice(), ports) {
+        return Err(CheckFault::Width(spot(id, &cell.name)?));
+    }
+    check_outputs(id, cell, &CellType::Instance(ports))
+}
+
+/// Whether a pin is no port.
+fn lacks_port(pins: &[Pin], ports: &PortNames) -> bool
+    ensures value { (lines : List PortLine) → IsTable ports.now lines → result ≡ list_any (cells.lacks_port lines) pins.now }
+{
+    for pin in pins {
+        if is_lacking(pin, ports) {
+            return true;
+        }
+    }
+    false
+}
+
+/// Whether the pin is no port.
+fn is_lacking(pin: &Pin, ports: &PortNames) -> bool
+    ensures value { (lines : List PortLine) → IsTable ports.now lines → result ≡ cells.lacks_port lines pin.now }
+{
+    !ports.contains_key(pin.name.as_slice())
+}
+
+/// Whether a pin that is connected has another width than its port.
+fn has_other_width(pins: &[Pin], ports: &PortNames) -> bool
+    ensures value { (lines : List PortLine) → IsTable ports.now lines → result ≡ list_any (cells.has_other_width lines) pins.now }
+{
+    for pin in pins {
+        if is_misfit(pin, ports) {
+            return true;
+        }
+    }
+    false
+}
+
+/// Whether a pin has bits, but not as many as its port.
+fn is_misfit(pin: &Pin, ports: &PortNames) -> bool
+    ensures value { (lines : List PortLine) → IsTable ports.now lines → result ≡ cells.has_other_width lines pin.now }
+{
+    let width = pin.sig.as_slice().len();
+    match ports.get(pin.name.as_slice()) {
+        Some(port) => width != 0 && width != port.width as usize,
+        None => false,
+    }
+}
+
+/// Whether it is a cell of a memory.
+fn is_memory(kind: CellKind) -> bool
+    ensures value { result ≡ cells.is_memory_kind kind }
+{
+    matches!(kind, CellKind::Memory(_))
+}

@@ -1,0 +1,33 @@
+//! The faults of a design.
+
+ghost use Rattle.std.specs.Prelude.{flat_map};
+ghost use Rattle.rtl_ir.specs.Faults.{faults_within, module_faults};
+ghost use Rattle.rtl_ir.specs.Scope.{cells_alone};
+ghost use Rattle.rtl_ir.specs.Types.{design_ports};
+ghost use Rattle.rtl_check.specs.Finds.{Finds};
+
+use crate::fault::CheckFault;
+use crate::module::check_module;
+use crate::recursion::check_recursion;
+use net_index::Types;
+use rtl_ir::Module;
+use std::alloc::Global;
+
+/// The first fault of a design of these modules.
+pub(crate) fn check_design(alloc: Global, modules: &[Module]) -> Result<(), CheckFault>
+    ensures first { Finds result (faults_within cells_alone modules.now) }
+{
+    check_modules(alloc, modules)?;
+    check_recursion(alloc, modules)
+}
+
+/// The first fault in one of the modules.
+fn check_modules(alloc: Global, modules: &[Module]) -> Result<(), CheckFault>
+    ensures first { Finds result (flat_map (module_faults cells_alone (design_ports modules.now)) modules.now) }
+{
+    let types = Types::of_design(alloc, modules)?;
+    for body in modules {
+        check_module(alloc, &types, body)?;
+    }
+    Ok(())
+}

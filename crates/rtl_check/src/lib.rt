@@ -1,0 +1,21 @@
+//! Whether a design has a fault, and which is the first.
+#![tactic(auto)]
+
+mod answer;
+mod bits;
+mod cells;
+mod checked;
+mod design;
+mod fault;
+mod items;
+mod links;
+mod module;
+mod params;
+mod recursion;
+mod search;
+mod tally;
+mod wires;
+
+pub use answer::{Refused, check};
+pub use checked::Checked;
+pub use fault::{CheckFault, Item, Spot, WireSpot};

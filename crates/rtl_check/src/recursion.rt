@@ -1,0 +1,98 @@
+//! Modules that instantiate themselves.
+
+ghost use Rattle.std.specs.Prelude.{◌≡◌, List, IfOk, OnOk};
+ghost use Rattle.rtl_ir.specs.declared.module.Module.{Module};
+ghost use Rattle.rtl_ir.specs.Faults.Recursion.{instance_graph, instance_place, instance_places, recursion_faults};
+ghost use Rattle.rtl_ir.specs.Ports.{is_library_cell};
+ghost use Rattle.rtl_check.specs.Finds.{Finds};
+ghost use Rattle.rtl_check.specs.Places.{ArePlaces, with_place};
+ghost use Rattle.rtl_check.specs.Search.{rows_of};
+
+use crate::fault::CheckFault;
+use crate::search::{Graph, leads_back};
+use cell_types::kind_of;
+use rtl_bits::{Copied, Memory};
+use rtl_ir::{Cell, Module};
+use std::alloc::Global;
+use std::collections::HashMap;
+
+/// The places of modules by their names.
+type Places<'a> = HashMap<&'a [u8], usize>;
+
+/// The first module that instantiates itself, through other modules or not.
+pub(crate) fn check_recursion(alloc: Global, modules: &[Module]) -> Result<(), CheckFault>
+    ensures first { Finds result (recursion_faults modules.now) }
+{
+    let graph = graph_of(alloc, modules)?;
+    for at in 0..modules.len() {
+        if leads_back(alloc, graph.as_slice(), at)? {
+            return Err(CheckFault::Recursion(modules[at].id.copy()?));
+        }
+    }
+    Ok(())
+}
+
+/// For each module the places of those that it has instances of.
+fn graph_of(alloc: Global, modules: &[Module]) -> Result<Graph, Memory>
+    ensures rows { IfOk result (λ graph. rows_of graph.items ≡ instance_graph modules.now) }
+{
+    let places = places_of(alloc, modules)?;
+    let mut graph = Vec::with_capacity(alloc, modules.len())?;
+    for module in modules {
+        let row = instance_places(alloc, &places, module.cells.as_slice())?;
+        graph.push(row)?;
+    }
+    Ok(graph)
+}
+
+/// The modules by their names. Of two of one name the first counts.
+fn places_of<'a>(alloc: Global, modules: &'a [Module]) -> Result<Places<'a>, Memory>
+    ensures places { IfOk result (λ places. ArePlaces places modules.now) }
+{
+    let mut places = HashMap::new(alloc);
+    for at in (0..modules.len()).rev() {
+        let module = &modules[at];
+        places.insert(module.id.as_slice(), at)?;
+    }
+    Ok(places)
+}
+
+/// The places of the modules that these cells are instances of.
+fn instance_places(alloc: Global, places: &Places, cells: &[Cell]) -> Result<Vec<usize>, Memory>
+    ensures value { IfOk result (λ found. (modules : List Module) → ArePlaces places.now modules → found.items ≡ instance_places modules cells.now) }
+{
+    let mut found = Vec::new(alloc);
+    for cell in cells {
+        let place = instance_place(places, cell.kind_name.as_slice());
+        put_place(&mut found, place)?;
+    }
+    Ok(found)
+}
+
+/// Puts a place behind the others, where there is one.
+fn put_place(found: &mut Vec<usize>, place: Option<usize>) -> Result<(), Memory>
+    ensures found { OnOk result (found.new.items ≡ with_place found.old.items place) }
+{
+    if let Some(place) = place {
+        found.push(place)?;
+    }
+    Ok(())
+}
+
+/// The place of the module that a cell of this type is an instance of.
+fn instance_place(places: &Places, name: &[u8]) -> Option<usize>
+    ensures value { (modules : List Module) → ArePlaces places.now modules → result ≡ instance_place modules name.now }
+{
+    if in_library(name) {
+        None
+    } else {
+        places.get(name).copied()
+    }
+}
+
+/// Whether a cell of the library has the name.
+fn in_library(name: &[u8]) -> bool
+    ensures value { result ≡ is_library_cell name.now }
+{
+    kind_of(name).is_some()
+}
