@@ -57,13 +57,13 @@ over_attributes (a ∷ remarks) rest all =
 -- ---- the text of a body
 
 -- the parts of both texts: what stands before the word `module`, and what stands behind its line
-body_parts : (m : Module) → body_text m ≡ (attributes_text [] m.attributes ++ codes "module") ++ (10 ∷ (inner_text m ++ codes "end\n"))
+pub body_parts : (m : Module) → body_text m ≡ (attributes_text [] m.attributes ++ codes "module") ++ (10 ∷ (inner_text m ++ codes "end\n"))
 unfolding body_text
 body_parts m =
     let a = attributes_text [] m.attributes in
     append_assoc (a ++ codes "module\n") (inner_text m) (codes "end\n") ∙ append_assoc a (codes "module\n") (inner_text m ++ codes "end\n") ∙ sym (append_assoc a (codes "module") (10 ∷ (inner_text m ++ codes "end\n")))
 
-module_parts : (m : Module) → module_text m ≡ (attributes_text [] m.attributes ++ codes "module") ++ (32 ∷ (m.id ++ 10 ∷ (inner_text m ++ codes "end\n")))
+pub module_parts : (m : Module) → module_text m ≡ (attributes_text [] m.attributes ++ codes "module") ++ (32 ∷ (m.id ++ 10 ∷ (inner_text m ++ codes "end\n")))
 unfolding module_text
 module_parts m =
     let a = attributes_text [] m.attributes in
@@ -72,7 +72,7 @@ module_parts m =
     ∙ append_assoc a (codes "module ") (m.id ++ 10 ∷ rest) ∙ sym (append_assoc a (codes "module") (32 ∷ (m.id ++ 10 ∷ rest)))
 
 -- the name does not count for what stands inside
-inner_kept : (m : Module) (name : List ℕ) → inner_text (record m { id = name }) ≡ inner_text m
+pub inner_kept : (m : Module) (name : List ℕ) → inner_text (record m { id = name }) ≡ inner_text m
 unfolding inner_text
 inner_kept m name = refl
 

@@ -26,3 +26,6 @@ pub mod PortTableLemmas
 pub mod Items
 pub mod Grown
 pub mod Stages
+pub mod BodyLaws
+pub mod BodyAnswers
+pub mod Distinct

@@ -12,7 +12,11 @@ use Rattle.rtl_ir.specs.declared.module.Module.{Module}
 use Rattle.rtl_ir.specs.declared.module.Design.{Design}
 use Rattle.rtl_grammar.specs.declared.expect.Expect.TheVariants as expects
 use Rattle.rtl_grammar.proofs.ReadOn.{read_on}
+use Rattle.rtl_grammar.proofs.Reading.{is_read}
 use Rattle.rtl_read.specs.declared.draft.Draft.{Draft}
+use Rattle.rtl_read.specs.declared.read_fault.ReadFault.TheVariants as faults
+use Rattle.rtl_read.specs.Act.{act}
+use Rattle.rtl_read.specs.Reads.{AreItemsOf, Reads}
 use Rattle.rtl_read.specs.Draft.{nothing}
 use Rattle.rtl_write.specs.Text.{text_of}
 use Rattle.rtl_trip.specs.Readable.{IsReadable}
@@ -20,7 +24,7 @@ use Rattle.rtl_trip.proofs.Printed.{Printed, spelled}
 use Rattle.rtl_trip.proofs.Lexing.{seen_at, items_at, Ended, lines_items}
 use Rattle.rtl_trip.proofs.Statements.{spelled_design}
 use Rattle.rtl_trip.proofs.Whole.{lines_design}
-use Rattle.rtl_trip.proofs.Going.{reads}
+use Rattle.rtl_trip.proofs.Going.{reads, refused}
 use Rattle.rtl_trip.proofs.GoingModules.{between, goes_design}
 use Rattle.rtl_trip.proofs.Tokens as tokens
 use Rattle.rtl_trip.proofs.Tokens.{word}
@@ -69,3 +73,17 @@ read_back d is = by d.modules refl
     by : (ms : List Module) → d.modules ≡ ms → IsReadBack d
     by [] e = subst IsReadBack (ap (λ (ms : List Module). record { modules = ms }) (sym e)) none_back
     by (m ∷ rest) e = subst IsReadBack (ap (λ (ms : List Module). record { modules = ms }) (sym e)) (modules_back m rest (subst IsReadable (ap (λ (ms : List Module). record { modules = ms }) e) is))
+
+-- the text of a readable design is that design's
+pub reads_design : (d : Design) → IsReadable d → Reads (text_of d) d
+reads_design d is =
+    let back = read_back d is in
+    let whole = is_read act refused faults.Memory back.items (expects.Start ∷ []) nothing back.last back.read in
+    record {
+      uses = whole.uses;
+      last = back.last;
+      tokens = subst (AreItemsOf (text_of d)) (sym whole.items) back.tokens;
+      grammar = whole.derives;
+      meant = whole.meant;
+      design_is = ap (λ (ms : List Module). record { modules = ms }) back.modules;
+    }
