@@ -88,7 +88,7 @@ goes_param base c roles front p is new =
 
 -- ---- pins
 
-begins_signal : (d : Draft) → Begins expects.Signal [] d d
+pub begins_signal : (d : Draft) → Begins expects.Signal [] d d
 unfolding mark_sort
 begins_signal d = record { name = refl; value = refl; brace = refl; begins_name = λ text place. refl; begins_value = λ text place. refl; begins_brace = λ place. refl }
 

@@ -10,14 +10,14 @@ use Rattle.std.proofs.lemmas.List.Folds.{list_any-append}
 use Rattle.rtl_sig.specs.Names.{has_name, number_of, next_number_of, with_name, AreDistinct}
 use Rattle.rtl_sig.proofs.NamesLemmas.{next_number_of-new}
 
-differs_back : (x y : List ℕ) → bytes_eq x y ≡ false → bytes_eq y x ≡ false
+pub differs_back : (x y : List ℕ) → bytes_eq x y ≡ false → bytes_eq y x ≡ false
 differs_back x y h = by (bytes_eq y x) refl
   where
     by : (b : Bool) → bytes_eq y x ≡ b → bytes_eq y x ≡ false
     by true e = absurd (true≢false (sym ((bytes_eq-Decides x y).1 (sym ((bytes_eq-Decides y x).0 e))) ∙ h))
     by false e = e
 
-same_name : (x : List ℕ) → bytes_eq x x ≡ true
+pub same_name : (x : List ℕ) → bytes_eq x x ≡ true
 same_name x = (bytes_eq-Decides x x).1 refl
 
 at_middle : {A : Type 0} (P : A → Type 0) (xs : List A) (y : A) (ys : List A) → AllByRecursion P (xs ++ y ∷ ys) → P y

@@ -1,0 +1,5 @@
+use Rattle.rtl_trip.proofs.Trip.{reads_design}
+use Rattle.rtl_trip.proofs.laws.reads_again.Goals as goal
+
+pub returns : goal.returns
+returns c = record { round_trip = reads_design }
