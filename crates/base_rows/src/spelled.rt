@@ -26,7 +26,7 @@ fn letter(bit: Bit) -> &'static [u8] {
 }
 
 impl Spelling {
-    pub fn make(alloc: Global) -> Spelling {
+    pub(crate) fn make(alloc: Global) -> Spelling {
         Spelling {
             text: Vec::new(alloc),
         }
@@ -216,7 +216,7 @@ impl Spelling {
         Ok(())
     }
 
-    pub fn module(&mut self, module: &Module) -> Result<(), Fail> {
+    pub(crate) fn module(&mut self, module: &Module) -> Result<(), Fail> {
         self.word("module", &module.id)?;
         self.attributes(module.attributes.as_slice())?;
         for parameter in module.parameters.as_slice() {

@@ -34,7 +34,7 @@ pub struct Item<'a> {
 }
 
 /// The item's name, its mark and what is behind it.
-pub fn item_of(text: &[u8]) -> Result<Item<'_>, Fail> {
+pub(crate) fn item_of(text: &[u8]) -> Result<Item<'_>, Fail> {
     for (at, byte) in text.iter().enumerate() {
         if matches!(*byte, b'=' | b'~' | b':' | b'?') {
             return Ok(Item {
@@ -48,7 +48,7 @@ pub fn item_of(text: &[u8]) -> Result<Item<'_>, Fail> {
 }
 
 /// The cell of a line.
-pub fn cell_of(alloc: Global, line: &[u8], change: Change) -> Result<Cell, Fail> {
+pub(crate) fn cell_of(alloc: Global, line: &[u8], change: Change) -> Result<Cell, Fail> {
     let name = line.split(|byte| *byte == b' ').next().ok_or("a name")?;
     let mut cell = Cell {
         kind: kind_of(name).ok_or("an accepted name")?,
@@ -126,7 +126,7 @@ fn number_of(digits: &[u8]) -> u32 {
 }
 
 /// The word for what `shape_of` answers.
-pub fn answer_of(answer: &Result<Shape, CellFault>) -> &'static [u8] {
+pub(crate) fn answer_of(answer: &Result<Shape, CellFault>) -> &'static [u8] {
     match answer {
         Ok(_) => b"ok",
         Err(CellFault::Bad) => b"bad",
@@ -137,7 +137,7 @@ pub fn answer_of(answer: &Result<Shape, CellFault>) -> &'static [u8] {
 }
 
 /// What `shape_of` answers for the cell of a line.
-pub fn answer_to(alloc: Global, line: &[u8], change: Change) -> Result<&'static [u8], Fail> {
+pub(crate) fn answer_to(alloc: Global, line: &[u8], change: Change) -> Result<&'static [u8], Fail> {
     let cell = cell_of(alloc, line, change)?;
     let answer = shape_of(
         alloc,

@@ -20,7 +20,7 @@ pub const UNKNOWN: Pins = Pins {
     q: Bit::X,
 };
 
-pub fn bit_of(letter: u8) -> Bit {
+pub(crate) fn bit_of(letter: u8) -> Bit {
     match letter {
         b'0' => Bit::S0,
         b'1' => Bit::S1,
@@ -40,7 +40,7 @@ fn bit_at(word: &[u8], at: usize) -> Bit {
 }
 
 /// The pins with that of a letter set. An `r` is whichever reset the cell has.
-pub fn with_pin(pins: Pins, letter: u8, bit: Bit) -> Pins {
+pub(crate) fn with_pin(pins: Pins, letter: u8, bit: Bit) -> Pins {
     match letter {
         b'c' => Pins { clk: bit, ..pins },
         b'e' => Pins { en: bit, ..pins },

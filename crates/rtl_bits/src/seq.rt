@@ -110,7 +110,7 @@ impl<T> Seq<T> {
         self.items.as_slice()
     }
 
-    /// The allocator that the list keeps.
+    /// The allocator that the list keeps. No clause speaks of it, since a list's value is its items alone.
     pub fn allocator(&self) -> Global {
         *self.items.allocator()
     }

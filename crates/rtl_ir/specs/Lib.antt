@@ -18,3 +18,4 @@ pub mod EventTests
 pub mod Fault
 pub mod Scope
 pub mod Faults
+pub mod Flat

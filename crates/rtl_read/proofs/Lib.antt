@@ -1,13 +1,6 @@
-pub mod Viable
-pub mod Table
-pub mod Reading
-pub mod Exactly
-pub mod Closed
 pub mod Stacks
 pub mod Signals
 pub mod Faults
-pub mod NumberLemmas
-pub mod WireLemmas
-pub mod CellLemmas
-pub mod LineLemmas
-pub mod FormLemmas
+pub mod Taking
+pub mod Unique
+pub mod Refusing

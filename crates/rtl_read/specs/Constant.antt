@@ -15,7 +15,7 @@ use Rattle.rtl_ir.specs.declared.value.Value.TheVariants as values
 use Rattle.rtl_read.specs.declared.limits.TheConstants.{MAX_WIDTH}
 use Rattle.rtl_read.specs.declared.read_fault.ReadFault.{ReadFault}
 use Rattle.rtl_read.specs.declared.read_fault.ReadFault.TheVariants as faults
-use Rattle.rtl_read.specs.Uses.{◌>>=◌}
+use Rattle.rtl_grammar.specs.Uses.{◌>>=◌}
 
 -- the integer of an item, where it is in range
 abbrev pub integer : Option ℤ → Seen → Result ℤ ReadFault

@@ -1,13 +1,8 @@
-pub mod Grammar
-pub mod Uses
 pub mod Gives
 pub mod Constant
 pub mod Signal
 pub mod Meaning
-pub mod ReadOn
-pub mod Words
-pub mod Numbers
-pub mod Answers
-pub mod Wires
-pub mod Cells
-pub mod Form
+pub mod Draft
+pub mod Act
+pub mod Reads
+pub mod Taking

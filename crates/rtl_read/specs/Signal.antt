@@ -3,6 +3,7 @@
 use Rattle.std.specs.Prelude.{ℕ, zero, suc, ◌+◌, ◌-◌, ℤ, pos, negsuc, List, [], ◌∷◌, ◌++◌, length, take, drop, nat_le, nat_lt, if◌then◌else◌, ◌||◌, Option, Some, None, Result, Ok, Err}
 use Rattle.rtl_lex.specs.declared.sort.Sort.{Sort}
 use Rattle.rtl_lex.specs.declared.sort.Sort.TheVariants as sorts
+use Rattle.rtl_lex.specs.Place.{start}
 use Rattle.rtl_lex.specs.Items.{Seen}
 use Rattle.rtl_sig.specs.declared.sig.SigBit.{SigBit}
 use Rattle.rtl_sig.specs.declared.sig.SigBit.TheVariants as bits
@@ -12,8 +13,12 @@ use Rattle.rtl_read.specs.declared.limits.TheConstants.{MAX_BITS, MAX_DEPTH}
 use Rattle.rtl_read.specs.declared.read_fault.ReadFault.{ReadFault}
 use Rattle.rtl_read.specs.declared.read_fault.ReadFault.TheVariants as faults
 use Rattle.rtl_read.specs.declared.signal.OpenSignal.{OpenSignal}
-use Rattle.rtl_read.specs.Uses.{◌>>=◌}
+use Rattle.rtl_grammar.specs.Uses.{◌>>=◌}
 use Rattle.rtl_read.specs.Constant.{integer, constant, fixed}
+
+-- the signal in which nothing was read
+abbrev pub no_signal : OpenSignal
+no_signal = record { part = []; place = start; braces = []; bracket = start; high = pos 0; low = pos 0 }
 
 -- the bits of a wire, from bit 0
 unfoldable pub wire_bits : ℕ → ℕ → List SigBit

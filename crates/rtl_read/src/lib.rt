@@ -1,32 +1,22 @@
-//! The reader of texts.
-//!
-//! So far it takes one form: no module, or one module of wires and of `$and` cells whose pins are
-//! whole wires.
+//! The reader of texts: the design of a text, or its first fault.
 #![tactic(auto)]
 
+mod act;
 mod attributes;
-mod cell;
 mod constant;
-mod expect;
-mod fault;
-mod form;
-mod grammar;
+mod draft;
+mod laws;
 mod limits;
-mod number;
 mod open_cell;
 mod open_module;
 mod open_process;
 mod options;
 mod read_fault;
+mod reader;
 mod signal;
 mod stack;
 mod tree;
-mod wire;
-mod word;
 
-pub use expect::Expect;
-pub use fault::FormFault;
-pub use form::read_first_form;
-pub use grammar::after;
-pub use number::{decimal_within, is_digits};
+pub use laws::one_answer;
 pub use read_fault::ReadFault;
+pub use reader::read;

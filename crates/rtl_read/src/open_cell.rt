@@ -91,10 +91,11 @@ impl OpenCell {
         ensures { OnOk result (self.new ≡ with_param value self.old) }
     {
         let name = mem::replace(&mut self.name, Text::make(alloc));
+        let signed = mem::replace(&mut self.signed, false);
         self.cell.params.push(CellParam {
             name,
             value,
-            signed: self.signed,
+            signed,
         })
     }
 

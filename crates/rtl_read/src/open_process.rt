@@ -2,7 +2,7 @@
 
 ghost use Rattle.std.specs.Prelude.{◌≡◌, [], OnOk};
 ghost use Rattle.rtl_lex.specs.Items.{as_seen};
-ghost use Rattle.rtl_read.specs.Meaning.Process.{event_of, event_with, plain_rule, plain_write, plain_process, open_rule, with_event, close_rule, with_update, open_write, with_memory, with_address, with_value, close_write, process_of};
+ghost use Rattle.rtl_read.specs.Meaning.Process.{event_of, event_with, plain_rule, plain_write, plain_process, with_process_name, open_rule, with_event, close_rule, with_update, open_write, with_memory, with_address, with_value, close_write, process_of};
 
 use crate::tree::{OpenTree, case_of, plain_tree};
 use rtl_bits::{Memory, Seq, Text};
@@ -114,6 +114,14 @@ pub fn process_of(process: OpenProcess) -> Process
 }
 
 impl OpenProcess {
+    /// Its name.
+    pub fn set_name(&mut self, alloc: Global, item: &Item<'_>) -> Result<(), Memory>
+        ensures { OnOk result (self.new ≡ with_process_name (as_seen item.now) self.old) }
+    {
+        self.name = Text::from_slice(alloc, item.text)?;
+        Ok(())
+    }
+
     /// A rule begins.
     pub fn open_rule(&mut self, alloc: Global, sort: Sort)
         ensures { self.new ≡ open_rule sort self.old }

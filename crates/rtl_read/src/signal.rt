@@ -3,7 +3,7 @@
 ghost use Rattle.std.specs.Prelude.{◌≡◌, ◌<◌, ◌≤◌, ◌+◌, ◌++◌, List, length, IfOk, take, drop, ◌-◌};
 ghost use Rattle.rtl_lex.specs.Items.{as_seen};
 ghost use Rattle.rtl_sig.specs.Names.{number_of};
-ghost use Rattle.rtl_read.specs.Signal.{wire_bits, width_at, wire_signal, plain_signal, begin, close_brace, inside, put_below, open_index, behind_inside, set_high, set_low, slice, behind_index, some_bits};
+ghost use Rattle.rtl_read.specs.Signal.{no_signal, wire_bits, width_at, wire_signal, plain_signal, begin, close_brace, inside, put_below, open_index, behind_inside, set_high, set_low, slice, behind_index, some_bits};
 ghost use Rattle.rtl_read.specs.Gives.{Gives, Sets};
 
 use crate::constant::{constant, fixed, integer};
@@ -28,6 +28,20 @@ pub struct OpenSignal {
     pub bracket: Place,
     pub high: i32,
     pub low: i32,
+}
+
+/// The signal in which nothing was read.
+pub fn no_signal(alloc: Global) -> OpenSignal
+    ensures { result ≡ no_signal }
+{
+    OpenSignal {
+        part: SigSpec::make(alloc),
+        place: Place::start(),
+        braces: Stack::make(alloc),
+        bracket: Place::start(),
+        high: 0,
+        low: 0,
+    }
 }
 
 /// The number of the name, where it was seen.

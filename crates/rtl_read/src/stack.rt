@@ -1,6 +1,6 @@
 //! A stack.
 
-ghost use Rattle.std.specs.Prelude.{◌≡◌, [], ◌∷◌, ◌++◌, OnOk, MatchOption, length};
+ghost use Rattle.std.specs.Prelude.{◌≡◌, [], ◌∷◌, ◌++◌, OnOk, MatchOption, length, reverse};
 
 use rtl_bits::Memory;
 use std::alloc::Global;
@@ -75,6 +75,15 @@ impl<T: Copy + Drop> Stack<T> {
         for at in (0..items.len()).rev() {
             self.push(items[at])?;
         }
+        Ok(())
+    }
+
+    /// Puts these items on top, one after another.
+    #[tactic(auto, using(crate::proofs::Stacks::reverse_both))]
+    pub fn raise(&mut self, items: &[T]) -> Result<(), Memory>
+        ensures ok { OnOk result (self.new ≡ reverse items.now ++ self.old) }
+    {
+        self.items.extend_from_slice(items)?;
         Ok(())
     }
 }

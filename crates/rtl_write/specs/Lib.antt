@@ -1,3 +1,4 @@
 pub mod Constant
 pub mod Signal
 pub mod Text
+pub mod Ports

@@ -2,6 +2,7 @@
 #![tactic(auto)]
 
 mod constant;
+mod ports;
 mod process;
 mod run;
 mod signal;
@@ -9,4 +10,5 @@ mod statement;
 mod tree;
 mod whole;
 
+pub use ports::ports_text;
 pub use whole::{body_text, module_text, write};

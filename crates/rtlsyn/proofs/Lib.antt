@@ -1,1 +1,3 @@
 pub mod GateLemmas
+pub mod NumberLemmas
+pub mod Replying

@@ -1,9 +1,9 @@
 -- Names that are made: `$syn$` and a number.
-use Rattle.std.specs.Prelude.{ℕ, zero, ◌+◌, ◌==◌, nat_le, nat_lt, max, Bool, true, false, ◌&&◌, not, List, [], ◌∷◌, ◌++◌, length, take, drop, map, codes, if◌then◌else◌}
+use Rattle.std.specs.Prelude.{ℕ, ◌==◌, nat_le, max, Bool, false, ◌&&◌, not, List, [], ◌∷◌, ◌++◌, take, drop, map, codes, if◌then◌else◌}
 use Rattle.std.specs.List.{fold}
 use Rattle.std.specs.Str.{bytes_eq}
 use Rattle.std.specs.Fmt.{decimal}
-use Rattle.rtl_read.specs.Numbers.{decimal_of, is_digits}
+use Rattle.rtlsyn.specs.Numbers.{decimal_of, is_digits}
 use Rattle.rtl_ir.specs.declared.wire.Wire.{Wire}
 use Rattle.rtl_ir.specs.declared.store.Store.{Store}
 use Rattle.rtl_ir.specs.declared.cell.Cell.{Cell}

@@ -1,3 +1,6 @@
+pub mod Accept
 pub mod Fresh
 pub mod Gates
+pub mod Numbers
 pub mod Replies
+pub mod Said

@@ -1,14 +1,20 @@
 -- What the program writes, and what a call owes.
-use Rattle.std.specs.Prelude.{◌≡◌, ℕ, ◌<◌, nat_lt, List, [], ◌∷◌, Bool, true, false, Option, Some, None, IfSome, if◌then◌else◌, length, take, codes, ◌⊎◌}
+use Rattle.std.specs.Prelude.{◌≡◌, ℕ, ◌<◌, nat_lt, List, [], ◌∷◌, ◌++◌, Bool, true, false, Option, Some, None, IfSome, length, take, codes, ◌⊎◌}
 use Rattle.std.specs.Io.KnownBytes.{Appends, Consumes, IsAtEnd}
 use Rattle.synth_io.specs.declared.input.TheConstants.{LIMIT}
 use Rattle.rtl_ir.specs.declared.module.Design.{Design}
-use Rattle.rtl_read.specs.Form.{first_form}
+use Rattle.rtl_lex.specs.Place.{place_text}
+use Rattle.rtl_read.specs.declared.read_fault.ReadFault.{ReadFault}
+use Rattle.rtl_read.specs.declared.read_fault.ReadFault.TheVariants as faults
+use Rattle.rtl_read.specs.Reads.{Reads, IsFirstFault}
 use Rattle.rtl_write.specs.Text.{text_of}
 use Rattle.rtlsyn.specs.declared.program.Mode.{Mode}
 use Rattle.rtlsyn.specs.declared.program.Mode.TheVariants.{Synth}
 use Rattle.rtlsyn.specs.declared.program.Status.{Status}
 use Rattle.rtlsyn.specs.declared.program.Status.TheVariants as statuses
+use Rattle.rtlsyn.specs.declared.accept.Cause.{Cause}
+use Rattle.rtlsyn.specs.declared.accept.Cause.TheVariants as causes
+use Rattle.rtlsyn.specs.Accept.{Refused, design_refused}
 use Rattle.rtlsyn.specs.Gates.{netlist_of}
 
 -- a reply, and whether it is an error
@@ -21,14 +27,47 @@ abbrev pub meaning_of : List (List ℕ) → Option Mode
 meaning_of [] = Some Synth
 meaning_of (word ∷ words) = None
 
--- the reply to a text: its netlist, or the error of a text that is not of the form
-abbrev pub synth_reply : Option Design → Said
-synth_reply (Some design) = record { text = text_of (netlist_of design); error = false }
-synth_reply None = record { text = codes "error 2 1:1\n"; error = true }
+-- a line that tells an error by its number and words
+abbrev pub error_line : List ℕ → List ℕ → Said
+error_line number words = record { text = codes "error " ++ number ++ codes " " ++ words ++ codes "\n"; error = true }
+
+-- the reply to a text with a first fault
+abbrev pub fault_reply : ReadFault → Said
+fault_reply (faults.Lex place) = error_line (codes "1") (place_text place)
+fault_reply (faults.Syntax place) = error_line (codes "2") (place_text place)
+fault_reply (faults.Int place) = error_line (codes "3") (place_text place)
+fault_reply (faults.Duplicate place) = error_line (codes "4") (place_text place)
+fault_reply (faults.UnknownName place) = error_line (codes "5") (place_text place)
+fault_reply (faults.Range place) = error_line (codes "6") (place_text place)
+fault_reply (faults.Limit place) = error_line (codes "17") (place_text place)
+fault_reply faults.Memory = error_line [] []
+
+-- the number of what is wrong with an item
+abbrev pub cause_number : Cause → List ℕ
+cause_number causes.Width = codes "7"
+cause_number causes.Unsupported = codes "9"
+
+-- the reply to a design: its netlist, or its first item that becomes no gates
+abbrev pub checked_reply : Design → Option Refused → Said
+checked_reply design None = record { text = text_of (netlist_of design); error = false }
+checked_reply design (Some r) = error_line (cause_number r.cause) (r.id ++ codes " " ++ r.item)
+
+abbrev pub design_reply : Design → Said
+design_reply design = checked_reply design (design_refused design)
+
+-- the reply to a text: that to its design, or to its first fault
+abbrev pub IsTextReply : List ℕ → Said → Type 0
+IsTextReply text said =
+    ((design : Design) × Reads text design × (said ≡ design_reply design))
+    ⊎ ((fault : ReadFault) × IsFirstFault text fault × (said ≡ fault_reply fault))
 
 -- the reply to an input, which may be too long
-abbrev pub reply_to : Mode → List ℕ → Said
-reply_to Synth input = if nat_lt LIMIT (length input) then record { text = codes "error 17 input\n"; error = true } else synth_reply (first_form input)
+abbrev pub IsInputReply : Bool → List ℕ → Said → Type 0
+IsInputReply true input said = said ≡ error_line (codes "17") (codes "input")
+IsInputReply false input said = IsTextReply input said
+
+abbrev pub IsReply : Mode → List ℕ → Said → Type 0
+IsReply Synth input said = IsInputReply (nat_lt LIMIT (length input)) input said
 
 -- the input was read to its end, or past its limit
 pub record IsReadThrough (before after : Option (List ℕ)) : Type 0 where
@@ -38,11 +77,13 @@ pub record IsReadThrough (before after : Option (List ℕ)) : Type 0 where
 
 -- the whole reply was written, and it is an error or not
 abbrev pub HasAnswered : Mode → Bool → Option (List ℕ) → Option (List ℕ) → Option (List ℕ) → Type 0
-HasAnswered mode error before had has = IfSome before (λ input. Appends had has (reply_to mode input).text × ((reply_to mode input).error ≡ error))
+HasAnswered mode error before had has =
+    IfSome before (λ input. (said : Said) × IsReply mode input said × Appends had has said.text × (said.error ≡ error))
 
 -- a front of the reply was written
 abbrev pub HasBegun : Mode → Option (List ℕ) → Option (List ℕ) → Option (List ℕ) → Type 0
-HasBegun mode before had has = IfSome before (λ input. (n : ℕ) × Appends had has (take n (reply_to mode input).text))
+HasBegun mode before had has =
+    IfSome before (λ input. (said : Said) × IsReply mode input said × ((n : ℕ) × Appends had has (take n said.text)))
 
 -- the whole reply was written, or memory was wanting
 abbrev pub IsCompleted : Status → Type 0

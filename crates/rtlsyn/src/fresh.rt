@@ -2,11 +2,11 @@
 
 ghost use Rattle.std.specs.Prelude.{◌≡◌, ◌≤◌, ◌<◌, ◌++◌, IfOk, MatchOption, map, max, length, false, true};
 ghost use Rattle.rtlsyn.specs.Fresh.{fresh_name, fresh_number, greatest_of, is_plain_number, names_of};
-ghost use Rattle.rtl_read.specs.Numbers.{decimal_of};
+ghost use Rattle.rtlsyn.specs.Numbers.{decimal_of};
 
+use crate::number::{decimal_within, is_digits};
 use rtl_bits::{Memory, Text};
 use rtl_ir::Module;
-use rtl_read::{decimal_within, is_digits};
 use std::alloc::Global;
 
 /// How made names begin.

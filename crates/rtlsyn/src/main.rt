@@ -1,9 +1,13 @@
 //! The program: reads a design from standard input, and writes its netlist to standard output.
 #![tactic(auto)]
 
+mod accept;
 mod fresh;
 mod gates;
+mod laws;
+mod number;
 mod program;
+mod reply;
 #[cfg(test)]
 mod tests;
 

@@ -1,17 +1,15 @@
 //! The top call.
 
-ghost use Rattle.std.specs.Prelude.{◌≡◌, ◌↔◌, ◌+◌, ◌⊎◌, map, string_bytes, IfOk, IfSome, OnOk, OnSome, None, Some, Err, true, false};
+ghost use Rattle.std.specs.Prelude.{◌≡◌, ◌↔◌, ◌+◌, ◌⊎◌, map, string_bytes, IfOk, IfSome, OnErr, OnOk, OnSome, None, Some, Err, true, false};
 ghost use Rattle.std.specs.Io.KnownBytes.{Keeps};
 ghost use Rattle.synth_io.specs.Counts.{HasRisen};
 ghost use Rattle.synth_io.specs.Taking.{TakesAtMost};
 ghost use Rattle.synth_io.specs.declared.input.TheConstants.{LIMIT};
-ghost use Rattle.rtl_read.specs.Form.{first_form};
-ghost use Rattle.rtlsyn.specs.Replies.{meaning_of, synth_reply, reply_to, IsReadThrough, HasAnswered, HasBegun, IsCompleted, exit_code};
+ghost use Rattle.rtlsyn.specs.Replies.{meaning_of, IsReadThrough, HasAnswered, HasBegun, IsCompleted, IsReply, IsTextReply, exit_code};
+ghost use Rattle.rtlsyn.specs.Said.{said_of};
 
-use crate::gates::netlist_of;
+use crate::reply::{Reply, text_reply, too_long};
 use rtl_bits::{Memory, Text};
-use rtl_read::{FormFault, read_first_form};
-use rtl_write::write;
 use std::alloc::Global;
 use synth_io::{InputError, Sink, Source, read_input, write_reply};
 
@@ -55,13 +53,6 @@ impl Status {
     }
 }
 
-/// What is written, and whether it is an error.
-#[derive(Drop)]
-struct Reply {
-    text: Text,
-    error: bool,
-}
-
 /// What the words ask for, where they have a meaning.
 fn meaning_of(words: &[String]) -> Option<Mode>
     ensures value { result ≡ meaning_of (map string_bytes words.now) }
@@ -72,27 +63,20 @@ fn meaning_of(words: &[String]) -> Option<Mode>
     }
 }
 
-/// The reply to a text: its netlist, or the error of a text that is not of the form.
-fn synthesised(alloc: Global, text: &[u8]) -> Result<Reply, Memory>
-    ensures value { IfOk result (λ reply. (reply.text ≡ (synth_reply (first_form text.now)).text) × (reply.error ≡ (synth_reply (first_form text.now)).error)) }
+/// The reply to an input that was read to its end.
+fn whole_reply(alloc: Global, bytes: &Text) -> Result<Reply, InputError>
+    ensures reply { IfOk result (λ reply. IsTextReply bytes.now (said_of reply)) }
+    ensures cause { OnErr result (result ≡ Err InputError.Memory) }
 {
-    match read_first_form(alloc, text) {
-        Ok(design) => Ok(Reply {
-            text: write(alloc, &netlist_of(alloc, &design)?)?,
-            error: false,
-        }),
-        Err(FormFault::Form) => Ok(Reply {
-            text: Text::from_slice(alloc, b"error 2 1:1\n")?,
-            error: true,
-        }),
-        Err(FormFault::Memory) => Err(Memory),
+    match text_reply(alloc, bytes.as_slice()) {
+        Ok(reply) => Ok(reply),
+        Err(Memory) => Err(InputError::Memory),
     }
 }
 
 /// Reads the input, and makes the reply.
 fn reply_to<S: Source>(alloc: Global, mode: Mode, source: &mut S) -> Result<Reply, InputError>
-    ensures reply { IfOk result (λ reply. IfSome (S.left source.old) (λ input.
-        (reply.text ≡ (reply_to mode input).text) × (reply.error ≡ (reply_to mode input).error))) }
+    ensures reply { IfOk result (λ reply. IfSome (S.left source.old) (λ input. IsReply mode input (said_of reply))) }
     ensures through { OnOk result (IsReadThrough (S.left source.old) (S.left source.new)) }
     ensures taken { TakesAtMost (LIMIT + 1) (S.left source.old) (S.left source.new) }
     ensures long { result ≡ Err InputError.TooLong → ⊥ }
@@ -101,12 +85,9 @@ fn reply_to<S: Source>(alloc: Global, mode: Mode, source: &mut S) -> Result<Repl
 {
     let Mode::Synth = mode;
     match read_input(alloc, source) {
-        Ok(bytes) => match synthesised(alloc, bytes.as_slice()) {
+        Ok(bytes) => whole_reply(alloc, &bytes),
+        Err(InputError::TooLong) => match too_long(alloc) {
             Ok(reply) => Ok(reply),
-            Err(Memory) => Err(InputError::Memory),
-        },
-        Err(InputError::TooLong) => match Text::from_slice(alloc, b"error 17 input\n") {
-            Ok(text) => Ok(Reply { text, error: true }),
             Err(Memory) => Err(InputError::Memory),
         },
         Err(InputError::Failed) => Err(InputError::Failed),
@@ -118,6 +99,7 @@ fn reply_to<S: Source>(alloc: Global, mode: Mode, source: &mut S) -> Result<Repl
 ///
 /// At most 67,108,865 bytes are taken, in pieces of at most 65,536; each read but the last takes
 /// at least one. The reply is written in pieces of 4,096 bytes, of which the last may be shorter.
+#[tactic(auto, using(crate::proofs::Replying::begun_none))]
 pub fn run<S: Source, K: Sink>(
     alloc: Global,
     words: &[String],

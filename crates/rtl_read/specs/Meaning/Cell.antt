@@ -1,5 +1,5 @@
 -- The cell that is open: what it has, the names of its parameters and pins, and the name that stands last.
-use Rattle.std.specs.Prelude.{ℕ, List, [], ◌∷◌, ◌++◌, Bool, true, false, is_some, if◌then◌else◌, Result, Ok, Err}
+use Rattle.std.specs.Prelude.{List, [], ◌∷◌, ◌++◌, false, is_some, if◌then◌else◌, Result, Ok, Err}
 use Rattle.rtl_lex.specs.Items.{Seen}
 use Rattle.rtl_sig.specs.declared.sig.SigBit.{SigBit}
 use Rattle.rtl_sig.specs.Names.{number_of, with_name}
@@ -34,9 +34,9 @@ with_param_name i c = if is_some (number_of c.params i.text) then Err (faults.Du
 abbrev pub with_pin_name : Seen → OpenCell → Result OpenCell ReadFault
 with_pin_name i c = if is_some (number_of c.pins i.text) then Err (faults.Duplicate i.place) else Ok (record c { pins = with_name c.pins i.text; name = i.text })
 
--- the value of the parameter whose name stands last
+-- the value of the parameter whose name stands last; the next parameter has no `signed` yet
 abbrev pub with_param : Value → OpenCell → OpenCell
-with_param v c = record c { cell = record c.cell { params = c.cell.params ++ record { name = c.name; value = v; signed = c.signed } ∷ [] }; name = [] }
+with_param v c = record c { cell = record c.cell { params = c.cell.params ++ record { name = c.name; value = v; signed = c.signed } ∷ [] }; name = []; signed = false }
 
 -- the signal of the pin whose name stands last
 abbrev pub with_pin : List SigBit → OpenCell → OpenCell

@@ -14,7 +14,7 @@ use Rattle.rtl_read.specs.declared.limits.TheConstants.{MAX_BITS}
 use Rattle.rtl_read.specs.declared.read_fault.ReadFault.{ReadFault}
 use Rattle.rtl_read.specs.declared.read_fault.ReadFault.TheVariants as faults
 use Rattle.rtl_read.specs.declared.open_module.OpenModule.{OpenModule}
-use Rattle.rtl_read.specs.Uses.{◌>>=◌}
+use Rattle.rtl_grammar.specs.Uses.{◌>>=◌}
 
 -- a module of this name with these attributes, in which there is nothing yet
 abbrev pub fresh_module : List ℕ → List Attribute → OpenModule

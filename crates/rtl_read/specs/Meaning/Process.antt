@@ -1,5 +1,5 @@
 -- The process that is open: its tree, its rules, and the rule and the `memwr` line that are open.
-use Rattle.std.specs.Prelude.{ℕ, ℤ, pos, List, [], ◌∷◌, ◌++◌}
+use Rattle.std.specs.Prelude.{pos, List, [], ◌∷◌, ◌++◌}
 use Rattle.rtl_lex.specs.declared.sort.Sort.{Sort}
 use Rattle.rtl_lex.specs.declared.sort.Sort.TheVariants as sorts
 use Rattle.rtl_lex.specs.Items.{Seen}
@@ -54,6 +54,10 @@ plain_process attributes = record {
   rule = plain_rule events.Always;
   write = plain_write [];
 }
+
+-- its name
+abbrev pub with_process_name : Seen → OpenProcess → OpenProcess
+with_process_name i p = record p { name = i.text }
 
 -- a rule begins; it has its signal; it is whole
 abbrev pub open_rule : Sort → OpenProcess → OpenProcess

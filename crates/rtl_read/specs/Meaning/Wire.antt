@@ -10,7 +10,7 @@ use Rattle.rtl_ir.specs.declared.store.Store.{Store}
 use Rattle.rtl_read.specs.declared.limits.TheConstants.{MAX_WIDTH}
 use Rattle.rtl_read.specs.declared.read_fault.ReadFault.{ReadFault}
 use Rattle.rtl_read.specs.declared.read_fault.ReadFault.TheVariants as faults
-use Rattle.rtl_read.specs.Uses.{◌>>=◌}
+use Rattle.rtl_grammar.specs.Uses.{◌>>=◌}
 use Rattle.rtl_read.specs.Constant.{integer}
 
 -- a width is at least 1

@@ -1,4 +1,4 @@
-use Rattle.std.proofs.Common.{◌≡◌, ◌<◌, ◌≤◌, ◌-◌, ◌∷◌, [], length, take, drop, map}
+use Rattle.std.proofs.Common.{◌≡◌, ◌<◌, ◌-◌, ◌∷◌, [], take, drop, map}
 use Rattle.std.specs.Prelude.{reverse}
 use Rattle.std.specs.List.{fold}
 use Rattle.rtl_write.specs.Signal.{with_bit}

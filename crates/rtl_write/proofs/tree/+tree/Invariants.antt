@@ -1,6 +1,6 @@
 use Rattle.std.proofs.Common.{◌≡◌, ◌++◌, drop}
 use Rattle.rtl_ir.specs.Tree.{switches_of, cases_of}
-use Rattle.rtl_write.specs.Text.{deeper, switches_text, cases_text}
+use Rattle.rtl_write.specs.Text.{switches_text, cases_text}
 use Rattle.rtl_write.proofs.tree.+tree.Given as goal
 
 -- the text so far, and that of the switches that are left, are the whole text

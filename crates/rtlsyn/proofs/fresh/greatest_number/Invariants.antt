@@ -1,5 +1,4 @@
 use Rattle.std.proofs.Common.{◌≡◌, ◌≤◌, ◌++◌, take, map}
-use Rattle.std.specs.Prelude.{max}
 use Rattle.rtl_ir.specs.declared.wire.Wire.{Wire}
 use Rattle.rtl_ir.specs.declared.store.Store.{Store}
 use Rattle.rtl_ir.specs.declared.cell.Cell.{Cell}

@@ -1,0 +1,17 @@
+pub mod Lists
+pub mod Settle
+pub mod Run
+pub mod Valuation
+pub mod Picked
+pub mod Race
+pub mod Words
+pub mod Value
+pub mod Refine
+pub mod Relate
+pub mod Within
+pub mod Swap
+pub mod Gates
+pub mod Build
+pub mod Proc
+pub mod Fsm
+pub mod Mem

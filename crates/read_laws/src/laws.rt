@@ -1,0 +1,28 @@
+//! What signals stand for.
+
+ghost use Rattle.std.specs.Prelude.{◌≡◌, ◌+◌, ◌≤◌, List, ◌∷◌, ◌++◌, length, Ok, true};
+ghost use Rattle.rtl_sig.specs.declared.sig.SigBit.{SigBit};
+ghost use Rattle.rtl_grammar.specs.declared.expect.Expect.{Expect};
+ghost use Rattle.rtl_grammar.specs.declared.expect.Expect.TheVariants.{Signal};
+ghost use Rattle.rtl_grammar.specs.Grammar.{Derives};
+ghost use Rattle.rtl_grammar.specs.Uses.{Use, roles_of, items_of, run};
+ghost use Rattle.rtl_read.specs.declared.draft.Draft.{Draft};
+ghost use Rattle.rtl_read.specs.declared.limits.TheConstants.{MAX_DEPTH};
+ghost use Rattle.rtl_read.specs.declared.signal.OpenSignal.{OpenSignal};
+ghost use Rattle.rtl_read.specs.Act.{act};
+ghost use Rattle.read_laws.specs.SignalBits.{Written, IsWritten, StandsFor, depth_of, places_of, is_behind};
+
+/// The items of a signal stand in these places and no others, and what they do there gives the bits
+/// that the signal stands for by its parts.
+pub fn signals_by_parts()
+    ensures stands { (signal : Written) (behind : Expect) (roles : List Expect) (more : List Use) →
+        is_behind behind ≡ true → IsWritten signal → Derives (behind ∷ roles) (roles_of more) →
+        Derives (Signal ∷ behind ∷ roles) (roles_of (places_of Signal behind signal ++ more)) }
+    ensures only_so { (signal : Written) (behind : Expect) (roles : List Expect) (uses more : List Use) →
+        is_behind behind ≡ true → IsWritten signal → items_of uses ≡ items_of (places_of Signal behind signal) →
+        Derives (Signal ∷ behind ∷ roles) (roles_of (uses ++ more)) → uses ≡ places_of Signal behind signal }
+    ensures bits { (signal : Written) (bits : List SigBit) (behind : Expect) (d : Draft) →
+        is_behind behind ≡ true → IsWritten signal → StandsFor d.current.body.wires d.current.wire_names signal bits →
+        depth_of signal + length d.signal.braces ≤ MAX_DEPTH →
+        (s : OpenSignal) × (run act d (places_of Signal behind signal) ≡ Ok (record d { signal = s })) × (s.part ≡ bits) × (s.braces ≡ d.signal.braces) }
+{}

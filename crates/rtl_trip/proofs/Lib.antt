@@ -1,0 +1,16 @@
+pub mod Printed
+pub mod Lexing
+pub mod Forms
+pub mod Integers
+pub mod Values
+pub mod Strings
+pub mod Tokens
+pub mod Spelling
+pub mod Statements
+pub mod Runs
+pub mod Whole
+pub mod Names
+pub mod Going
+pub mod GoingSignals
+pub mod GoingWires
+pub mod GoingCells

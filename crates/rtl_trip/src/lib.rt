@@ -1,0 +1,4 @@
+//! What is written is read again.
+#![tactic(auto)]
+
+mod laws;
