@@ -6,6 +6,7 @@ mod bits;
 mod cells;
 mod checked;
 mod design;
+mod ends;
 mod fault;
 mod items;
 mod links;
