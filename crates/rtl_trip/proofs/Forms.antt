@@ -92,7 +92,7 @@ name_token b bs first lt all = record {
   some = omega arith;
   starts = sigil_starts b first;
   whole = λ c rest stop. sigil_front b (bs ++ c ∷ rest) first
-  ∙ ap (λ (n : ℕ). if n == 0 then nothing else found Id (n + 1)) (run_is is_name bs c rest all (name_stops c stop))
-  ∙ some_found Id (length bs) lt;
+      ∙ ap (λ (n : ℕ). if n == 0 then nothing else found Id (n + 1)) (run_is is_name bs c rest all (name_stops c stop))
+      ∙ some_found Id (length bs) lt;
   small = refl;
 }

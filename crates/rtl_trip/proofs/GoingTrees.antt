@@ -242,6 +242,7 @@ module _ {wires : List Wire} (all : All IsWire wires) (distinct : AreDistinct (m
 
   mutual
     unfolding word_sort module_word option_word process_word event_word
+
     pub goes_switches : (s : Switches) (n : ℕ) (here next : Expect) (tail body roles : List Expect) (c : OpenCase) (outer : List OpenSwitch) → TakesSwitch here next tail body → AreSwitches wires (length outer) s
         → Goes (tokens.switches wires n s) (here ∷ roles) (now (tree c outer)) (here ∷ roles) (now (tree (record c { switches = c.switches ++ switch_list s }) outer))
     goes_switches NoSwitch n here next tail body roles c outer takes are =

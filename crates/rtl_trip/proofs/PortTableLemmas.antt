@@ -47,7 +47,7 @@ readable_ports : (m : Module) → IsReadableModule m → AreModulePorts (ports_b
 readable_ports m is = record {
   id = is.id;
   ports = All-map IsPortLine line_of (in_number_order (filter (λ w. is_port w.role) m.wires))
-  (All-weaker IsWire (λ w. IsPortLine (line_of w)) readable_port (in_number_order (filter (λ w. is_port w.role) m.wires)) (ordered_wires IsWire (filter (λ w. is_port w.role) m.wires) (All-filter (λ w. is_port w.role) IsWire m.wires is.wires)));
+      (All-weaker IsWire (λ w. IsPortLine (line_of w)) readable_port (in_number_order (filter (λ w. is_port w.role) m.wires)) (ordered_wires IsWire (filter (λ w. is_port w.role) m.wires) (All-filter (λ w. is_port w.role) IsWire m.wires is.wires)));
 }
 
 pub readable_table : (d : Design) (at : ℕ) → IsReadable d → ArePorts (record { modules = port_table_of d.modules at })

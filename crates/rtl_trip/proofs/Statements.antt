@@ -161,6 +161,7 @@ joined h a s r = simp append_assoc
 
 mutual
   unfolding switches_text cases_text
+
   spelled_switches : (wires : List Wire) (n : ℕ) (s : Switches) → spelled (tokens.switches wires n s) ≡ switches_text wires (replicate n 32) s
   spelled_switches wires n NoSwitch = refl
   spelled_switches wires n (OneSwitch sig remarks all rest) =

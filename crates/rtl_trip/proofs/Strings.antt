@@ -158,8 +158,8 @@ string_token chars all =
       some = omega arith;
       starts = refl;
       whole = λ c rest stop. ap (λ (l : List ℕ). string_front l) (append_assoc body (34 ∷ []) (c ∷ rest))
-      ∙ ap (λ (o : Option ℕ). option_map (λ count. (Chars, count + 1)) o) (string_len_is chars (c ∷ rest) all)
-      ∙ ap (λ (n : ℕ). Some (Chars, n)) size;
+          ∙ ap (λ (o : Option ℕ). option_map (λ count. (Chars, count + 1)) o) (string_len_is chars (c ∷ rest) all)
+          ∙ ap (λ (n : ℕ). Some (Chars, n)) size;
       small = refl;
     }
 

@@ -148,8 +148,8 @@ value_token bits signed lt =
       some = omega (arith, length-append ds (39 ∷ tail));
       starts = digits_starts ds (39 ∷ tail) (length bits) are;
       whole = λ c rest stop. ap front (append_assoc ds (39 ∷ tail) (c ∷ rest))
-      ∙ digits_front ds (39 ∷ (tail ++ c ∷ rest)) (length bits) are
-      ∙ ap some_found (value_front ds tail rest c are.digits (tail_is bits signed c rest stop));
+          ∙ digits_front ds (39 ∷ (tail ++ c ∷ rest)) (length bits) are
+          ∙ ap some_found (value_front ds tail rest c are.digits (tail_is bits signed c rest stop));
       small = refl;
     })
 
