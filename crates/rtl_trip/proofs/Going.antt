@@ -1,18 +1,17 @@
 -- Reading goes over what is printed: one token, one line, constants and attributes.
-use Rattle.std.proofs.Common.{◌≡◌, ℕ, zero, suc, ◌+◌, ◌*◌, ◌<◌, ◌≤◌, List, [], ◌∷◌, ◌++◌, length, map, append_assoc, append-nil, Option, Some, None, Result, Ok, Err, Bool, true, false, refl, sym, ap, subst, ◌∙◌, arith}
+use Rattle.std.proofs.Common.{◌≡◌, ℕ, ◌*◌, ◌≤◌, List, [], ◌∷◌, ◌++◌, length, map, append_assoc, append-nil, Option, Some, Result, Ok, Err, Bool, false, refl, sym, ap, subst, ◌∙◌, arith}
 use Rattle.std.specs.Prelude.{ℤ, nat_lt, replicate, codes, slice_set, if◌then◌else◌}
 use Rattle.std.specs.List.{All, flat_map}
-use Rattle.std.specs.Fmt.{decimal, signed_decimal}
+use Rattle.std.specs.Fmt.{signed_decimal}
 use Rattle.std.proofs.lemmas.Bool.{le-ltb}
 use Rattle.std.proofs.lemmas.List.{map-append, length-map}
 use Rattle.std.proofs.lemmas.List.Elements.{All-head, All-tail}
 use Rattle.rtl_lex.specs.declared.place.Place.{Place}
-use Rattle.rtl_lex.specs.declared.sort.Sort.{Sort}
 use Rattle.rtl_lex.specs.declared.sort.Sort.TheVariants as sorts
 use Rattle.rtl_lex.specs.declared.token.TokenKind.{TokenKind}
 use Rattle.rtl_lex.specs.declared.token.TokenKind.TheVariants as kinds
 use Rattle.rtl_lex.specs.Place.{behind, moved}
-use Rattle.rtl_lex.specs.Sorts.{sort_of, word_sort, module_word, option_word, process_word, event_word, mark_sort}
+use Rattle.rtl_lex.specs.Sorts.{sort_of, word_sort, module_word, option_word, process_word, event_word}
 use Rattle.rtl_lex.specs.Items.{Seen}
 use Rattle.rtl_lex.specs.Strings.{chars_of}
 use Rattle.rtl_lex.specs.Values.{width_of, is_signed, bits_of}
@@ -63,9 +62,9 @@ goes_none = record { goes = λ from others. (from, refl) }
 pub goes_then : {a b c : List Expect} {d e f : Draft} (ps qs : List Printed) → Goes ps a d b e → Goes qs b e c f → Goes (ps ++ qs) a d c f
 goes_then {a = a} {d = d} ps qs g h = record {
   goes = λ from others.
-  let one = g.goes from (qs ++ others) in
-  let two = h.goes one.0 others in
-  (two.0, ap (λ (x : List Printed). reads (items_at from x) a d) (append_assoc ps qs others) ∙ one.1 ∙ two.1)
+      let one = g.goes from (qs ++ others) in
+      let two = h.goes one.0 others in
+      (two.0, ap (λ (x : List Printed). reads (items_at from x) a d) (append_assoc ps qs others) ∙ one.1 ∙ two.1);
 }
 
 -- a token, after which reading goes on
@@ -74,11 +73,11 @@ pub goes_on : {n : ℕ} {kind : TokenKind} {text : List ℕ} {qs : List Printed}
     → Goes (Piece n kind text ∷ qs) (role ∷ roles) d back e
 goes_on {n = n} {kind = kind} {text = text} {qs = qs} {role = role} {roles = roles} {d = d} body next can does more = record {
   goes = λ from others.
-  let place = moved from (replicate n 32) in
-  let there = moved place text in
-  let rest = (more place).goes there others in
-  let one = stepped act refused faults.Memory (seen_at kind text place) (items_at there (qs ++ others)) role roles body d can in
-  (rest.0, one ∙ ap (λ (r : Result Draft ReadFault). r >>= λ n. reads (items_at there (qs ++ others)) (body ++ roles) n) (does place) ∙ rest.1)
+      let place = moved from (replicate n 32) in
+      let there = moved place text in
+      let rest = (more place).goes there others in
+      let one = stepped act refused faults.Memory (seen_at kind text place) (items_at there (qs ++ others)) role roles body d can in
+      (rest.0, one ∙ ap (λ (r : Result Draft ReadFault). r >>= λ n. reads (items_at there (qs ++ others)) (body ++ roles) n) (does place) ∙ rest.1);
 }
 
 -- the end of a line, after which reading goes on
@@ -87,11 +86,11 @@ pub goes_line : {qs : List Printed} {role : Expect} {roles back : List Expect} {
     → Goes (EndLine ∷ qs) (role ∷ roles) d back e
 goes_line {qs = qs} {role = role} {roles = roles} {d = d} body next can does more = record {
   goes = λ from others.
-  let text : List ℕ = 10 ∷ replicate (lead (qs ++ others)) 32 in
-  let there = behind from 10 in
-  let rest = more.goes there others in
-  let one = stepped act refused faults.Memory (seen_at kinds.Line text from) (items_at there (qs ++ others)) role roles body d can in
-  (rest.0, one ∙ ap (λ (r : Result Draft ReadFault). r >>= λ n. reads (items_at there (qs ++ others)) (body ++ roles) n) (does text from) ∙ rest.1)
+      let text : List ℕ = 10 ∷ replicate (lead (qs ++ others)) 32 in
+      let there = behind from 10 in
+      let rest = more.goes there others in
+      let one = stepped act refused faults.Memory (seen_at kinds.Line text from) (items_at there (qs ++ others)) role roles body d can in
+      (rest.0, one ∙ ap (λ (r : Result Draft ReadFault). r >>= λ n. reads (items_at there (qs ++ others)) (body ++ roles) n) (does text from) ∙ rest.1);
 }
 
 -- items one after another; `state` is what there is behind those that were read

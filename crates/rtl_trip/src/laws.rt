@@ -13,8 +13,7 @@ ghost use Rattle.rtl_trip.specs.PortTables.{ArePorts};
 /// What is written of a design is read as that design.
 pub fn reads_again()
     ensures round_trip { (design : Design) → IsReadable design → Reads (text_of design) design }
-{
-}
+{}
 
 /// The text of a module's body has no name; a blank and the name in one place make it the module's
 /// text. Of modules that a text can give, the texts of bodies are equal exactly where the bodies are.
@@ -22,12 +21,10 @@ pub fn bodies_have_their_texts()
     ensures place { («module» : Module) → HasPlaceForName «module» }
     ensures name { («module» : Module) (name : List ℕ) → body_text (record «module» { id = name }) ≡ body_text «module» }
     ensures equal { («module» other : Module) → IsReadableModule «module» → IsReadableModule other → (body_text «module» ≡ body_text other) ↔ (record «module» { id = other.id } ≡ other) }
-{
-}
+{}
 
 /// The ports of the modules that a module instantiates, in a design that a text can give, are such
 /// as their text gives again.
 pub fn tables_of_readable_designs()
     ensures { (design : Design) (at : ℕ) → IsReadable design → ArePorts (record { modules = port_table_of design.modules at }) }
-{
-}
+{}
