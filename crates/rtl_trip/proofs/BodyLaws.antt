@@ -1,13 +1,13 @@
 -- Of modules that a text can give, equal bodies have equal texts, and different bodies different texts.
-use Rattle.std.proofs.Common.{◌≡◌, ℕ, ◌+◌, ◌≤◌, List, [], ◌∷◌, ◌++◌, append_assoc, append-nil, refl, sym, ap, subst, ◌∙◌, arith}
+use Rattle.std.proofs.Common.{◌≡◌, ℕ, List, [], ◌∷◌, ◌++◌, append-nil, sym, ap, subst, ◌∙◌, arith}
 use Rattle.std.specs.Prelude.{codes, ◌↔◌}
-use Rattle.std.specs.List.{All, flat_map, IsDistinct}
+use Rattle.std.specs.List.{IsDistinct}
 use Rattle.std.proofs.lemmas.List.Elements.{All-nil, All-cons}
 use Rattle.rtl_ir.specs.declared.module.Module.{Module}
 use Rattle.rtl_ir.specs.declared.module.Design.{Design}
 use Rattle.rtl_read.specs.Reads.{Reads}
 use Rattle.rtl_read.proofs.Unique.{one_design}
-use Rattle.rtl_write.specs.Text.{attributes_text, inner_text, module_text, body_text, text_of}
+use Rattle.rtl_write.specs.Text.{attributes_text, inner_text, module_text, body_text}
 use Rattle.rtl_trip.specs.Readable.{IsName, IsReadableModule, IsReadable}
 use Rattle.rtl_trip.specs.Bodies.{with_name, HasPlaceForName}
 use Rattle.rtl_trip.proofs.BodyLemmas.{body_parts, module_parts, inner_kept, named_body}

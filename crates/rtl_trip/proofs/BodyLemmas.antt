@@ -1,7 +1,7 @@
 -- A name that is put back into the text of a body gives the text of the module.
-use Rattle.std.proofs.Common.{◌≡◌, ℕ, suc, ◌+◌, ◌<◌, List, [], ◌∷◌, ◌++◌, length, take, drop, append_assoc, append-nil, Bool, true, false, refl, sym, ap, subst, ◌∙◌, arith, length-append}
-use Rattle.std.specs.Prelude.{◌==◌, ◌&&◌, nat_lt, codes, if◌then◌else◌}
-use Rattle.std.specs.List.{All, flat_map}
+use Rattle.std.proofs.Common.{◌≡◌, ℕ, ◌+◌, List, [], ◌∷◌, ◌++◌, length, take, drop, append_assoc, Bool, true, false, refl, sym, ap, ◌∙◌, arith, length-append}
+use Rattle.std.specs.Prelude.{◌==◌, nat_lt, codes}
+use Rattle.std.specs.List.{All}
 use Rattle.std.proofs.lemmas.Bool.Decides.{nat_tests}
 use Rattle.std.proofs.lemmas.List.{take_at, drop_at}
 use Rattle.std.proofs.lemmas.List.Elements.{All-head, All-tail}
@@ -9,7 +9,7 @@ use Rattle.rtl_ir.specs.declared.value.Attribute.{Attribute}
 use Rattle.rtl_ir.specs.declared.module.Module.{Module}
 use Rattle.rtl_write.specs.Constant.{value_text}
 use Rattle.rtl_write.specs.Text.{attribute_text, attributes_text, inner_text, module_text, body_text}
-use Rattle.rtl_trip.specs.Readable.{IsAttribute, AreAttributes, IsReadableModule}
+use Rattle.rtl_trip.specs.Readable.{IsAttribute, AreAttributes}
 use Rattle.rtl_trip.specs.Bodies.{line_at, name_at, with_name}
 use Rattle.rtl_trip.proofs.Marks.{Lacks, lacks_by, lacks_both, lacks_first, constant_lacks, name_lacks}
 

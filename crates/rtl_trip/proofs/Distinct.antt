@@ -1,14 +1,13 @@
 -- Names that stay distinct while items are added.
-use Rattle.std.proofs.Common.{◌≡◌, ℕ, zero, suc, ◌+◌, ◌<◌, List, [], ◌∷◌, ◌++◌, length, append-nil, Option, Some, None, Bool, true, false, refl, sym, ap, subst, ◌∙◌, arith, cond}
-use Rattle.std.specs.Prelude.{◌||◌, nat_lt, slice_get, is_some}
-use Rattle.std.specs.List.{list_any, AllByRecursion, IsDistinct}
+use Rattle.std.proofs.Common.{◌≡◌, ℕ, zero, suc, ◌<◌, List, [], ◌∷◌, ◌++◌, length, append-nil, Some, None, Bool, true, false, refl, sym, ap, subst, ◌∙◌, arith, cond}
+use Rattle.std.specs.Prelude.{◌||◌, slice_get, is_some}
+use Rattle.std.specs.List.{AllByRecursion, IsDistinct}
 use Rattle.std.specs.Str.{bytes_eq}
 use Rattle.std.proofs.lemmas.Bool.{or_parts, or_from, lt-ltb, true≢false}
 use Rattle.std.proofs.lemmas.List.Folds.{list_any-append}
-use Rattle.std.proofs.lemmas.Slice.Eq.{bytes_eq-Decides}
-use Rattle.rtl_sig.specs.Names.{has_name, number_of, next_number_of, with_name, AreDistinct}
+use Rattle.rtl_sig.specs.Names.{has_name, number_of, next_number_of, AreDistinct}
 use Rattle.rtl_sig.proofs.NamesLemmas.{slice_get-known}
-use Rattle.rtl_trip.proofs.Names.{differs_back, same_name, is_new, not_in_front}
+use Rattle.rtl_trip.proofs.Names.{differs_back, same_name, not_in_front}
 
 slice_get_lt : {X : Type 0} (xs : List X) (k : ℕ) (x : X) → slice_get xs k ≡ Some x → k < length xs
 slice_get_lt [] k x e = absurd cc

@@ -1,15 +1,15 @@
 -- The forms of tokens: words, marks, identifiers.
-use Rattle.std.proofs.Common.{◌≡◌, ℕ, zero, suc, ◌+◌, ◌<◌, ◌≤◌, List, [], ◌∷◌, ◌++◌, length, Option, Some, None, Bool, true, false, refl, sym, ap, ◌∙◌, arith, cond}
-use Rattle.std.specs.Prelude.{◌==◌, ◌&&◌, ◌||◌, nat_lt, nat_le, if◌then◌else◌, slice_index}
+use Rattle.std.proofs.Common.{◌≡◌, ℕ, zero, suc, ◌+◌, ◌<◌, List, [], ◌∷◌, ◌++◌, length, Option, Some, None, Bool, true, false, refl, ap, ◌∙◌, arith, cond}
+use Rattle.std.specs.Prelude.{◌==◌, ◌||◌, if◌then◌else◌}
 use Rattle.std.specs.List.{prefix_len, list_all}
 use Rattle.std.proofs.lemmas.Bool.{and_parts}
 use Rattle.std.proofs.lemmas.Bool.Decides.{nat_tests}
 use Rattle.rtl_lex.specs.declared.token.TokenKind.{TokenKind}
 use Rattle.rtl_lex.specs.declared.token.TokenKind.TheVariants.{Word, Mark, Id}
-use Rattle.rtl_lex.specs.Bytes.{is_blank, is_end, is_lower, is_digit, is_mark, is_sigil, is_name}
+use Rattle.rtl_lex.specs.Bytes.{is_lower, is_mark, is_sigil, is_name}
 use Rattle.rtl_lex.specs.Gaps.{in_gap}
-use Rattle.rtl_lex.specs.Tokens.{front, name_front, string_front, minus_front, number_front}
-use Rattle.rtl_trip.proofs.Printed.{IsToken, stops}
+use Rattle.rtl_lex.specs.Tokens.{front, name_front}
+use Rattle.rtl_trip.proofs.Printed.{IsToken}
 
 -- a run of bytes that pass, up to one that does not
 pub run_is : (p : ℕ → Bool) (xs : List ℕ) (b : ℕ) (rest : List ℕ) → list_all p xs ≡ true → p b ≡ false → prefix_len p (xs ++ b ∷ rest) ≡ length xs

@@ -1,18 +1,17 @@
 -- Reading goes over what is printed: one token, one line, constants and attributes.
-use Rattle.std.proofs.Common.{◌≡◌, ℕ, zero, suc, ◌+◌, ◌*◌, ◌<◌, ◌≤◌, List, [], ◌∷◌, ◌++◌, length, map, append_assoc, append-nil, Option, Some, None, Result, Ok, Err, Bool, true, false, refl, sym, ap, subst, ◌∙◌, arith}
+use Rattle.std.proofs.Common.{◌≡◌, ℕ, ◌*◌, ◌≤◌, List, [], ◌∷◌, ◌++◌, length, map, append_assoc, append-nil, Option, Some, Result, Ok, Err, Bool, false, refl, sym, ap, subst, ◌∙◌, arith}
 use Rattle.std.specs.Prelude.{ℤ, nat_lt, replicate, codes, slice_set, if◌then◌else◌}
 use Rattle.std.specs.List.{All, flat_map}
-use Rattle.std.specs.Fmt.{decimal, signed_decimal}
+use Rattle.std.specs.Fmt.{signed_decimal}
 use Rattle.std.proofs.lemmas.Bool.{le-ltb}
 use Rattle.std.proofs.lemmas.List.{map-append, length-map}
 use Rattle.std.proofs.lemmas.List.Elements.{All-head, All-tail}
 use Rattle.rtl_lex.specs.declared.place.Place.{Place}
-use Rattle.rtl_lex.specs.declared.sort.Sort.{Sort}
 use Rattle.rtl_lex.specs.declared.sort.Sort.TheVariants as sorts
 use Rattle.rtl_lex.specs.declared.token.TokenKind.{TokenKind}
 use Rattle.rtl_lex.specs.declared.token.TokenKind.TheVariants as kinds
 use Rattle.rtl_lex.specs.Place.{behind, moved}
-use Rattle.rtl_lex.specs.Sorts.{sort_of, word_sort, module_word, option_word, process_word, event_word, mark_sort}
+use Rattle.rtl_lex.specs.Sorts.{sort_of, word_sort, module_word, option_word, process_word, event_word}
 use Rattle.rtl_lex.specs.Items.{Seen}
 use Rattle.rtl_lex.specs.Strings.{chars_of}
 use Rattle.rtl_lex.specs.Values.{width_of, is_signed, bits_of}

@@ -1,6 +1,6 @@
 -- Reading goes over cells.
-use Rattle.std.proofs.Common.{◌≡◌, ℕ, ◌+◌, ◌<◌, ◌≤◌, List, [], ◌∷◌, ◌++◌, length, map, append_assoc, Option, Some, None, Result, Ok, Err, Bool, true, false, refl, sym, ap, subst, ◌∙◌, arith}
-use Rattle.std.specs.Prelude.{nat_le, is_some, codes, if◌then◌else◌}
+use Rattle.std.proofs.Common.{◌≡◌, ℕ, ◌<◌, List, [], ◌∷◌, ◌++◌, length, map, Some, Result, Ok, Err, Bool, true, false, refl, sym, ap, subst, ◌∙◌}
+use Rattle.std.specs.Prelude.{nat_le, codes, if◌then◌else◌}
 use Rattle.std.specs.List.{All, flat_map}
 use Rattle.std.proofs.lemmas.Bool.{lt-leb}
 use Rattle.std.proofs.lemmas.List.{map-append}
@@ -8,7 +8,7 @@ use Rattle.rtl_lex.specs.declared.place.Place.{Place}
 use Rattle.rtl_lex.specs.declared.sort.Sort.TheVariants as sorts
 use Rattle.rtl_lex.specs.declared.token.TokenKind.TheVariants as kinds
 use Rattle.rtl_lex.specs.Sorts.{word_sort, module_word, option_word, process_word, event_word, mark_sort}
-use Rattle.rtl_sig.specs.Names.{number_of, with_name, AreDistinct}
+use Rattle.rtl_sig.specs.Names.{with_name, AreDistinct}
 use Rattle.rtl_sig.specs.declared.sig.SigBit.{SigBit}
 use Rattle.rtl_ir.specs.declared.value.Value.{Value}
 use Rattle.rtl_ir.specs.declared.wire.Wire.{Wire}
@@ -30,11 +30,11 @@ use Rattle.rtl_read.specs.Meaning.Module.{with_cell}
 use Rattle.rtl_read.specs.Meaning.Cell.{plain_cell, with_param}
 use Rattle.rtl_read.specs.Act.{act}
 use Rattle.rtl_trip.specs.Readable.{IsWire, IsCellParam, IsPin, IsCell}
-use Rattle.rtl_trip.proofs.Printed.{Printed, EndLine}
+use Rattle.rtl_trip.proofs.Printed.{Printed}
 use Rattle.rtl_trip.proofs.Lexing.{seen_at}
 use Rattle.rtl_trip.proofs.Names.{IsNew, new_among}
 use Rattle.rtl_trip.proofs.Going.{Goes, goes_none, goes_then, goes_on, goes_line, goes_each, goes_constant, goes_attributes, waiting, all_at, okay}
-use Rattle.rtl_trip.proofs.GoingSignals.{Begins, TakesSlices, IsOver, GoesFrom, with_signal, goes_signal}
+use Rattle.rtl_trip.proofs.GoingSignals.{Begins, TakesSlices, IsOver, goes_signal}
 use Rattle.rtl_trip.proofs.GoingWires.{at, IsFree, add_name, adds_name, takes_item}
 use Rattle.rtl_trip.proofs.Tokens as tokens
 use Rattle.rtl_trip.proofs.Tokens.{word}

@@ -1,6 +1,6 @@
 -- Reading goes over processes, modules and designs.
-use Rattle.std.proofs.Common.{◌≡◌, ℕ, suc, ◌+◌, ◌<◌, ◌≤◌, List, [], ◌∷◌, ◌++◌, length, map, append_assoc, append-nil, Option, Some, Result, Ok, Err, Bool, true, false, refl, sym, ap, subst, ◌∙◌, arith, length-append}
-use Rattle.std.specs.Prelude.{nat_le, is_some, codes, if◌then◌else◌}
+use Rattle.std.proofs.Common.{◌≡◌, ℕ, ◌+◌, ◌<◌, ◌≤◌, List, [], ◌∷◌, ◌++◌, length, map, append_assoc, append-nil, Some, Result, Ok, Err, Bool, false, refl, sym, ap, subst, ◌∙◌, arith, length-append}
+use Rattle.std.specs.Prelude.{nat_le, codes, if◌then◌else◌}
 use Rattle.std.specs.List.{All, AllByRecursion, IsDistinct, flat_map, sum_by}
 use Rattle.std.specs.Str.{bytes_eq}
 use Rattle.std.proofs.lemmas.Bool.{lt-leb}
@@ -11,7 +11,7 @@ use Rattle.rtl_lex.specs.declared.sort.Sort.TheVariants as sorts
 use Rattle.rtl_lex.specs.declared.token.TokenKind.TheVariants as kinds
 use Rattle.rtl_lex.specs.Sorts.{word_sort, module_word, option_word, process_word, event_word}
 use Rattle.rtl_sig.specs.declared.sig.SigBit.{SigBit}
-use Rattle.rtl_sig.specs.Names.{has_name, number_of, with_name, AreDistinct}
+use Rattle.rtl_sig.specs.Names.{has_name, with_name, AreDistinct}
 use Rattle.rtl_ir.specs.declared.value.Attribute.{Attribute}
 use Rattle.rtl_ir.specs.declared.wire.Wire.{Wire}
 use Rattle.rtl_ir.specs.declared.store.Store.{Store}
@@ -19,7 +19,6 @@ use Rattle.rtl_ir.specs.declared.cell.Cell.{Cell}
 use Rattle.rtl_ir.specs.declared.module.Link.{Link}
 use Rattle.rtl_ir.specs.declared.module.Parameter.{Parameter}
 use Rattle.rtl_ir.specs.declared.module.Module.{Module}
-use Rattle.rtl_ir.specs.declared.module.Design.{Design}
 use Rattle.rtl_ir.specs.declared.process.Process.{Process}
 use Rattle.rtl_ir.specs.Tree.{Switches, CaseView, switches_of}
 use Rattle.rtl_grammar.specs.declared.expect.Expect.{Expect}
@@ -45,8 +44,8 @@ use Rattle.rtl_trip.proofs.GoingWires.{at, IsFree, add_name, adds_name, takes_it
 use Rattle.rtl_trip.proofs.GoingCells.{goes_cell}
 use Rattle.rtl_trip.proofs.GoingPairs.{goes_link}
 use Rattle.rtl_trip.proofs.Names.{IsNew, is_new, not_before, not_in_front, new_among}
-use Rattle.rtl_trip.proofs.GoingTrees.{tree, treed, switch_list, switches_back, assign_in_process, switch_in_process, goes_assigns, goes_switches}
-use Rattle.rtl_trip.proofs.GoingRules.{ready, goes_rules}
+use Rattle.rtl_trip.proofs.GoingTrees.{tree, switch_list, switches_back, assign_in_process, switch_in_process, goes_assigns, goes_switches}
+use Rattle.rtl_trip.proofs.GoingRules.{goes_rules}
 use Rattle.rtl_trip.proofs.Tokens as tokens
 use Rattle.rtl_trip.proofs.Tokens.{word}
 

@@ -1,10 +1,6 @@
 -- Reading goes over pairs of signals: connections, assigns and updates.
-use Rattle.std.proofs.Common.{◌≡◌, ℕ, ◌<◌, List, [], ◌∷◌, ◌++◌, length, map, Result, Ok, Err, Bool, refl, sym, ap, subst, ◌∙◌, arith}
-use Rattle.std.specs.Prelude.{codes}
+use Rattle.std.proofs.Common.{◌≡◌, ℕ, ◌<◌, List, [], ◌∷◌, ◌++◌, length, map, Ok, refl, ap, ◌∙◌, arith}
 use Rattle.std.specs.List.{All}
-use Rattle.rtl_lex.specs.declared.place.Place.{Place}
-use Rattle.rtl_lex.specs.declared.sort.Sort.TheVariants as sorts
-use Rattle.rtl_lex.specs.declared.token.TokenKind.TheVariants as kinds
 use Rattle.rtl_lex.specs.Sorts.{word_sort, module_word, option_word, process_word, event_word, mark_sort}
 use Rattle.rtl_lex.specs.Items.{Seen}
 use Rattle.rtl_sig.specs.Names.{AreDistinct}
@@ -16,11 +12,9 @@ use Rattle.rtl_grammar.specs.declared.expect.Expect.{Expect}
 use Rattle.rtl_grammar.specs.declared.expect.Expect.TheVariants as expects
 use Rattle.rtl_read.specs.declared.draft.Draft.{Draft}
 use Rattle.rtl_read.specs.declared.open_module.OpenModule.{OpenModule}
-use Rattle.rtl_read.specs.declared.read_fault.ReadFault.{ReadFault}
 use Rattle.rtl_read.specs.declared.signal.OpenSignal.{OpenSignal}
 use Rattle.rtl_read.specs.Signal.{no_signal, some_bits}
 use Rattle.rtl_read.specs.Meaning.Module.{with_link}
-use Rattle.rtl_read.specs.Act.{act}
 use Rattle.rtl_read.specs.Act.Pair.{close_pair}
 use Rattle.rtl_trip.specs.Readable.{IsWire, IsLink}
 use Rattle.rtl_trip.proofs.Printed.{Printed, EndLine}

@@ -1,5 +1,5 @@
 -- Reading goes over the rules of a process.
-use Rattle.std.proofs.Common.{◌≡◌, ℕ, ◌+◌, ◌<◌, ◌≤◌, List, [], ◌∷◌, ◌++◌, length, map, append_assoc, append-nil, Some, Result, Ok, Err, Bool, true, false, refl, sym, ap, subst, ◌∙◌, arith}
+use Rattle.std.proofs.Common.{◌≡◌, ℕ, ◌<◌, List, [], ◌∷◌, ◌++◌, length, map, append_assoc, append-nil, Some, Result, Ok, refl, sym, ap, subst, ◌∙◌}
 use Rattle.std.specs.Prelude.{codes}
 use Rattle.std.specs.List.{All, flat_map}
 use Rattle.std.proofs.lemmas.List.Elements.{All-head, All-tail}
@@ -7,7 +7,7 @@ use Rattle.rtl_lex.specs.declared.place.Place.{Place}
 use Rattle.rtl_lex.specs.declared.sort.Sort.{Sort}
 use Rattle.rtl_lex.specs.declared.sort.Sort.TheVariants as sorts
 use Rattle.rtl_lex.specs.declared.token.TokenKind.TheVariants as kinds
-use Rattle.rtl_lex.specs.Sorts.{sort_of, word_sort, module_word, option_word, process_word, event_word, mark_sort}
+use Rattle.rtl_lex.specs.Sorts.{word_sort, module_word, option_word, process_word, event_word, mark_sort}
 use Rattle.rtl_lex.specs.Items.{Seen}
 use Rattle.rtl_sig.specs.Names.{AreDistinct}
 use Rattle.rtl_sig.specs.declared.sig.SigBit.{SigBit}
@@ -29,9 +29,8 @@ use Rattle.rtl_read.specs.declared.open_module.OpenModule.{OpenModule}
 use Rattle.rtl_read.specs.declared.open_process.OpenProcess.{OpenProcess}
 use Rattle.rtl_read.specs.declared.read_fault.ReadFault.{ReadFault}
 use Rattle.rtl_read.specs.declared.signal.OpenSignal.{OpenSignal}
-use Rattle.rtl_read.specs.Constant as reading
 use Rattle.rtl_read.specs.Signal.{no_signal, some_bits}
-use Rattle.rtl_read.specs.Meaning.Process.{event_of, event_with, plain_rule, plain_write, open_rule, with_event, with_update, open_write, with_memory, with_address, with_value, close_write}
+use Rattle.rtl_read.specs.Meaning.Process.{plain_rule, plain_write, open_rule, with_event, with_update, open_write, with_address, with_value, close_write}
 use Rattle.rtl_read.specs.Act.{act}
 use Rattle.rtl_read.specs.Act.Process.{close_process}
 use Rattle.rtl_read.specs.Act.Signal.{begin_signal}

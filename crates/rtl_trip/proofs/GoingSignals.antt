@@ -1,10 +1,9 @@
 -- Reading goes over signals: what is read of the runs of a signal is the signal.
-use Rattle.std.proofs.Common.{◌≡◌, ℕ, zero, suc, ◌+◌, ◌-◌, ◌<◌, ◌≤◌, ◌^◌, inl, inr, List, [], ◌∷◌, ◌++◌, length, take, drop, map, append_assoc, append-nil, Option, Some, None, Result, Ok, Err, Bool, true, false, refl, sym, ap, subst, ◌∙◌, arith, length-append}
+use Rattle.std.proofs.Common.{◌≡◌, ℕ, zero, suc, ◌+◌, ◌-◌, ◌<◌, ◌≤◌, ◌^◌, inl, inr, List, [], ◌∷◌, ◌++◌, length, take, drop, map, append_assoc, append-nil, Option, Some, Result, Ok, Err, Bool, true, false, refl, sym, ap, subst, ◌∙◌, arith, length-append}
 use Rattle.std.specs.Prelude.{◌==◌, ◌&&◌, ◌||◌, ℤ, pos, nat_lt, nat_le, slice_get, if◌then◌else◌}
 use Rattle.std.specs.List.{All, flat_map}
 use Rattle.std.specs.Fmt.{decimal}
-use Rattle.std.proofs.lemmas.Bool.{le-ltb, lt-ltb, lt-leb, and_parts, eqb-true, eqb-false, or_from}
-use Rattle.std.proofs.lemmas.List.{length-map}
+use Rattle.std.proofs.lemmas.Bool.{le-ltb, lt-ltb, lt-leb, and_parts, eqb-true, or_from}
 use Rattle.std.proofs.lemmas.List.Elements.{All-head, All-tail}
 use Rattle.rtl_lex.specs.declared.place.Place.{Place}
 use Rattle.rtl_lex.specs.declared.sort.Sort.{Sort}
@@ -28,17 +27,17 @@ use Rattle.rtl_read.specs.declared.limits.TheConstants.{MAX_BITS, MAX_DEPTH, MAX
 use Rattle.rtl_read.specs.declared.read_fault.ReadFault.{ReadFault}
 use Rattle.rtl_read.specs.declared.read_fault.ReadFault.TheVariants as faults
 use Rattle.rtl_read.specs.declared.signal.OpenSignal.{OpenSignal}
-use Rattle.rtl_read.specs.Constant.{integer, constant, fixed}
-use Rattle.rtl_read.specs.Signal.{wire_bits, width_at, wire_signal, begin, close_brace, put_below, inside, open_index, set_high, set_low, slice}
+use Rattle.rtl_read.specs.Constant.{integer, fixed}
+use Rattle.rtl_read.specs.Signal.{wire_bits, width_at, wire_signal, put_below, inside, slice}
 use Rattle.rtl_read.specs.Act.{act}
 use Rattle.rtl_read.specs.Act.Signal.{begin_signal, open_bracket}
 use Rattle.rtl_write.specs.Constant.{bits_text}
-use Rattle.rtl_write.specs.Signal.{constant_of, runs_of}
+use Rattle.rtl_write.specs.Signal.{runs_of}
 use Rattle.rtl_trip.specs.Readable.{IsWire, IsSignal}
 use Rattle.rtl_trip.proofs.Printed.{Printed, Piece}
 use Rattle.rtl_trip.proofs.Lexing.{seen_at}
 use Rattle.rtl_trip.proofs.Integers.{integer_back}
-use Rattle.rtl_trip.proofs.Runs.{rising, AreFixed, AreRising, IsRun, AreRuns, joined, rising_more, length_rising, cut}
+use Rattle.rtl_trip.proofs.Runs.{rising, IsRun, joined, rising_more, length_rising, cut}
 use Rattle.rtl_trip.proofs.Whole.{wire_at, constants_back}
 use Rattle.rtl_trip.proofs.Names.{number_at}
 use Rattle.rtl_trip.proofs.Going.{Goes, goes_on, value_read, okay}

@@ -1,6 +1,6 @@
 -- Reading goes over trees of decisions: assigns, switches and cases.
-use Rattle.std.proofs.Common.{◌≡◌, ℕ, suc, ◌+◌, ◌<◌, ◌≤◌, List, [], ◌∷◌, ◌++◌, length, map, append_assoc, append-nil, Some, Result, Ok, Err, Bool, true, false, refl, sym, ap, subst, ◌∙◌, arith}
-use Rattle.std.specs.Prelude.{nat_le, codes, if◌then◌else◌}
+use Rattle.std.proofs.Common.{◌≡◌, ℕ, ◌+◌, ◌<◌, List, [], ◌∷◌, ◌++◌, length, map, append_assoc, append-nil, Some, Result, Ok, Err, Bool, refl, sym, ap, subst, ◌∙◌, arith}
+use Rattle.std.specs.Prelude.{codes, if◌then◌else◌}
 use Rattle.std.specs.List.{All, flat_map}
 use Rattle.std.proofs.lemmas.Bool.{lt-leb}
 use Rattle.std.proofs.lemmas.List.Elements.{All-head, All-tail}
@@ -34,7 +34,7 @@ use Rattle.rtl_read.specs.Signal.{some_bits}
 use Rattle.rtl_read.specs.Meaning.Tree.{plain_case, case_of, enter_switch, close_switch, with_pattern, with_assign}
 use Rattle.rtl_read.specs.Act.{act}
 use Rattle.rtl_read.specs.Act.Process.{open_switch}
-use Rattle.rtl_trip.specs.Readable.{IsWire, IsLink, IsSomeSignal, AreAttributes, AreSwitches, AreCases}
+use Rattle.rtl_trip.specs.Readable.{IsWire, IsLink, IsSomeSignal, AreSwitches, AreCases}
 use Rattle.rtl_trip.proofs.Printed.{Printed, EndLine}
 use Rattle.rtl_trip.proofs.Lexing.{seen_at}
 use Rattle.rtl_trip.proofs.Going.{Goes, goes_none, goes_then, goes_on, goes_line, goes_each, goes_attributes, waiting, TakesAttributes, all_at, okay}

@@ -1,18 +1,15 @@
 -- Reading goes over wires, memories and parameters.
-use Rattle.std.proofs.Common.{◌≡◌, ℕ, zero, suc, ◌+◌, ◌<◌, ◌≤◌, ◌^◌, List, [], ◌∷◌, ◌++◌, length, map, append_assoc, append-nil, Option, Some, None, Result, Ok, Err, Bool, true, false, refl, sym, ap, subst, ◌∙◌, arith}
-use Rattle.std.specs.Prelude.{◌==◌, ◌||◌, ℤ, pos, negsuc, nat_lt, is_some, codes, IfSome, if◌then◌else◌}
-use Rattle.std.specs.List.{All, flat_map, sum_by}
+use Rattle.std.proofs.Common.{◌≡◌, ℕ, zero, suc, ◌+◌, ◌<◌, ◌≤◌, ◌^◌, List, [], ◌∷◌, ◌++◌, Option, Some, None, Result, Ok, Err, Bool, true, false, refl, sym, ap, subst, ◌∙◌, arith}
+use Rattle.std.specs.Prelude.{◌==◌, ℤ, pos, negsuc, nat_lt, is_some, codes, IfSome, if◌then◌else◌}
 use Rattle.std.specs.Fmt.{decimal, signed_decimal}
 use Rattle.std.proofs.lemmas.Bool.{le-ltb, lt-ltb, ne_eqb, eqb-true, or_from}
 use Rattle.rtl_lex.specs.declared.place.Place.{Place}
-use Rattle.rtl_lex.specs.declared.sort.Sort.{Sort}
 use Rattle.rtl_lex.specs.declared.sort.Sort.TheVariants as sorts
 use Rattle.rtl_lex.specs.declared.token.TokenKind.TheVariants as kinds
 use Rattle.rtl_lex.specs.Sorts.{word_sort, module_word, option_word, process_word, event_word}
 use Rattle.rtl_lex.specs.Items.{Seen}
 use Rattle.rtl_sig.specs.Names.{number_of, with_name}
 use Rattle.rtl_ir.specs.declared.value.Value.{Value}
-use Rattle.rtl_ir.specs.declared.value.Attribute.{Attribute}
 use Rattle.rtl_ir.specs.declared.wire.Role.{Role}
 use Rattle.rtl_ir.specs.declared.wire.Role.TheVariants.{Inner, Input, Output, Inout}
 use Rattle.rtl_ir.specs.declared.wire.Wire.{Wire}
@@ -30,11 +27,11 @@ use Rattle.rtl_read.specs.declared.read_fault.ReadFault.{ReadFault}
 use Rattle.rtl_read.specs.declared.read_fault.ReadFault.TheVariants as faults
 use Rattle.rtl_read.specs.Constant as reading
 use Rattle.rtl_read.specs.Draft.{nothing}
-use Rattle.rtl_read.specs.Meaning.Module.{is_taken, with_item_name, with_wire, with_store, with_parameter}
-use Rattle.rtl_read.specs.Meaning.Wire.{plain_wire, plain_store, with_option, some_width, within_limit}
+use Rattle.rtl_read.specs.Meaning.Module.{is_taken, with_item_name, with_wire, with_parameter}
+use Rattle.rtl_read.specs.Meaning.Wire.{plain_wire, plain_store, some_width, within_limit}
 use Rattle.rtl_read.specs.Act.{act}
-use Rattle.rtl_trip.specs.Readable.{IsName, IsInteger, IsConstant, IsParameter, IsWire, IsStore}
-use Rattle.rtl_trip.proofs.Printed.{Printed, EndLine}
+use Rattle.rtl_trip.specs.Readable.{IsInteger, IsConstant, IsParameter, IsWire, IsStore}
+use Rattle.rtl_trip.proofs.Printed.{Printed}
 use Rattle.rtl_trip.proofs.Lexing.{seen_at}
 use Rattle.rtl_trip.proofs.Integers.{integer_back}
 use Rattle.rtl_trip.proofs.Names.{IsNew}

@@ -1,11 +1,11 @@
 -- Integers as they are printed.
-use Rattle.std.proofs.Common.{◌≡◌, ℕ, zero, suc, ◌+◌, ◌*◌, ◌-◌, ◌<◌, ◌≤◌, ◌^◌, List, [], ◌∷◌, ◌++◌, length, drop, append-nil, Option, Some, None, Bool, true, false, refl, sym, ap, subst, ◌∙◌, arith}
+use Rattle.std.proofs.Common.{◌≡◌, ℕ, suc, ◌+◌, ◌*◌, ◌-◌, ◌<◌, ◌^◌, List, [], ◌∷◌, ◌++◌, length, drop, append-nil, Option, Some, None, Bool, true, false, refl, sym, ap, subst, ◌∙◌, arith}
 use Rattle.std.specs.Prelude.{ℤ, pos, negsuc, neg_ℤ, ◌==◌, ◌||◌, nat_lt, is_none, if◌then◌else◌, slice_index}
 use Rattle.std.specs.List.{fold, prefix_len, list_all}
 use Rattle.std.specs.Fmt.{decimal, signed_decimal}
-use Rattle.std.specs.Str.Parse.{AllDigits, IsNumeral}
+use Rattle.std.specs.Str.Parse.{AllDigits}
 use Rattle.std.specs.Int.{IsInRange}
-use Rattle.std.proofs.lemmas.Bool.{and_from, and_parts, le-ltb, lt-ltb}
+use Rattle.std.proofs.lemmas.Bool.{and_from, and_parts}
 use Rattle.std.proofs.lemmas.Bool.Decides.{nat_tests}
 use Rattle.std.proofs.lemmas.Fmt.{decimal_is_IsNumeral, digits_value-decimal}
 use Rattle.std.proofs.lemmas.List.{get_or_at}
@@ -16,7 +16,7 @@ use Rattle.rtl_lex.specs.Bytes.{is_digit}
 use Rattle.rtl_lex.specs.Gaps.{in_gap}
 use Rattle.rtl_lex.specs.Numbers as numbers
 use Rattle.rtl_lex.specs.Tokens.{front, number_front, minus_front, tail_len}
-use Rattle.rtl_trip.proofs.Printed.{IsToken, stops}
+use Rattle.rtl_trip.proofs.Printed.{IsToken}
 use Rattle.rtl_trip.proofs.Forms.{run_is, found, nothing, some_found}
 
 -- ---- digits

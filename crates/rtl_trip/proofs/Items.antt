@@ -1,11 +1,11 @@
 -- What the items of a text are like: names have the form of names, and numbers are in range.
-use Rattle.std.proofs.Common.{◌≡◌, ℕ, zero, suc, ◌+◌, ◌-◌, ◌<◌, ◌≤◌, List, [], ◌∷◌, ◌++◌, length, take, drop, map, Option, Some, None, Result, Ok, Err, Bool, true, false, refl, sym, ap, subst, ◌∙◌, arith, cond}
-use Rattle.std.specs.Prelude.{◌==◌, ◌&&◌, ◌||◌, nat_lt, ℤ, unwrap_or, option_map, if◌then◌else◌, slice_index}
+use Rattle.std.proofs.Common.{◌≡◌, ℕ, zero, suc, ◌+◌, ◌-◌, ◌<◌, List, [], ◌∷◌, length, take, drop, map, Option, Some, None, Result, Ok, Err, Bool, true, false, refl, sym, ap, subst, ◌∙◌, arith, cond}
+use Rattle.std.specs.Prelude.{◌==◌, ◌&&◌, nat_lt, ℤ, unwrap_or, option_map, if◌then◌else◌, slice_index}
 use Rattle.std.specs.List.{All, list_all, prefix_len}
 use Rattle.std.specs.Option.{option_or, option_map_or}
 use Rattle.std.specs.Str.{bytes_eq}
 use Rattle.std.specs.Prelude.{codes}
-use Rattle.std.proofs.lemmas.Bool.{true≢false, and_from, and_parts, lt-ltb, ltb-true, eqb-false}
+use Rattle.std.proofs.lemmas.Bool.{true≢false, and_from, and_parts, lt-ltb, ltb-true}
 use Rattle.std.proofs.lemmas.List.{length-take}
 use Rattle.std.proofs.lemmas.List.Elements.{All-nil, All-cons}
 use Rattle.std.proofs.lemmas.List.Sums.{prefix_len-le-length}
@@ -23,9 +23,9 @@ use Rattle.rtl_lex.specs.Place.{moved}
 use Rattle.rtl_lex.specs.Sorts.{sort_of, word_sort, module_word, option_word, process_word, event_word, mark_sort}
 use Rattle.rtl_lex.specs.Strings.{char_by, escape, char_front, spelt, chars_of, octals}
 use Rattle.rtl_lex.specs.Numbers as numbers
-use Rattle.rtl_lex.specs.Tokens.{Piece, token_at, begun, made, front, name_front, string_front, minus_front, number_front, tail_len, is_over}
+use Rattle.rtl_lex.specs.Tokens.{Piece, token_at, begun, front, name_front, string_front, minus_front, number_front, is_over}
 use Rattle.rtl_lex.specs.Items.{Seen, item_of, last_item, number_of, is_line, IsFirst, AreItems}
-use Rattle.rtl_trip.specs.Readable.{is_identifier, IsName, IsInteger, IsChar}
+use Rattle.rtl_trip.specs.Readable.{IsName, IsInteger, IsChar}
 
 -- a name is one, and a number is in range
 pub record IsGood (i : Seen) : Type 0 where

@@ -12,11 +12,10 @@ use Rattle.rtl_lex.specs.declared.sort.Sort.TheVariants.{Finish}
 use Rattle.rtl_lex.specs.Bytes.{is_blank, is_end}
 use Rattle.rtl_lex.specs.Gaps.{in_gap, gap, note_after}
 use Rattle.rtl_lex.specs.Place.{behind, moved}
-use Rattle.rtl_lex.specs.Sorts.{sort_of}
 use Rattle.rtl_lex.specs.Tokens.{Piece as Found, token_at, begun, made, front, is_over}
-use Rattle.rtl_lex.specs.Items.{Seen, item_of, last_item, number_of, is_line, IsFirst, AreItems}
-use Rattle.rtl_lex.proofs.Places.{moved-near, moved-append}
-use Rattle.rtl_trip.proofs.Printed.{Printed, Piece, EndLine, printed, spelled, IsToken, Follows, stops, AreLines}
+use Rattle.rtl_lex.specs.Items.{Seen, item_of, last_item, is_line, IsFirst, AreItems}
+use Rattle.rtl_lex.proofs.Places.{moved-near}
+use Rattle.rtl_trip.proofs.Printed.{Printed, Piece, EndLine, spelled, IsToken, Follows, stops, AreLines}
 
 -- a token at a place, and its item
 abbrev pub found_at : TokenKind → List ℕ → Place → Found

@@ -1,11 +1,11 @@
 -- Bytes that are no mark.
-use Rattle.std.proofs.Common.{◌≡◌, ℕ, suc, ◌+◌, ◌*◌, ◌-◌, ◌/◌, ◌%◌, ◌<◌, ◌≤◌, ◌^◌, List, [], ◌∷◌, ◌++◌, length, map, reverse, Bool, true, false, refl, sym, ap, subst, ◌∙◌, arith}
-use Rattle.std.specs.Prelude.{◌==◌, ◌&&◌, ◌||◌, nat_lt, nat_le, ℤ, pos, negsuc, if◌then◌else◌}
+use Rattle.std.proofs.Common.{◌≡◌, ℕ, suc, ◌+◌, ◌/◌, ◌%◌, ◌<◌, ◌^◌, List, [], ◌∷◌, ◌++◌, length, map, reverse, Bool, true, false, refl, arith}
+use Rattle.std.specs.Prelude.{◌==◌, ◌&&◌, nat_lt, nat_le, ℤ, pos, negsuc, if◌then◌else◌}
 use Rattle.std.specs.List.{All, list_all, flat_map}
 use Rattle.std.specs.Fmt.{decimal, signed_decimal}
 use Rattle.std.proofs.lemmas.Bool.{and_parts, ltb-true}
 use Rattle.std.proofs.lemmas.Bool.Decides.{nat_tests}
-use Rattle.std.proofs.lemmas.List.Elements.{All-nil, All-cons, All-append, All-head, All-tail}
+use Rattle.std.proofs.lemmas.List.Elements.{All-nil, All-cons, All-append}
 use Rattle.rtl_bits.specs.declared.bit.Bit.{Bit}
 use Rattle.rtl_bits.specs.declared.bit.Bit.TheVariants.{S0, S1, X, Z, M, Dash}
 use Rattle.rtl_lex.specs.Bytes.{is_digit, is_sigil, is_name}
@@ -14,7 +14,7 @@ use Rattle.rtl_ir.specs.declared.value.Value.TheVariants as values
 use Rattle.rtl_write.specs.Constant.{bit_letter, letters_of, sign_mark, bits_text, escaped, string_text, value_text}
 use Rattle.rtl_write.specs.Constant as constants
 use Rattle.rtl_trip.specs.Readable.{IsName, IsInteger, IsConstant}
-use Rattle.rtl_trip.proofs.Integers.{AreDigits, decimal_digits}
+use Rattle.rtl_trip.proofs.Integers.{decimal_digits}
 
 -- no byte of these is the mark
 abbrev pub Lacks : ℕ → List ℕ → Type 0

@@ -1,7 +1,7 @@
 -- Names that no item above has, and the places of names.
-use Rattle.std.proofs.Common.{◌≡◌, ℕ, zero, suc, ◌+◌, ◌<◌, ◌≤◌, List, [], ◌∷◌, ◌++◌, length, map, append_assoc, Option, Some, None, Bool, true, false, refl, sym, ap, subst, ◌∙◌, arith, cond, not, inl, inr}
-use Rattle.std.specs.Prelude.{◌||◌, nat_lt, slice_get, is_some, if◌then◌else◌}
-use Rattle.std.specs.List.{list_any, position_or_len, AllByRecursion, IsDistinct}
+use Rattle.std.proofs.Common.{◌≡◌, ℕ, zero, suc, ◌+◌, ◌<◌, List, [], ◌∷◌, ◌++◌, length, map, Some, None, Bool, true, false, refl, sym, ap, subst, ◌∙◌, arith, cond, not}
+use Rattle.std.specs.Prelude.{nat_lt, slice_get, is_some, if◌then◌else◌}
+use Rattle.std.specs.List.{position_or_len, AllByRecursion, IsDistinct}
 use Rattle.std.specs.Str.{bytes_eq}
 use Rattle.std.proofs.lemmas.Bool.{true≢false, or_parts, le-ltb, lt-ltb}
 use Rattle.std.proofs.lemmas.Slice.Eq.{bytes_eq-Decides}

@@ -1,21 +1,21 @@
 -- What is written of a table of ports gives the table again.
-use Rattle.std.proofs.Common.{◌≡◌, ℕ, suc, ◌+◌, ◌<◌, ◌^◌, List, [], ◌∷◌, ◌++◌, length, append_assoc, append-nil, Option, Some, None, Bool, true, false, refl, sym, ap, subst, ◌∙◌, arith}
-use Rattle.std.specs.Prelude.{◌==◌, ◌&&◌, ◌||◌, nat_lt, nat_le, ℤ, pos, negsuc, codes, unwrap_or, if◌then◌else◌}
-use Rattle.std.specs.List.{All, list_all, flat_map, fold, slice_split}
+use Rattle.std.proofs.Common.{◌≡◌, ℕ, ◌^◌, List, [], ◌∷◌, ◌++◌, length, append_assoc, append-nil, Option, Some, Bool, true, false, refl, sym, ap, ◌∙◌, arith}
+use Rattle.std.specs.Prelude.{◌==◌, ◌&&◌, ◌||◌, nat_lt, nat_le, ℤ, pos, codes, unwrap_or, if◌then◌else◌}
+use Rattle.std.specs.List.{All, list_all, flat_map, fold}
 use Rattle.std.specs.Fmt.{decimal, signed_decimal}
-use Rattle.std.proofs.lemmas.Bool.{and_parts, lt-ltb, ltb-true}
+use Rattle.std.proofs.lemmas.Bool.{and_parts, lt-ltb}
 use Rattle.std.proofs.lemmas.Bool.Decides.{nat_tests}
-use Rattle.std.proofs.lemmas.List.Elements.{All-nil, All-cons, All-append, All-head, All-tail}
+use Rattle.std.proofs.lemmas.List.Elements.{All-cons, All-append, All-head, All-tail}
 use Rattle.std.proofs.lemmas.List.Splits.{slice_split_at, slice_split_none}
-use Rattle.rtl_lex.specs.Bytes.{is_digit, is_sigil, is_name}
-use Rattle.rtl_lex.specs.Numbers.{int_of, in_range}
+use Rattle.rtl_lex.specs.Bytes.{is_sigil, is_name}
+use Rattle.rtl_lex.specs.Numbers.{int_of}
 use Rattle.rtl_ir.specs.declared.wire.Role.{Role}
 use Rattle.rtl_ir.specs.declared.wire.Role.TheVariants.{Inner, Input, Output, Inout}
 use Rattle.rtl_ir.specs.declared.ports.PortLine.{PortLine}
 use Rattle.rtl_ir.specs.declared.ports.ModulePorts.{ModulePorts}
 use Rattle.rtl_ir.specs.declared.ports.PortTable.{PortTable}
 use Rattle.rtl_write.specs.Ports.{role_word, port_text, ports_by_module_text, ports_text}
-use Rattle.rtl_trip.specs.Readable.{IsName, IsInteger}
+use Rattle.rtl_trip.specs.Readable.{IsName}
 use Rattle.rtl_trip.specs.PortTables.{IsPortLine, AreModulePorts, ArePorts, parts_of, role_of, natural_of, port_of, add_port, with_port, with_line, modules_of}
 use Rattle.rtl_trip.proofs.Integers.{integer_back}
 use Rattle.rtl_trip.proofs.Marks.{Lacks, Separates, lacks_by, number_lacks, integer_lacks, name_lacks}

@@ -1,6 +1,6 @@
 -- The tables of ports of readable designs are such as their text gives again.
-use Rattle.std.proofs.Common.{ℕ, ◌<◌, ◌≤◌, ◌^◌, List, [], ◌∷◌, Ordering, Less, Equal, Greater, arith}
-use Rattle.std.specs.Prelude.{map, filter}
+use Rattle.std.proofs.Common.{ℕ, List, [], ◌∷◌, Ordering, Less, Equal, Greater, arith}
+use Rattle.std.specs.Prelude.{filter}
 use Rattle.std.specs.List.{All}
 use Rattle.std.specs.Ordering.{nat_cmp, int_cmp, match_ordering}
 use Rattle.std.specs.Cmp.Lexicographic.{slice_cmp}
@@ -8,7 +8,7 @@ use Rattle.std.proofs.lemmas.List.Elements.{All-nil, All-cons, All-head, All-tai
 use Rattle.rtl_ir.specs.declared.wire.Wire.{Wire}
 use Rattle.rtl_ir.specs.declared.module.Module.{Module}
 use Rattle.rtl_ir.specs.declared.module.Design.{Design}
-use Rattle.rtl_ir.specs.Ports.{is_port, place_wire, in_number_order, line_of, ports_of, place_module, in_name_order, instantiates, instances_of, ports_by_module, cells_at, port_table_of}
+use Rattle.rtl_ir.specs.Ports.{is_port, place_wire, in_number_order, line_of, place_module, in_name_order, instantiates, instances_of, ports_by_module, cells_at, port_table_of}
 use Rattle.rtl_trip.specs.Readable.{IsWire, IsReadableModule, IsReadable}
 use Rattle.rtl_trip.specs.PortTables.{IsPortLine, AreModulePorts, ArePorts}
 

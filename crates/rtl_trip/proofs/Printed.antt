@@ -3,7 +3,7 @@ use Rattle.std.proofs.Common.{◌≡◌, ℕ, zero, suc, ◌<◌, List, [], ◌�
 use Rattle.std.specs.Prelude.{◌==◌, ◌||◌, replicate, slice_index}
 use Rattle.std.specs.List.{flat_map}
 use Rattle.rtl_lex.specs.declared.token.TokenKind.{TokenKind}
-use Rattle.rtl_lex.specs.declared.token.TokenKind.TheVariants.{Word, Mark, Id, Value, Int, Chars, Line}
+use Rattle.rtl_lex.specs.declared.token.TokenKind.TheVariants.{Mark, Int}
 use Rattle.rtl_lex.specs.Gaps.{in_gap}
 use Rattle.rtl_lex.specs.Tokens.{front, is_over}
 

@@ -1,8 +1,8 @@
 -- What the tokens of a statement print is its text.
-use Rattle.std.proofs.Common.{◌≡◌, ℕ, ◌+◌, ◌-◌, List, [], ◌∷◌, ◌++◌, length, append_assoc, append-nil, Option, Some, None, Bool, true, false, refl, sym, ap, ◌∙◌}
-use Rattle.std.specs.Prelude.{◌==◌, ◌&&◌, ℤ, pos, negsuc, replicate, slice_get, map, codes, if◌then◌else◌}
+use Rattle.std.proofs.Common.{◌≡◌, ℕ, ◌+◌, ◌-◌, List, [], ◌∷◌, ◌++◌, length, append_assoc, append-nil, Option, Some, None, Bool, true, false, refl, ap, ◌∙◌}
+use Rattle.std.specs.Prelude.{◌==◌, ◌&&◌, replicate, slice_get, map, codes, if◌then◌else◌}
 use Rattle.std.specs.List.{flat_map}
-use Rattle.std.specs.Fmt.{decimal, signed_decimal}
+use Rattle.std.specs.Fmt.{decimal}
 use Rattle.std.proofs.lemmas.List.Concat.{flat_map-append}
 use Rattle.rtl_sig.specs.declared.sig.SigBit.{SigBit}
 use Rattle.rtl_sig.specs.declared.sig.SigBit.TheVariants.{Fixed, Wire}
@@ -10,11 +10,10 @@ use Rattle.rtl_ir.specs.declared.value.Value.{Value}
 use Rattle.rtl_ir.specs.declared.value.Value.TheVariants as values
 use Rattle.rtl_ir.specs.declared.value.Attribute.{Attribute}
 use Rattle.rtl_ir.specs.declared.wire.Wire as wires
-use Rattle.rtl_write.specs.Constant.{bits_text, string_text, value_text}
-use Rattle.rtl_write.specs.Signal as signals
+use Rattle.rtl_write.specs.Constant.{bits_text, value_text}
 use Rattle.rtl_write.specs.Signal.{constant_of, runs_of, part_text, run_text, braces_text, runs_text, signal_text}
 use Rattle.rtl_write.specs.Text.{attribute_text, attributes_text}
-use Rattle.rtl_trip.proofs.Printed.{Printed, Piece, EndLine, printed, spelled}
+use Rattle.rtl_trip.proofs.Printed.{Printed, printed, spelled}
 use Rattle.rtl_trip.proofs.Tokens as tokens
 use Rattle.rtl_trip.proofs.Tokens.{name}
 

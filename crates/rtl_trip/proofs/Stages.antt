@@ -1,6 +1,6 @@
 -- What has been read of a text is good at each place of the grammar.
-use Rattle.std.proofs.Common.{◌≡◌, ℕ, ◌+◌, ◌<◌, ◌≤◌, ◌^◌, List, [], ◌∷◌, ◌++◌, length, map, Bool, true, false}
-use Rattle.std.specs.Prelude.{ℤ, pos}
+use Rattle.std.proofs.Common.{◌≡◌, ℕ, ◌+◌, ◌<◌, ◌≤◌, ◌^◌, List, [], ◌∷◌, ◌++◌, length, map, true, false}
+use Rattle.std.specs.Prelude.{pos}
 use Rattle.std.specs.List.{All, sum_by}
 use Rattle.rtl_sig.specs.declared.sig.SigBit.{SigBit}
 use Rattle.rtl_sig.specs.Names.{has_name, AreDistinct}
@@ -9,7 +9,6 @@ use Rattle.rtl_ir.specs.declared.wire.Role.TheVariants.{Inner}
 use Rattle.rtl_ir.specs.declared.wire.Wire.{Wire}
 use Rattle.rtl_ir.specs.declared.store.Store.{Store}
 use Rattle.rtl_ir.specs.declared.module.Module.{Module}
-use Rattle.rtl_ir.specs.declared.process.SyncRule.{SyncRule}
 use Rattle.rtl_ir.specs.Tree.{switches_of, cases_of}
 use Rattle.rtl_grammar.specs.declared.expect.Expect.{Expect}
 use Rattle.rtl_grammar.specs.declared.expect.Expect.TheVariants as expects
@@ -21,12 +20,12 @@ use Rattle.rtl_read.specs.declared.open_process.OpenProcess.{OpenProcess}
 use Rattle.rtl_read.specs.declared.tree.OpenCase.{OpenCase}
 use Rattle.rtl_read.specs.declared.tree.OpenSwitch.{OpenSwitch}
 use Rattle.rtl_read.specs.declared.tree.OpenTree.{OpenTree}
-use Rattle.rtl_read.specs.declared.limits.TheConstants.{MAX_MODULES, MAX_CELLS, MAX_BITS, MAX_WIDTH, MAX_DEPTH}
+use Rattle.rtl_read.specs.declared.limits.TheConstants.{MAX_MODULES, MAX_CELLS, MAX_WIDTH, MAX_DEPTH}
 use Rattle.rtl_read.specs.declared.signal.OpenSignal.{OpenSignal}
 use Rattle.rtl_read.specs.Meaning.Cell.{plain_cell}
 use Rattle.rtl_read.specs.Meaning.Process.{plain_process, event_with}
 use Rattle.rtl_read.specs.Act.Pair.{close_pair}
-use Rattle.rtl_trip.specs.Readable.{IsName, IsInteger, IsAttribute, AreAttributes, IsSignal, IsSomeSignal, IsLink, IsCellParam, IsPin, AreSwitches, AreCases, IsEvent, IsRule, item_names, IsReadableModule}
+use Rattle.rtl_trip.specs.Readable.{IsName, IsInteger, IsAttribute, AreAttributes, IsSignal, IsSomeSignal, IsLink, IsCellParam, IsPin, AreSwitches, AreCases, IsRule, item_names, IsReadableModule}
 
 -- ---- parts
 

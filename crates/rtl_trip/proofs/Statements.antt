@@ -1,5 +1,5 @@
 -- What the tokens of wires, cells, processes, modules and designs print is their text.
-use Rattle.std.proofs.Common.{◌≡◌, ℕ, zero, suc, ◌+◌, ◌*◌, arith, List, [], ◌∷◌, ◌++◌, append_assoc, append-nil, Option, Some, None, Bool, true, false, refl, sym, ap, ◌∙◌, subst}
+use Rattle.std.proofs.Common.{◌≡◌, ℕ, zero, suc, ◌+◌, arith, List, [], ◌∷◌, ◌++◌, append_assoc, append-nil, Option, Some, None, Bool, true, false, refl, sym, ap, ◌∙◌}
 use Rattle.std.specs.Prelude.{◌==◌, ℤ, pos, negsuc, replicate, codes, if◌then◌else◌}
 use Rattle.std.specs.List.{flat_map}
 use Rattle.std.specs.Fmt.{decimal, signed_decimal}
@@ -25,8 +25,8 @@ use Rattle.rtl_ir.specs.declared.process.SyncRule.{SyncRule}
 use Rattle.rtl_ir.specs.declared.process.Process.{Process}
 use Rattle.rtl_write.specs.Constant.{value_text}
 use Rattle.rtl_write.specs.Signal.{signal_text}
-use Rattle.rtl_write.specs.Text.{indent, attributes_text, default_text, parameter_text, width_option, size_option, offset_option, upto_option, signed_option, role_option, wire_options, wire_text, store_text, cell_param_head, cell_param_text, pin_head, pin_text, cell_text, assign_text, patterns_text, case_head, switch_head, deeper, switches_text, cases_text, event_text, update_text, write_signals, write_text, sync_text, process_text, link_text, inner_text, module_text, body_text, text_of}
-use Rattle.rtl_trip.proofs.Printed.{Printed, EndLine, printed, spelled}
+use Rattle.rtl_write.specs.Text.{indent, attributes_text, default_text, parameter_text, width_option, size_option, offset_option, upto_option, signed_option, role_option, wire_options, wire_text, store_text, cell_param_head, cell_param_text, pin_head, pin_text, cell_text, assign_text, patterns_text, case_head, switch_head, deeper, switches_text, cases_text, event_text, update_text, write_signals, write_text, sync_text, process_text, link_text, inner_text, module_text, text_of}
+use Rattle.rtl_trip.proofs.Printed.{Printed, EndLine, spelled}
 use Rattle.rtl_trip.proofs.Tokens as tokens
 use Rattle.rtl_trip.proofs.Tokens.{name, word}
 use Rattle.rtl_trip.proofs.Spelling.{spelled_then, spelled_each, printed_constant, spelled_signal, spelled_attributes}

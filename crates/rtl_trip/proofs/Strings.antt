@@ -1,19 +1,18 @@
 -- Strings as they are printed.
-use Rattle.std.proofs.Common.{◌≡◌, ℕ, zero, suc, ◌+◌, ◌*◌, ◌-◌, ◌/◌, ◌%◌, ◌<◌, ◌≤◌, List, [], ◌∷◌, ◌++◌, length, take, drop, map, append_assoc, Option, Some, None, Bool, true, false, refl, sym, ap, subst, ◌∙◌, arith, cond}
-use Rattle.std.specs.Prelude.{◌==◌, ◌&&◌, ◌||◌, nat_lt, nat_le, if◌then◌else◌, slice_index, option_map}
-use Rattle.std.specs.List.{flat_map, sum_by, take_while, prefix_len, list_all}
+use Rattle.std.proofs.Common.{◌≡◌, ℕ, zero, suc, ◌+◌, ◌-◌, ◌/◌, ◌%◌, ◌<◌, List, [], ◌∷◌, ◌++◌, length, take, drop, map, append_assoc, Option, Some, None, Bool, true, false, refl, sym, ap, ◌∙◌, arith, cond}
+use Rattle.std.specs.Prelude.{◌==◌, ◌&&◌, nat_lt, nat_le, if◌then◌else◌, slice_index, option_map}
+use Rattle.std.specs.List.{flat_map, prefix_len, list_all}
 use Rattle.std.specs.Option.{option_map_or}
 use Rattle.std.proofs.lemmas.Bool.{eqb-true, and_parts, and_from, ltb-true}
 use Rattle.std.proofs.lemmas.Bool.Decides.{nat_tests}
 use Rattle.std.proofs.lemmas.List.{drop_at, length-append, get_or_at}
 use Rattle.std.proofs.lemmas.List.Sums.{sum_by-cons}
 use Rattle.std.proofs.Math.Nat.{div-div-eq-div-mul}
-use Rattle.rtl_lex.specs.declared.token.TokenKind.{TokenKind}
 use Rattle.rtl_lex.specs.declared.token.TokenKind.TheVariants.{Chars}
 use Rattle.rtl_lex.specs.Bytes.{is_octal}
 use Rattle.rtl_lex.specs.Numbers.{octal}
 use Rattle.rtl_lex.specs.Strings.{char_by, octals, escape, char_front, spelt, spelt_len, string_len, chars_of}
-use Rattle.rtl_lex.specs.Tokens.{front, string_front}
+use Rattle.rtl_lex.specs.Tokens.{string_front}
 use Rattle.rtl_write.specs.Constant.{escaped, string_text}
 use Rattle.rtl_write.specs.Constant as constants
 use Rattle.rtl_trip.proofs.Printed.{IsToken}

@@ -1,5 +1,5 @@
 -- What is written is read again.
-use Rattle.std.proofs.Common.{◌≡◌, ℕ, List, [], ◌∷◌, ◌++◌, append_assoc, append-nil, Result, Ok, Bool, false, refl, sym, ap, subst, ◌∙◌}
+use Rattle.std.proofs.Common.{◌≡◌, ℕ, List, [], ◌∷◌, ◌++◌, append_assoc, append-nil, Ok, Bool, false, refl, sym, ap, subst, ◌∙◌}
 use Rattle.std.specs.Prelude.{codes}
 use Rattle.std.specs.List.{flat_map}
 use Rattle.rtl_lex.specs.declared.place.Place.{Place}
@@ -20,7 +20,7 @@ use Rattle.rtl_read.specs.Reads.{AreItemsOf, Reads}
 use Rattle.rtl_read.specs.Draft.{nothing}
 use Rattle.rtl_write.specs.Text.{text_of}
 use Rattle.rtl_trip.specs.Readable.{IsReadable}
-use Rattle.rtl_trip.proofs.Printed.{Printed, spelled}
+use Rattle.rtl_trip.proofs.Printed.{Printed}
 use Rattle.rtl_trip.proofs.Lexing.{seen_at, items_at, Ended, lines_items}
 use Rattle.rtl_trip.proofs.Statements.{spelled_design}
 use Rattle.rtl_trip.proofs.Whole.{lines_design}

@@ -1,7 +1,7 @@
 -- Values as they are printed.
-use Rattle.std.proofs.Common.{◌≡◌, ℕ, zero, suc, ◌+◌, ◌<◌, ◌≤◌, ◌^◌, List, [], ◌∷◌, ◌++◌, length, take, drop, append_assoc, append-nil, map, reverse, Option, Some, Bool, true, false, refl, sym, ap, subst, ◌∙◌, arith}
+use Rattle.std.proofs.Common.{◌≡◌, ℕ, ◌+◌, ◌<◌, ◌^◌, List, [], ◌∷◌, ◌++◌, length, take, drop, append_assoc, append-nil, map, reverse, Option, Some, Bool, true, false, refl, sym, ap, subst, ◌∙◌, arith}
 use Rattle.std.specs.Prelude.{◌==◌, ◌||◌, if◌then◌else◌, replicate, slice_index}
-use Rattle.std.specs.List.{prefix_len, list_all, take_while}
+use Rattle.std.specs.List.{prefix_len, list_all}
 use Rattle.std.specs.Fmt.{decimal}
 use Rattle.std.proofs.lemmas.Bool.{and_from}
 use Rattle.std.proofs.lemmas.Bool.Decides.{nat_tests}
@@ -11,14 +11,13 @@ use Rattle.rtl_bits.specs.declared.bit.Bit.TheVariants.{S0, S1, X, Z, M, Dash}
 use Rattle.rtl_lex.specs.declared.token.TokenKind.{TokenKind}
 use Rattle.rtl_lex.specs.declared.token.TokenKind.TheVariants.{Int, Value}
 use Rattle.rtl_lex.specs.Bytes.{is_digit, is_bit}
-use Rattle.rtl_lex.specs.Gaps.{in_gap}
 use Rattle.rtl_lex.specs.Numbers as numbers
 use Rattle.rtl_lex.specs.Tokens.{front, number_front, tail_len}
 use Rattle.rtl_lex.specs.Values.{width_of, tail_of, sign_len, is_signed, written_of, bit_of, fill_of, fitted, bits_of}
 use Rattle.rtl_write.specs.Constant.{bit_letter, letters_of, sign_mark, bits_text}
-use Rattle.rtl_trip.proofs.Printed.{IsToken, stops}
+use Rattle.rtl_trip.proofs.Printed.{IsToken}
 use Rattle.rtl_trip.proofs.Forms.{run_is}
-use Rattle.rtl_trip.proofs.Integers.{AreDigits, decimal_digits, digits_front, digits_starts, digits_some, at_seam}
+use Rattle.rtl_trip.proofs.Integers.{AreDigits, decimal_digits, digits_front, digits_starts, at_seam}
 
 -- ---- letters of bits
 

@@ -1,10 +1,9 @@
 -- Each token of a readable design is whole where it is printed.
-use Rattle.std.proofs.Common.{◌≡◌, ℕ, zero, suc, ◌+◌, ◌-◌, ◌*◌, ◌<◌, ◌≤◌, ◌^◌, inl, inr, List, [], ◌∷◌, ◌++◌, length, map, append_assoc, append-nil, Option, Some, None, Bool, true, false, refl, sym, ap, subst, ◌∙◌, arith}
+use Rattle.std.proofs.Common.{◌≡◌, ℕ, zero, suc, ◌+◌, ◌-◌, ◌<◌, ◌≤◌, ◌^◌, inl, inr, List, [], ◌∷◌, ◌++◌, length, map, append_assoc, Option, Some, None, Bool, true, false, refl, sym, ap, subst, arith}
 use Rattle.std.specs.Prelude.{◌==◌, ◌&&◌, nat_lt, ℤ, pos, negsuc, slice_get, codes, IfSome, if◌then◌else◌}
 use Rattle.std.specs.List.{All, flat_map, list_all}
 use Rattle.std.specs.Fmt.{decimal}
 use Rattle.std.proofs.lemmas.Bool.{and_parts, and_from, ltb-true, lt-ltb}
-use Rattle.std.proofs.lemmas.List.{length-map}
 use Rattle.std.proofs.lemmas.List.Elements.{All-head, All-tail}
 use Rattle.rtl_lex.specs.declared.token.TokenKind.TheVariants as kinds
 use Rattle.rtl_lex.specs.Bytes.{is_lower, is_mark, is_sigil, is_name}
@@ -33,13 +32,13 @@ use Rattle.rtl_ir.specs.declared.process.SyncRule.{SyncRule}
 use Rattle.rtl_ir.specs.declared.process.Process.{Process}
 use Rattle.rtl_write.specs.Constant.{bits_text}
 use Rattle.rtl_write.specs.Signal.{constant_of, runs_of}
-use Rattle.rtl_trip.specs.Readable.{is_identifier, IsName, IsInteger, IsChar, IsConstant, IsAttribute, AreAttributes, IsParameter, IsWire, IsStore, IsSignal, IsSomeSignal, IsLink, IsCellParam, IsPin, IsCell, AreSwitches, AreCases, IsEvent, IsWrite, IsRule, IsProcess, IsReadableModule, IsReadable}
+use Rattle.rtl_trip.specs.Readable.{IsName, IsInteger, IsChar, IsConstant, IsAttribute, AreAttributes, IsParameter, IsWire, IsStore, IsSignal, IsSomeSignal, IsLink, IsCellParam, IsPin, IsCell, AreSwitches, AreCases, IsEvent, IsWrite, IsRule, IsProcess, IsReadableModule, IsReadable}
 use Rattle.rtl_trip.proofs.Printed.{Printed, Piece, EndLine, IsToken, AreLines, lines_then, opens_follows, IsTail, tail_end, tail_piece, line_piece}
 use Rattle.rtl_trip.proofs.Forms.{word_token, mark_token, name_token}
 use Rattle.rtl_trip.proofs.Integers.{integer_token}
 use Rattle.rtl_trip.proofs.Values.{value_token}
 use Rattle.rtl_trip.proofs.Strings.{is_char, string_token}
-use Rattle.rtl_trip.proofs.Runs.{rising, AreFixed, AreRising, IsRun, AreRuns, length_rising, cut}
+use Rattle.rtl_trip.proofs.Runs.{rising, IsRun, length_rising, cut}
 use Rattle.rtl_trip.proofs.Tokens as tokens
 use Rattle.rtl_trip.proofs.Tokens.{word, name, number, integer, mark, constant}
 

@@ -1,5 +1,5 @@
 -- Tables of ports, as their text gives them.
-use Rattle.std.specs.Prelude.{◌≡◌, ℕ, ◌^◌, ◌<◌, ◌==◌, ◌||◌, ℤ, pos, negsuc, List, [], ◌∷◌, ◌++◌, Option, Some, None, codes, unwrap_or, if◌then◌else◌}
+use Rattle.std.specs.Prelude.{ℕ, ◌^◌, ◌<◌, ◌==◌, ◌||◌, ℤ, pos, negsuc, List, [], ◌∷◌, ◌++◌, Option, Some, None, codes, unwrap_or, if◌then◌else◌}
 use Rattle.std.specs.List.{All, fold, slice_split}
 use Rattle.std.specs.Str.{bytes_eq}
 use Rattle.rtl_lex.specs.Numbers.{int_of}

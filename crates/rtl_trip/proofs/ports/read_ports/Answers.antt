@@ -1,6 +1,5 @@
-use Rattle.std.proofs.Common.{◌≡◌, List, sym, ap, ◌∙◌}
+use Rattle.std.proofs.Common.{List, ap, ◌∙◌}
 use Rattle.rtl_ir.specs.declared.ports.ModulePorts.{ModulePorts}
-use Rattle.rtl_ir.specs.declared.ports.PortTable.{PortTable}
 use Rattle.rtl_trip.specs.PortTables.{modules_of}
 use Rattle.rtl_trip.proofs.PortLemmas.{table_back}
 use Rattle.rtl_trip.proofs.ports.read_ports.Goals as goal
