@@ -26,6 +26,11 @@ pub mod PortTableLemmas
 pub mod Items
 pub mod Grown
 pub mod Stages
+pub mod GoodParts
+pub mod GoodModules
+pub mod Rows
+pub mod RowsFile
+pub mod RowsSignal
 pub mod BodyLaws
 pub mod BodyAnswers
 pub mod Distinct
