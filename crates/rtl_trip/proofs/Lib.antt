@@ -29,7 +29,11 @@ pub mod Stages
 pub mod GoodParts
 pub mod GoodModules
 pub mod Rows
+pub mod Drafts
 pub mod RowsFile
+pub mod RowsModule
+pub mod RowsWire
+pub mod RowsCell
 pub mod RowsSignal
 pub mod BodyLaws
 pub mod BodyAnswers

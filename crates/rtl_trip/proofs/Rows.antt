@@ -29,3 +29,7 @@ leaves_bind_bind roles body (Err fault) f g on = tt
 pub leaves_if_bind : {Y : Type 0} (roles body : List Expect) (b : Bool) (fault : ReadFault) (r : Result Y ReadFault) (g : Y → Result Draft ReadFault) → (b ≡ false → Leaves roles (Some body) (r >>= g)) → Leaves roles (Some body) ((if b then Err fault else r) >>= g)
 leaves_if_bind roles body true fault r g on = tt
 leaves_if_bind roles body false fault r g on = on refl
+
+pub leaves_if_bind_bind : {X Y : Type 0} (roles body : List Expect) (b : Bool) (fault : ReadFault) (r : Result X ReadFault) (f : X → Result Y ReadFault) (g : Y → Result Draft ReadFault) → (b ≡ false → Leaves roles (Some body) ((r >>= f) >>= g)) → Leaves roles (Some body) (((if b then Err fault else r) >>= f) >>= g)
+leaves_if_bind_bind roles body true fault r f g on = tt
+leaves_if_bind_bind roles body false fault r f g on = on refl
