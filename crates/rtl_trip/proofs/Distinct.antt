@@ -9,7 +9,7 @@ use Rattle.rtl_sig.specs.Names.{has_name, number_of, next_number_of, AreDistinct
 use Rattle.rtl_sig.proofs.NamesLemmas.{slice_get-known}
 use Rattle.rtl_trip.proofs.Names.{differs_back, same_name, not_in_front}
 
-slice_get_lt : {X : Type 0} (xs : List X) (k : ℕ) (x : X) → slice_get xs k ≡ Some x → k < length xs
+pub slice_get_lt : {X : Type 0} (xs : List X) (k : ℕ) (x : X) → slice_get xs k ≡ Some x → k < length xs
 slice_get_lt [] k x e = absurd cc
 slice_get_lt (y ∷ ys) zero x e = omega arith
 slice_get_lt (y ∷ ys) (suc k) x e = omega (arith, slice_get_lt ys k x e)

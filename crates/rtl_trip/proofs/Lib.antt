@@ -26,6 +26,15 @@ pub mod PortTableLemmas
 pub mod Items
 pub mod Grown
 pub mod Stages
+pub mod GoodParts
+pub mod GoodModules
+pub mod Rows
+pub mod Drafts
+pub mod RowsFile
+pub mod RowsModule
+pub mod RowsWire
+pub mod RowsCell
+pub mod RowsSignal
 pub mod BodyLaws
 pub mod BodyAnswers
 pub mod Distinct
