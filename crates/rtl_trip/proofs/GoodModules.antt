@@ -245,10 +245,10 @@ module _ (m : OpenModule) (is : IsOpen m) where
       (is.others other parts.0, differ.0)
 
   pub wire_open : (name : List ℕ) (w : Wire) → IsUnused name → IsName name → IsWireSoFar w → m.bits + w.width ≤ MAX_BITS → IsOpen (record m {
-        body = record m.body { wires = m.body.wires ++ record w { name = name } ∷ [] };
-        wire_names = with_name m.wire_names name;
-        bits = m.bits + w.width;
-      })
+    body = record m.body { wires = m.body.wires ++ record w { name = name } ∷ [] };
+    wire_names = with_name m.wire_names name;
+    bits = m.bits + w.width;
+  })
   wire_open name w new form good room =
       let named : Wire = record w { name = name } in
       let more : List Wire = named ∷ [] in
@@ -273,9 +273,9 @@ module _ (m : OpenModule) (is : IsOpen m) where
       }
 
   pub store_open : (name : List ℕ) (s : Store) → IsUnused name → IsName name → IsStoreSoFar s → IsOpen (record m {
-        body = record m.body { memories = m.body.memories ++ record s { name = name } ∷ [] };
-        other_names = with_name m.other_names name;
-      })
+    body = record m.body { memories = m.body.memories ++ record s { name = name } ∷ [] };
+    other_names = with_name m.other_names name;
+  })
   store_open name s new form good =
       let named : Store = record s { name = name } in
       record {
@@ -294,8 +294,8 @@ module _ (m : OpenModule) (is : IsOpen m) where
         };
         wires = is.wires;
         others = λ other h.
-          let left = others_left name other new.no_other h in
-          still_out name other (other_names m.body) (other_names (record m.body { memories = m.body.memories ++ named ∷ [] })) (store_among m.body named) left.0 left.1;
+            let left = others_left name other new.no_other h in
+            still_out name other (other_names m.body) (other_names (record m.body { memories = m.body.memories ++ named ∷ [] })) (store_among m.body named) left.0 left.1;
         bits = is.bits;
       }
 

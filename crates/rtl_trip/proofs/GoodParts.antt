@@ -125,6 +125,7 @@ some_width_good i n good e = by i.number refl e
     test m false f t g =
         let same : m ≡ n = cc in
         subst (λ (k : ℕ). (0 < k) × (k < 2 ^ 31)) same (omega (arith, eqb-false m 0 t), ltb-true m (2 ^ 31) (good.number (pos m) f))
+
     by : (o : Option ℤ) → i.number ≡ o → some_width o i ≡ Ok n → (0 < n) × (n < 2 ^ 31)
     by None f g = absurd cc
     by (Some (negsuc m)) f g = absurd cc

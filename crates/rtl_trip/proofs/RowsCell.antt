@@ -68,10 +68,11 @@ cell_name roles i sorts.Id d e good at =
     let named : OpenModule = record d.current { other_names = with_name d.current.other_names i.text } in
     leaves_if_bind roles (expects.EndOfLine ∷ expects.CellBody ∷ []) (is_taken i.text d.current) (faults.Duplicate i.place) (Ok named) (λ m. Ok (record d { current = m; cell = with_cell_name i d.cell }))
     (λ new.
-      let free = unused d.current at.0.0.opened i.text new in
-      ((in_with d at.0.0 named refl (named_open d.current at.0.0.opened i.text free), at.0.1),
+    let free = unused d.current at.0.0.opened i.text new in (
+      (in_with d at.0.0 named refl (named_open d.current at.0.0.opened i.text free), at.0.1),
       subst (λ (c : OpenCell). IsCellSoFar named (with_cell_name i c) [] []) (sym kind.4) (begun named kind.1 kind.0 i kind.3 kind.2 (name_taken d.current at.0.0.opened i.text (good.name e) free) at.1),
-      at.3))
+      at.3,
+    ))
 cell_name roles i sort d e good at = tt
 
 -- ---- lines
@@ -112,8 +113,9 @@ module _ (roles : List Expect) (i : Seen) (d : Draft) (good : IsGood i) (at : St
       let c : OpenCell = d.cell in
       leaves_if_bind roles (expects.CellParameterValue ∷ []) (is_some (number_of c.params i.text)) (faults.Duplicate i.place) (Ok (record c { params = with_name c.params i.text; name = i.text })) (λ c. Ok (record d { cell = c }))
       (λ none.
-        let new : has_name c.params i.text ≡ false = not_numbered c.params i.text none in
-        (at.0, record {
+      let new : has_name c.params i.text ≡ false = not_numbered c.params i.text none in (
+        at.0,
+        record {
           kind_name = at.1.kind_name;
           name = at.1.name;
           params = at.1.params;
@@ -124,25 +126,32 @@ module _ (roles : List Expect) (i : Seen) (d : Draft) (good : IsGood i) (at : St
           distinct_pins = at.1.distinct_pins;
           attributes = at.1.attributes;
           room = at.1.room;
-        }, good.name e, at.2))
+        },
+        good.name e,
+        at.2,
+      ))
 
   pub cell_parameter_name : (sort : Sort) → i.sort ≡ sort → Leaves roles (after_cell_parameter_name sort) (act_cell_parameter_name i d)
   cell_parameter_name sorts.Id e = named_parameter e
   cell_parameter_name sort e = tt
 
   pub cell_parameter : (sort : Sort) → i.sort ≡ sort → Leaves roles (after_cell_parameter sort) (act_cell_parameter sort i d)
-  cell_parameter sorts.Signed e = (at.0, record {
-    kind_name = at.1.kind_name;
-    name = at.1.name;
-    params = at.1.params;
-    param_names = at.1.param_names;
-    distinct_params = at.1.distinct_params;
-    pins = at.1.pins;
-    pin_names = at.1.pin_names;
-    distinct_pins = at.1.distinct_pins;
-    attributes = at.1.attributes;
-    room = at.1.room;
-  }, at.2)
+  cell_parameter sorts.Signed e = (
+    at.0,
+    record {
+      kind_name = at.1.kind_name;
+      name = at.1.name;
+      params = at.1.params;
+      param_names = at.1.param_names;
+      distinct_params = at.1.distinct_params;
+      pins = at.1.pins;
+      pin_names = at.1.pin_names;
+      distinct_pins = at.1.distinct_pins;
+      attributes = at.1.attributes;
+      room = at.1.room;
+    },
+    at.2,
+  )
   cell_parameter sorts.Id e = named_parameter e
   cell_parameter sort e = tt
 
@@ -152,19 +161,19 @@ module _ (roles : List Expect) (i : Seen) (d : Draft) (good : IsGood i) (at : St
       let c : OpenCell = d.cell in
       leaves_bind roles (expects.EndOfLine ∷ []) (constant sort i) (λ v. Ok (record d { cell = with_param v d.cell }))
       (λ v e.
-        let param : CellParam = record { name = c.name; value = v; signed = c.signed } in
-        at.3 (record d { cell = with_param v d.cell }) at.0 (record {
-          kind_name = at.1.kind_name;
-          name = at.1.name;
-          params = All-push IsCellParam c.cell.params param at.1.params (record { name = at.2; value = constant_good sort i v is good e });
-          param_names = whole_is (λ p. p.name) c.params c.cell.params param at.1.param_names;
-          distinct_params = at.1.distinct_params;
-          pins = at.1.pins;
-          pin_names = at.1.pin_names;
-          distinct_pins = at.1.distinct_pins;
-          attributes = at.1.attributes;
-          room = at.1.room;
-        }))
+      let param : CellParam = record { name = c.name; value = v; signed = c.signed } in
+      at.3 (record d { cell = with_param v d.cell }) at.0 (record {
+        kind_name = at.1.kind_name;
+        name = at.1.name;
+        params = All-push IsCellParam c.cell.params param at.1.params (record { name = at.2; value = constant_good sort i v is good e });
+        param_names = whole_is (λ p. p.name) c.params c.cell.params param at.1.param_names;
+        distinct_params = at.1.distinct_params;
+        pins = at.1.pins;
+        pin_names = at.1.pin_names;
+        distinct_pins = at.1.distinct_pins;
+        attributes = at.1.attributes;
+        room = at.1.room;
+      }))
 
   pub cell_parameter_value : (sort : Sort) → Leaves roles (after_cell_parameter_value sort) (act_cell_parameter_value sort i d)
   cell_parameter_value sorts.Value = valued sorts.Value tt
@@ -180,8 +189,10 @@ pin_name roles i sorts.Id d e good at =
     let named : OpenCell = record c { pins = with_name c.pins i.text; name = i.text } in
     leaves_if_bind roles (expects.Signal ∷ expects.BehindPin ∷ []) (is_some (number_of c.pins i.text)) (faults.Duplicate i.place) (Ok named) (λ c. Ok (record d { cell = c }))
     (λ none.
-      let new : has_name c.pins i.text ≡ false = not_numbered c.pins i.text none in
-      signal_stage (Fits (expects.BehindPin ∷ roles)) (record d { cell = named }) at.0 (λ s is. (is, record {
+    let new : has_name c.pins i.text ≡ false = not_numbered c.pins i.text none in
+    signal_stage (Fits (expects.BehindPin ∷ roles)) (record d { cell = named }) at.0 (λ s is. (
+      is,
+      record {
         kind_name = at.1.kind_name;
         name = at.1.name;
         params = at.1.params;
@@ -192,7 +203,10 @@ pin_name roles i sorts.Id d e good at =
         distinct_pins = added c.pins i.text new at.1.distinct_pins;
         attributes = at.1.attributes;
         room = at.1.room;
-      }, good.name e, at.2)))
+      },
+      good.name e,
+      at.2,
+    )))
 pin_name roles i sort d e good at = tt
 
 pub behind_pin : (roles : List Expect) (i : Seen) (sort : Sort) (d : Draft) → Stage expects.BehindPin (Fits roles) d → Leaves roles (after_behind_pin sort) (Ok (act_behind_pin sort i d))

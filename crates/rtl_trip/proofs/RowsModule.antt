@@ -46,16 +46,21 @@ module_name roles i sorts.Id d e good at =
     let next : Draft = record d { names = with_name d.names i.text; current = fresh_module i.text d.attributes.items; attributes = no_attributes } in
     leaves_if roles (expects.EndOfLine ∷ expects.Body ∷ []) (is_some (number_of d.names i.text)) (faults.Duplicate i.place) (Ok next)
     (λ none.
-      let new : has_name d.names i.text ≡ false = not_numbered d.names i.text none in
-      let added : with_name d.names i.text ≡ d.names ++ i.text ∷ [] = (is_new d.names i.text new).added in
-      ((record {
-        each = at.0.0.each;
-        ids = added ∙ ap (λ (l : List (List ℕ)). l ++ i.text ∷ []) at.0.0.ids;
-        distinct = subst AreDistinct (sym added) (distinct_push d.names i.text at.0.0.distinct new);
-        count = at.1;
-        opened = fresh_open i.text d.attributes.items (good.name e) (are_attributes d.attributes at.0.0.waiting);
-        waiting = none_waiting;
-      }, at.0.1), at.2))
+    let new : has_name d.names i.text ≡ false = not_numbered d.names i.text none in
+    let added : with_name d.names i.text ≡ d.names ++ i.text ∷ [] = (is_new d.names i.text new).added in (
+      (
+        record {
+          each = at.0.0.each;
+          ids = added ∙ ap (λ (l : List (List ℕ)). l ++ i.text ∷ []) at.0.0.ids;
+          distinct = subst AreDistinct (sym added) (distinct_push d.names i.text at.0.0.distinct new);
+          count = at.1;
+          opened = fresh_open i.text d.attributes.items (good.name e) (are_attributes d.attributes at.0.0.waiting);
+          waiting = none_waiting;
+        },
+        at.0.1,
+      ),
+      at.2,
+    ))
 module_name roles i sort d e good at = tt
 
 -- ---- statements
@@ -94,13 +99,16 @@ module _ (roles : List Expect) (i : Seen) (d : Draft) (at : Stage expects.Body (
   connects = pair_stage (Fits (expects.Body ∷ roles)) (record d { pair = Connect }) at.0 (λ left s is on. ((in_with d at.0.0 (with_link (record { left = left; right = s.part }) d.current) refl (link_open d.current at.0.0.opened (record { left = left; right = s.part }) (record { left = is; right = on })), refl), at.1))
 
   ends : Leaves roles (Some (expects.EndOfLine ∷ [])) (act_body sorts.End i d)
-  ends = at.1 (close_module d) (record {
-    each = All-push IsReadableModule d.modules d.current.body at.0.0.each at.0.0.opened.body;
-    ids = at.0.0.ids ∙ sym (map_push (λ m. m.id) d.modules d.current.body);
-    distinct = at.0.0.distinct;
-    count = omega (arith, length_push d.modules d.current.body, at.0.0.count);
-    waiting = at.0.0.waiting;
-  }, at.0.1)
+  ends = at.1 (close_module d) (
+    record {
+      each = All-push IsReadableModule d.modules d.current.body at.0.0.each at.0.0.opened.body;
+      ids = at.0.0.ids ∙ sym (map_push (λ m. m.id) d.modules d.current.body);
+      distinct = at.0.0.distinct;
+      count = omega (arith, length_push d.modules d.current.body, at.0.0.count);
+      waiting = at.0.0.waiting;
+    },
+    at.0.1,
+  )
 
   pub body : (sort : Sort) → Leaves roles (after_body sort) (act_body sort i d)
   body sorts.Attribute = remark

@@ -150,8 +150,17 @@ module _ (roles : List Expect) (i : Seen) (d : Draft) (good : IsGood i) (at : St
       let step : OpenSignal → Result OpenSignal ReadFault = λ t. inside (wires_in d) d.current.wire_names sort i t in
       let over : OpenSignal → Result Draft ReadFault = λ s. Ok (record d { signal = s }) in
       wide (nat_lt MAX_BITS (length d.signal.part + length b)) put step over refl
-      (λ few. row put (at.0, (d.signal.part ++ b, bs, refl, record { bits = All-append (IsBitOf (wires_in d)) d.signal.part b at.1.bits brace.bits; width = omega (arith, length-append d.signal.part b, ltb-false MAX_BITS (length d.signal.part + length b) few) },
-          subst (All (IsSignal (wires_in d))) two held.4, subst (λ (l : List (List SigBit)). ThenSignal (Fits roles) l d) two held.5)))
+      (λ few. row put (
+        at.0,
+        (
+          d.signal.part ++ b,
+          bs,
+          refl,
+          record { bits = All-append (IsBitOf (wires_in d)) d.signal.part b at.1.bits brace.bits; width = omega (arith, length-append d.signal.part b, ltb-false MAX_BITS (length d.signal.part + length b) few) },
+          subst (All (IsSignal (wires_in d))) two held.4,
+          subst (λ (l : List (List SigBit)). ThenSignal (Fits roles) l d) two held.5,
+        ),
+      ))
     where
       wide : (c : Bool) (put : OpenSignal) (step : OpenSignal → Result OpenSignal ReadFault) (over : OpenSignal → Result Draft ReadFault) → nat_lt MAX_BITS (length d.signal.part + length b) ≡ c → (c ≡ false → Leaves roles (Some body) (step put >>= over))
           → Leaves roles (Some body) (((if c then Err (faults.Limit d.signal.place) else Ok put) >>= step) >>= over)

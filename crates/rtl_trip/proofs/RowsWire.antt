@@ -53,7 +53,7 @@ module _ (roles : List Expect) (i : Seen) (d : Draft) (at : Stage expects.WireOp
       leaves_if_bind roles (expects.EndOfLine ∷ []) (is_taken i.text d.current) (faults.Duplicate i.place) rest over
       (λ new. leaves_if_bind roles (expects.EndOfLine ∷ []) (nat_lt MAX_BITS (d.current.bits + d.wire.width)) (faults.Limit i.place) (Ok put) over
       (λ room. at.2 (record d { current = put; wire = plain_wire [] })
-        (in_with d at.0.0 put refl (wire_open d.current at.0.0.opened i.text d.wire (unused d.current at.0.0.opened i.text new) (good.name e) at.1 (ltb-false MAX_BITS (d.current.bits + d.wire.width) room)), at.0.1)))
+      (in_with d at.0.0 put refl (wire_open d.current at.0.0.opened i.text d.wire (unused d.current at.0.0.opened i.text new) (good.name e) at.1 (ltb-false MAX_BITS (d.current.bits + d.wire.width) room)), at.0.1)))
 
   pub wire_option : (sort : Sort) → i.sort ≡ sort → IsGood i → Leaves roles (after_wire_option sort) (act_wire_option sort i d)
   wire_option sorts.Width e good = (at.0, at.1, λ e s w. (s, w, at.2))
@@ -73,23 +73,23 @@ wire_width roles i sorts.Int d good at =
     leaves_bind_bind roles [] (some_width i.number i) (λ n. within_limit i n >>= put) over
     (λ n e. leaves_bind_bind roles [] (within_limit i n) put over
     (λ m f.
-      let in_limit = within i n m f in
-      at.2 (record d { wire = record d.wire { width = m } }) at.0
-      (record { some = subst (λ (k : ℕ). 0 < k) (sym in_limit.0) (some_width_good i n good e).0; width = subst (λ (k : ℕ). k ≤ MAX_WIDTH) (sym in_limit.0) in_limit.1; offset = at.1.offset; number = at.1.number; inner = at.1.inner; attributes = at.1.attributes })))
+    let in_limit = within i n m f in
+    at.2 (record d { wire = record d.wire { width = m } }) at.0
+    (record { some = subst (λ (k : ℕ). 0 < k) (sym in_limit.0) (some_width_good i n good e).0; width = subst (λ (k : ℕ). k ≤ MAX_WIDTH) (sym in_limit.0) in_limit.1; offset = at.1.offset; number = at.1.number; inner = at.1.inner; attributes = at.1.attributes })))
 wire_width roles i sort d good at = tt
 
 pub wire_offset : (roles : List Expect) (i : Seen) (sort : Sort) (d : Draft) → IsGood i → Stage expects.WireOffset (Fits roles) d → Leaves roles (after_wire_offset sort) (act_wire_offset i d)
 wire_offset roles i sorts.Int d good at =
     leaves_bind_bind roles [] (integer i.number i) (λ n. Ok (record d.wire { offset = n })) (λ w. Ok (record d { wire = w }))
     (λ n e. at.2 (record d { wire = record d.wire { offset = n } }) at.0
-      (record { some = at.1.some; width = at.1.width; offset = integer_good i n good e; number = at.1.number; inner = at.1.inner; attributes = at.1.attributes }))
+    (record { some = at.1.some; width = at.1.width; offset = integer_good i n good e; number = at.1.number; inner = at.1.inner; attributes = at.1.attributes }))
 wire_offset roles i sort d good at = tt
 
 pub port_number : (roles : List Expect) (i : Seen) (sort : Sort) (d : Draft) → IsGood i → Stage expects.PortNumber (Fits roles) d → Leaves roles (after_port_number sort) (act_port_number i d)
 port_number roles i sorts.Int d good at =
     leaves_bind_bind roles [] (integer i.number i) (λ n. Ok (record d.wire { number = n })) (λ w. Ok (record d { wire = w }))
     (λ n e. at.3 (record d { wire = record d.wire { number = n } }) at.0
-      (record { some = at.1.some; width = at.1.width; offset = at.1.offset; number = integer_good i n good e; inner = λ f. absurd (at.2 f); attributes = at.1.attributes }))
+    (record { some = at.1.some; width = at.1.width; offset = at.1.offset; number = integer_good i n good e; inner = λ f. absurd (at.2 f); attributes = at.1.attributes }))
 port_number roles i sort d good at = tt
 
 -- ---- memories
@@ -101,7 +101,7 @@ module _ (roles : List Expect) (i : Seen) (d : Draft) (at : Stage expects.Memory
       let put : OpenModule = record named { body = record named.body { memories = named.body.memories ++ record d.store { name = i.text } ∷ [] } } in
       leaves_if_bind_bind roles (expects.EndOfLine ∷ []) (is_taken i.text d.current) (faults.Duplicate i.place) (Ok named) (λ n. Ok (record n { body = record n.body { memories = n.body.memories ++ record d.store { name = i.text } ∷ [] } })) (λ m. Ok (record d { current = m; store = plain_store [] }))
       (λ new. at.2 (record d { current = put; store = plain_store [] })
-        (in_with d at.0.0 put refl (store_open d.current at.0.0.opened i.text d.store (unused d.current at.0.0.opened i.text new) (good.name e) at.1), at.0.1))
+      (in_with d at.0.0 put refl (store_open d.current at.0.0.opened i.text d.store (unused d.current at.0.0.opened i.text new) (good.name e) at.1), at.0.1))
 
   pub memory_option : (sort : Sort) → i.sort ≡ sort → IsGood i → Leaves roles (after_memory_option sort) (act_memory_option sort i d)
   memory_option sorts.Width e good = (at.0, at.1, λ e s w. (s, w, at.2))
@@ -114,8 +114,8 @@ pub memory_width : (roles : List Expect) (i : Seen) (sort : Sort) (d : Draft) �
 memory_width roles i sorts.Int d good at =
     leaves_bind_bind roles [] (some_width i.number i) (λ n. Ok (record d.store { width = n })) (λ s. Ok (record d { store = s }))
     (λ n e.
-      let wide = some_width_good i n good e in
-      at.2 (record d { store = record d.store { width = n } }) at.0 (record { some = wide.0; width = wide.1; size = at.1.size; offset = at.1.offset; attributes = at.1.attributes }))
+    let wide = some_width_good i n good e in
+    at.2 (record d { store = record d.store { width = n } }) at.0 (record { some = wide.0; width = wide.1; size = at.1.size; offset = at.1.offset; attributes = at.1.attributes }))
 memory_width roles i sort d good at = tt
 
 pub memory_size : (roles : List Expect) (i : Seen) (sort : Sort) (d : Draft) → IsGood i → Stage expects.MemorySize (Fits roles) d → Leaves roles (after_memory_size sort) (act_memory_size i d)
