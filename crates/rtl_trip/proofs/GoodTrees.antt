@@ -1,5 +1,5 @@
 -- The open tree of a process stays good.
-use Rattle.std.proofs.Common.{◌≡◌, ℕ, ◌+◌, ◌<◌, List, [], ◌∷◌, ◌++◌, length, Result, Ok, Err, refl, sym, ap, subst, ◌∙◌, arith}
+use Rattle.std.proofs.Common.{◌≡◌, ℕ, ◌+◌, ◌<◌, List, [], ◌∷◌, ◌++◌, length, Ok, refl, sym, subst, ◌∙◌, arith}
 use Rattle.std.specs.List.{All, IsDistinct}
 use Rattle.std.proofs.lemmas.List.Elements.{All-nil, All-push}
 use Rattle.rtl_lex.specs.Items.{Seen}
@@ -8,7 +8,6 @@ use Rattle.rtl_ir.specs.declared.value.Attribute.{Attribute}
 use Rattle.rtl_ir.specs.declared.module.Link.{Link}
 use Rattle.rtl_ir.specs.declared.wire.Wire.{Wire}
 use Rattle.rtl_ir.specs.Tree.{SwitchView, CaseView, switches_of, cases_of}
-use Rattle.rtl_read.specs.declared.read_fault.ReadFault.{ReadFault}
 use Rattle.rtl_read.specs.declared.limits.TheConstants.{MAX_DEPTH}
 use Rattle.rtl_read.specs.declared.tree.OpenCase.{OpenCase}
 use Rattle.rtl_read.specs.declared.tree.OpenSwitch.{OpenSwitch}
@@ -16,7 +15,7 @@ use Rattle.rtl_read.specs.declared.tree.OpenTree.{OpenTree}
 use Rattle.rtl_read.specs.Signal.{some_bits}
 use Rattle.rtl_read.specs.Meaning.Tree.{plain_case, plain_tree, case_of, switch_of, enter_switch, open_case, put_case, close_case, close_last, with_pattern, with_assign}
 use Rattle.rtl_trip.specs.Readable.{AreAttributes, IsAttribute, IsSignal, IsSomeSignal, IsLink, AreSwitches, AreCases}
-use Rattle.rtl_trip.proofs.Stages.{IsCaseSoFar, IsRooted, IsSwitchSoFar, AreOuter, IsTreeSoFar}
+use Rattle.rtl_trip.proofs.Stages.{IsCaseSoFar, IsRooted, AreOuter, IsTreeSoFar}
 
 -- ---- parts
 

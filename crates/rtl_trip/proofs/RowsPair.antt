@@ -1,16 +1,14 @@
 -- The tokens of pairs of signals leave what is good.
-use Rattle.std.proofs.Common.{◌≡◌, List, [], ◌∷◌, ◌++◌, Option, Some, None, Result, Ok, Err, refl}
+use Rattle.std.proofs.Common.{List, [], ◌∷◌, Ok}
 use Rattle.std.specs.List.{All}
 use Rattle.std.proofs.lemmas.List.Elements.{All-nil}
 use Rattle.rtl_lex.specs.declared.sort.Sort.{Sort}
 use Rattle.rtl_lex.specs.declared.sort.Sort.TheVariants as sorts
 use Rattle.rtl_lex.specs.Items.{Seen}
-use Rattle.rtl_sig.specs.declared.sig.SigBit.{SigBit}
 use Rattle.rtl_grammar.specs.declared.expect.Expect.{Expect}
 use Rattle.rtl_grammar.specs.declared.expect.Expect.TheVariants as expects
 use Rattle.rtl_grammar.specs.Grammar.Pair.{after_behind_left, after_behind_right}
 use Rattle.rtl_read.specs.declared.draft.Draft.{Draft}
-use Rattle.rtl_read.specs.declared.signal.OpenSignal.{OpenSignal}
 use Rattle.rtl_read.specs.Act.Signal.{without_signal}
 use Rattle.rtl_read.specs.Act.Pair.{act_behind_left, act_behind_right}
 use Rattle.rtl_trip.specs.Readable.{IsSignal}

@@ -1,7 +1,6 @@
 -- The tokens of processes leave what is good.
-use Rattle.std.proofs.Common.{◌≡◌, ℕ, ◌<◌, List, [], ◌∷◌, ◌++◌, length, Option, Some, None, Result, Ok, Err, Bool, false, refl, sym, subst, ◌∙◌}
-use Rattle.std.specs.Prelude.{nat_le, if◌then◌else◌}
-use Rattle.std.specs.List.{All}
+use Rattle.std.proofs.Common.{◌≡◌, List, [], ◌∷◌, ◌++◌, length, Some, Ok, refl, sym, subst, ◌∙◌}
+use Rattle.std.specs.Prelude.{nat_le}
 use Rattle.std.proofs.lemmas.Bool.{leb-false}
 use Rattle.std.proofs.lemmas.List.Elements.{All-nil}
 use Rattle.rtl_lex.specs.declared.sort.Sort.{Sort}
@@ -10,7 +9,6 @@ use Rattle.rtl_lex.specs.Items.{Seen}
 use Rattle.rtl_sig.specs.declared.sig.SigBit.{SigBit}
 use Rattle.rtl_sig.specs.Names.{with_name}
 use Rattle.rtl_ir.specs.declared.value.Attribute.{Attribute}
-use Rattle.rtl_ir.specs.declared.module.Link.{Link}
 use Rattle.rtl_ir.specs.Tree.{switches_of}
 use Rattle.rtl_grammar.specs.declared.expect.Expect.{Expect}
 use Rattle.rtl_grammar.specs.declared.expect.Expect.TheVariants as expects
@@ -34,7 +32,7 @@ use Rattle.rtl_trip.proofs.Items.{IsGood}
 use Rattle.rtl_trip.proofs.GoodParts.{none_waiting, are_attributes}
 use Rattle.rtl_trip.proofs.GoodModules.{unused, named_open, name_taken, process_open}
 use Rattle.rtl_trip.proofs.GoodTrees.{plain_tree_good, with_attributes, assigned}
-use Rattle.rtl_trip.proofs.Stages.{Stage, Fits, Still, wires_in, IsTaken, IsTreeSoFar, IsRooted, IsProcessSoFar, Processing, AtRoot, Signalled, ThenSwitch}
+use Rattle.rtl_trip.proofs.Stages.{Stage, Fits, Still, wires_in, IsTaken, IsTreeSoFar, IsRooted, IsProcessSoFar, Processing, AtRoot, ThenSwitch}
 use Rattle.rtl_trip.proofs.Drafts.{in_waiting, in_with, signal_stage, pair_stage}
 use Rattle.rtl_trip.proofs.Rows.{Leaves, leaves_if_bind}
 

@@ -1,12 +1,11 @@
 -- The tokens of switches and cases leave what is good.
-use Rattle.std.proofs.Common.{◌≡◌, List, [], ◌∷◌, ◌++◌, length, Option, Some, None, Result, Ok, Err, refl, sym, ap, subst, ◌∙◌}
+use Rattle.std.proofs.Common.{◌≡◌, List, [], ◌∷◌, ◌++◌, Some, Ok, refl, sym, ap, subst, ◌∙◌}
 use Rattle.rtl_lex.specs.declared.sort.Sort.{Sort}
 use Rattle.rtl_lex.specs.declared.sort.Sort.TheVariants as sorts
 use Rattle.rtl_lex.specs.Items.{Seen}
 use Rattle.rtl_sig.specs.declared.sig.SigBit.{SigBit}
 use Rattle.rtl_grammar.specs.declared.expect.Expect.{Expect}
 use Rattle.rtl_grammar.specs.declared.expect.Expect.TheVariants as expects
-use Rattle.rtl_grammar.specs.Uses.{◌>>=◌}
 use Rattle.rtl_grammar.specs.Grammar.Switch.{after_behind_switch, after_cases, after_next_case, after_patterns, after_behind_pattern, after_case_body, after_next_in_case}
 use Rattle.rtl_read.specs.declared.draft.Draft.{Draft}
 use Rattle.rtl_read.specs.declared.draft.PairKind.TheVariants.{Assign}

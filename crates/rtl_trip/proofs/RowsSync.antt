@@ -1,15 +1,12 @@
 -- The tokens of syncs leave what is good.
-use Rattle.std.proofs.Common.{◌≡◌, List, [], ◌∷◌, ◌++◌, Option, Some, None, Result, Ok, Err, refl, ◌∙◌}
-use Rattle.std.specs.List.{All}
+use Rattle.std.proofs.Common.{◌≡◌, List, [], ◌∷◌, Some, Ok, refl}
 use Rattle.std.proofs.lemmas.List.Elements.{All-nil, All-push}
 use Rattle.rtl_lex.specs.declared.sort.Sort.{Sort}
 use Rattle.rtl_lex.specs.declared.sort.Sort.TheVariants as sorts
 use Rattle.rtl_lex.specs.Items.{Seen}
 use Rattle.rtl_sig.specs.declared.sig.SigBit.{SigBit}
-use Rattle.rtl_ir.specs.declared.value.Value.{Value}
 use Rattle.rtl_ir.specs.declared.module.Link.{Link}
 use Rattle.rtl_ir.specs.declared.process.Event.{Event}
-use Rattle.rtl_ir.specs.declared.process.Event.TheVariants as events
 use Rattle.rtl_ir.specs.declared.process.WriteLine.{WriteLine}
 use Rattle.rtl_ir.specs.declared.process.SyncRule.{SyncRule}
 use Rattle.rtl_grammar.specs.declared.expect.Expect.{Expect}
@@ -23,15 +20,15 @@ use Rattle.rtl_read.specs.declared.open_process.OpenProcess.{OpenProcess}
 use Rattle.rtl_read.specs.Constant.{constant}
 use Rattle.rtl_read.specs.Signal.{some_bits}
 use Rattle.rtl_read.specs.Meaning.Attribute.{no_attributes}
-use Rattle.rtl_read.specs.Meaning.Process.{event_of, event_with, plain_rule, open_rule, with_event, close_rule, with_update, open_write, with_memory, with_address, with_value, close_write}
+use Rattle.rtl_read.specs.Meaning.Process.{event_of, event_with, plain_rule, open_rule, with_event, with_update, open_write, with_memory, with_address, with_value, close_write}
 use Rattle.rtl_read.specs.Act.Signal.{without_signal, begin_signal}
 use Rattle.rtl_read.specs.Act.Process.{close_process}
 use Rattle.rtl_read.specs.Act.Sync.{act_sync_event, act_behind_event, end_rule, act_next_write, act_sync_body, act_write_memory, act_behind_address, act_behind_value, end_write, act_behind_enable}
-use Rattle.rtl_trip.specs.Readable.{AreAttributes, IsSignal, IsSomeSignal, IsLink, IsEvent, IsWrite, IsRule}
+use Rattle.rtl_trip.specs.Readable.{IsSignal, IsSomeSignal, IsLink, IsEvent, IsWrite, IsRule}
 use Rattle.rtl_trip.proofs.Items.{IsGood}
 use Rattle.rtl_trip.proofs.GoodParts.{Constant, constant_good, none_waiting, are_attributes}
 use Rattle.rtl_trip.proofs.GoodTrees.{some_good}
-use Rattle.rtl_trip.proofs.Stages.{Stage, Fits, Still, wires_in, IsProcessSoFar, AtRoot, InRule, ThenSignal}
+use Rattle.rtl_trip.proofs.Stages.{Stage, Fits, wires_in, IsProcessSoFar, AtRoot, ThenSignal}
 use Rattle.rtl_trip.proofs.Drafts.{in_waiting, signal_stage, pair_stage, bracket_stage}
 use Rattle.rtl_trip.proofs.Rows.{Leaves, leaves_bind}
 use Rattle.rtl_trip.proofs.RowsSignal.{signal_body, begin_row}
