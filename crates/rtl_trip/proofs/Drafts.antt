@@ -1,9 +1,8 @@
 -- Drafts stay good where a part of them changes.
-use Rattle.std.proofs.Common.{◌≡◌, ℕ, ◌<◌, List, [], ◌∷◌, ◌++◌, map, refl, sym, ap, subst, ◌∙◌}
+use Rattle.std.proofs.Common.{◌≡◌, ℕ, List, [], ◌∷◌, ◌++◌, map, sym, ap, subst, ◌∙◌}
 use Rattle.std.specs.List.{All}
 use Rattle.std.proofs.lemmas.List.Elements.{All-nil}
 use Rattle.rtl_sig.specs.declared.sig.SigBit.{SigBit}
-use Rattle.rtl_ir.specs.declared.module.Module.{Module}
 use Rattle.rtl_ir.specs.declared.wire.Wire.{Wire}
 use Rattle.rtl_grammar.specs.declared.expect.Expect.TheVariants as expects
 use Rattle.rtl_read.specs.declared.attributes.Attributes.{Attributes}
@@ -13,7 +12,7 @@ use Rattle.rtl_read.specs.Act.Signal.{open_bracket}
 use Rattle.rtl_lex.specs.Items.{Seen}
 use Rattle.rtl_read.specs.declared.open_module.OpenModule.{OpenModule}
 use Rattle.rtl_trip.specs.Readable.{IsSignal}
-use Rattle.rtl_trip.proofs.Stages.{AreWaiting, IsOpen, IsOut, IsIn, Out, In, Still, wires_in, Signalled, ThenSignal, ThenPair, Stage}
+use Rattle.rtl_trip.proofs.Stages.{AreWaiting, IsOpen, IsIn, Out, In, Still, wires_in, Signalled, ThenPair, Stage}
 
 pub out_with : (d : Draft) → Out d → (a : Attributes) → AreWaiting a → Out (record d { attributes = a; name = [] })
 out_with d at a w = (record { each = at.0.each; ids = at.0.ids; distinct = at.0.distinct; count = at.0.count; waiting = w }, at.1)

@@ -1,14 +1,13 @@
 -- An open module stays good with one more item.
 use Rattle.std.proofs.Common.{◌≡◌, ℕ, ◌+◌, ◌<◌, ◌≤◌, List, [], ◌∷◌, ◌++◌, length, map, append_assoc, append-nil, Option, Bool, true, false, refl, sym, ap, subst, ◌∙◌, arith}
-use Rattle.std.specs.Prelude.{◌||◌, is_some, IfSome, nat_lt}
-use Rattle.std.specs.List.{All, IsDistinct, sum_by}
+use Rattle.std.specs.Prelude.{is_some, IfSome}
+use Rattle.std.specs.List.{IsDistinct, sum_by}
 use Rattle.std.specs.Str.{bytes_eq}
-use Rattle.std.proofs.lemmas.Bool.{or_parts, or_from, ltb-false, true≢false}
+use Rattle.std.proofs.lemmas.Bool.{or_parts, or_from, true≢false}
 use Rattle.std.proofs.lemmas.List.{map_push, length_push}
 use Rattle.std.proofs.lemmas.List.Elements.{All-nil, All-push, All-weaker}
 use Rattle.std.proofs.lemmas.List.Sums.{sum_by_push}
 use Rattle.std.proofs.lemmas.Slice.Eq.{bytes_eq-Decides}
-use Rattle.rtl_lex.specs.Items.{Seen}
 use Rattle.rtl_sig.specs.Names.{has_name, number_of, with_name, AreDistinct}
 use Rattle.rtl_ir.specs.declared.value.Value.{Value}
 use Rattle.rtl_ir.specs.declared.value.Attribute.{Attribute}
@@ -18,11 +17,10 @@ use Rattle.rtl_ir.specs.declared.cell.Cell.{Cell}
 use Rattle.rtl_ir.specs.declared.module.Link.{Link}
 use Rattle.rtl_ir.specs.declared.module.Module.{Module}
 use Rattle.rtl_ir.specs.declared.process.Process.{Process}
-use Rattle.rtl_ir.specs.Empty.{empty_module}
 use Rattle.rtl_read.specs.declared.open_module.OpenModule.{OpenModule}
 use Rattle.rtl_read.specs.declared.limits.TheConstants.{MAX_CELLS, MAX_BITS}
 use Rattle.rtl_read.specs.Meaning.Module.{fresh_module, is_taken, with_parameter, with_cell, with_process, with_link}
-use Rattle.rtl_trip.specs.Readable.{IsName, IsConstant, IsParameter, AreAttributes, IsWire, IsStore, IsCell, IsLink, IsProcess, item_names, IsReadableModule}
+use Rattle.rtl_trip.specs.Readable.{IsName, IsConstant, IsParameter, AreAttributes, IsWire, IsStore, IsCell, IsLink, IsProcess, item_names}
 use Rattle.rtl_trip.proofs.Names.{is_new, not_in_front}
 use Rattle.rtl_trip.proofs.Distinct.{not_numbered, not_in_both, added_there, not_added, distinct_between}
 use Rattle.rtl_trip.proofs.Grown.{grown_cell, grown_process, grown_link}

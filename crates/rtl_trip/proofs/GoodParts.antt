@@ -1,5 +1,5 @@
 -- What tokens say of constants, widths and attributes is good.
-use Rattle.std.proofs.Common.{◌≡◌, ℕ, zero, suc, ◌+◌, ◌*◌, ◌-◌, ◌^◌, ◌<◌, ◌≤◌, List, [], ◌∷◌, ◌++◌, length, take, map, Option, Some, None, Result, Ok, Err, Bool, true, false, refl, sym, ap, subst, ◌∙◌, arith}
+use Rattle.std.proofs.Common.{◌≡◌, ℕ, zero, suc, ◌*◌, ◌^◌, ◌<◌, ◌≤◌, List, [], ◌∷◌, ◌++◌, length, map, Option, Some, None, Result, Ok, Err, Bool, true, false, refl, sym, ap, subst, ◌∙◌, arith}
 use Rattle.std.specs.Prelude.{◌==◌, nat_lt, ℤ, pos, negsuc, if◌then◌else◌, reverse, replicate, slice_get, slice_set}
 use Rattle.std.specs.List.{All, flat_map, IsDistinct}
 use Rattle.std.proofs.lemmas.Bool.{ltb-true, ltb-false, lt-ltb, le-ltb, eqb-false}
@@ -12,7 +12,6 @@ use Rattle.rtl_lex.specs.declared.sort.Sort.TheVariants as sorts
 use Rattle.rtl_lex.specs.Items.{Seen}
 use Rattle.rtl_lex.specs.Strings.{chars_of}
 use Rattle.rtl_lex.specs.Values.{width_of, bits_of, fitted, written_of, fill_of, bit_of, is_signed}
-use Rattle.rtl_sig.specs.declared.sig.SigBit.{SigBit}
 use Rattle.rtl_sig.specs.declared.sig.SigBit.TheVariants.{Fixed}
 use Rattle.rtl_sig.specs.Names.{has_name, next_number_of, with_name, AreDistinct}
 use Rattle.rtl_sig.proofs.NamesLemmas.{slice_get-known, next_number_of-new}

@@ -34,7 +34,13 @@ pub mod RowsFile
 pub mod RowsModule
 pub mod RowsWire
 pub mod RowsCell
+pub mod GoodTrees
+pub mod RowsProcess
 pub mod RowsSignal
+pub mod RowsPair
+pub mod RowsSwitch
+pub mod RowsSync
+pub mod Kept
 pub mod BodyLaws
 pub mod BodyAnswers
 pub mod Distinct

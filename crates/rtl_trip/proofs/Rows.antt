@@ -1,5 +1,5 @@
 -- A token that stands at a place of the grammar leaves what is good at the places behind it: the ways to say so.
-use Rattle.std.proofs.Common.{◌≡◌, List, [], ◌∷◌, ◌++◌, Option, Some, None, Result, Ok, Err, Bool, true, false, refl}
+use Rattle.std.proofs.Common.{◌≡◌, List, ◌++◌, Option, Some, None, Result, Ok, Err, Bool, true, false, refl}
 use Rattle.std.specs.Prelude.{if◌then◌else◌}
 use Rattle.rtl_grammar.specs.declared.expect.Expect.{Expect}
 use Rattle.rtl_grammar.specs.Uses.{◌>>=◌}

@@ -1,31 +1,27 @@
 -- The tokens of cells leave what is good.
-use Rattle.std.proofs.Common.{◌≡◌, ℕ, ◌<◌, List, [], ◌∷◌, ◌++◌, length, map, append-nil, Option, Some, None, Result, Ok, Err, Bool, true, false, refl, sym, ap, subst, ◌∙◌}
-use Rattle.std.specs.Prelude.{is_some, if◌then◌else◌}
-use Rattle.std.specs.List.{All, IsDistinct}
+use Rattle.std.proofs.Common.{◌≡◌, ℕ, ◌<◌, List, [], ◌∷◌, ◌++◌, length, map, append-nil, Some, Ok, false, refl, sym, ap, subst, ◌∙◌}
+use Rattle.std.specs.Prelude.{is_some}
+use Rattle.std.specs.List.{IsDistinct}
 use Rattle.std.proofs.lemmas.List.{map_push}
 use Rattle.std.proofs.lemmas.List.Elements.{All-nil, All-push}
 use Rattle.rtl_lex.specs.declared.sort.Sort.{Sort}
 use Rattle.rtl_lex.specs.declared.sort.Sort.TheVariants as sorts
 use Rattle.rtl_lex.specs.Items.{Seen}
-use Rattle.rtl_sig.specs.declared.sig.SigBit.{SigBit}
 use Rattle.rtl_sig.specs.Names.{has_name, number_of, with_name, AreDistinct}
-use Rattle.rtl_ir.specs.declared.value.Value.{Value}
 use Rattle.rtl_ir.specs.declared.value.Attribute.{Attribute}
 use Rattle.rtl_ir.specs.declared.cell.CellParam.{CellParam}
 use Rattle.rtl_ir.specs.declared.cell.Pin.{Pin}
 use Rattle.rtl_grammar.specs.declared.expect.Expect.{Expect}
 use Rattle.rtl_grammar.specs.declared.expect.Expect.TheVariants as expects
-use Rattle.rtl_grammar.specs.Uses.{◌>>=◌}
 use Rattle.rtl_grammar.specs.Grammar.Cell.{after_cell_kind, after_cell_name, after_cell_body, after_cell_parameter, after_cell_parameter_name, after_cell_parameter_value, after_pin_name, after_behind_pin}
 use Rattle.rtl_read.specs.declared.draft.Draft.{Draft}
 use Rattle.rtl_read.specs.declared.open_cell.OpenCell.{OpenCell}
 use Rattle.rtl_read.specs.declared.open_module.OpenModule.{OpenModule}
 use Rattle.rtl_read.specs.declared.limits.TheConstants.{MAX_CELLS}
-use Rattle.rtl_read.specs.declared.read_fault.ReadFault.{ReadFault}
 use Rattle.rtl_read.specs.declared.read_fault.ReadFault.TheVariants as faults
 use Rattle.rtl_read.specs.Constant.{constant}
 use Rattle.rtl_read.specs.Meaning.Module.{is_taken, with_cell}
-use Rattle.rtl_read.specs.Meaning.Cell.{plain_cell, with_kind, with_cell_name, with_param, with_pin}
+use Rattle.rtl_read.specs.Meaning.Cell.{with_kind, with_cell_name, with_param, with_pin}
 use Rattle.rtl_read.specs.Act.Signal.{without_signal}
 use Rattle.rtl_read.specs.Act.Cell.{act_cell_kind, act_cell_name, act_cell_body, act_cell_parameter, act_cell_parameter_name, act_cell_parameter_value, act_pin_name, act_behind_pin}
 use Rattle.rtl_trip.specs.Readable.{IsName, AreAttributes, IsCellParam, IsPin, IsCell}
@@ -34,7 +30,7 @@ use Rattle.rtl_trip.proofs.Distinct.{not_numbered, distinct_push}
 use Rattle.rtl_trip.proofs.Items.{IsGood}
 use Rattle.rtl_trip.proofs.GoodParts.{Constant, constant_good}
 use Rattle.rtl_trip.proofs.GoodModules.{unused, named_open, name_taken, cell_open}
-use Rattle.rtl_trip.proofs.Stages.{Stage, Fits, Still, IsTaken, IsCellSoFar, kinded}
+use Rattle.rtl_trip.proofs.Stages.{Stage, Fits, IsTaken, IsCellSoFar, kinded}
 use Rattle.rtl_trip.proofs.Drafts.{in_with, signal_stage, bracket_stage}
 use Rattle.rtl_trip.proofs.Rows.{Leaves, leaves_bind, leaves_if_bind}
 

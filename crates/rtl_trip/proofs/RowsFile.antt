@@ -1,11 +1,10 @@
 -- The tokens of files and attributes leave what is good.
-use Rattle.std.proofs.Common.{◌≡◌, List, [], ◌∷◌, ◌++◌, length, Option, Some, None, Result, Ok, Err, refl}
+use Rattle.std.proofs.Common.{◌≡◌, List, [], ◌∷◌, length, Some, Ok}
 use Rattle.std.specs.Prelude.{nat_le}
 use Rattle.std.proofs.lemmas.Bool.{leb-false}
 use Rattle.rtl_lex.specs.declared.sort.Sort.{Sort}
 use Rattle.rtl_lex.specs.declared.sort.Sort.TheVariants as sorts
 use Rattle.rtl_lex.specs.Items.{Seen}
-use Rattle.rtl_ir.specs.declared.value.Value.{Value}
 use Rattle.rtl_grammar.specs.declared.expect.Expect.{Expect}
 use Rattle.rtl_grammar.specs.declared.expect.Expect.TheVariants as expects
 use Rattle.rtl_grammar.specs.Grammar.File.{after_start, after_file_head, after_autoidx_number, after_modules, after_next_module, after_end_of_line}
@@ -19,7 +18,7 @@ use Rattle.rtl_read.specs.Act.File.{act_autoidx_number, act_modules}
 use Rattle.rtl_read.specs.Act.Attribute.{act_attribute_name, act_attribute_value}
 use Rattle.rtl_trip.proofs.Items.{IsGood}
 use Rattle.rtl_trip.proofs.GoodParts.{Constant, constant_good, waiting_put}
-use Rattle.rtl_trip.proofs.Stages.{Stage, Fits, Out}
+use Rattle.rtl_trip.proofs.Stages.{Stage, Fits}
 use Rattle.rtl_trip.proofs.Drafts.{out_with}
 use Rattle.rtl_trip.proofs.Rows.{Leaves, leaves_bind, leaves_if}
 

@@ -1,25 +1,21 @@
 -- The tokens of modules leave what is good.
-use Rattle.std.proofs.Common.{◌≡◌, ℕ, ◌<◌, ◌≤◌, List, [], ◌∷◌, ◌++◌, length, map, Option, Some, None, Result, Ok, Err, Bool, false, refl, sym, ap, subst, ◌∙◌, arith}
+use Rattle.std.proofs.Common.{◌≡◌, ℕ, List, [], ◌∷◌, ◌++◌, length, Option, Some, None, Ok, false, refl, sym, ap, subst, ◌∙◌, arith}
 use Rattle.std.specs.Prelude.{nat_le, is_some, IfSome}
-use Rattle.std.specs.List.{All}
 use Rattle.std.proofs.lemmas.Bool.{leb-false}
 use Rattle.std.proofs.lemmas.List.{map_push, length_push}
 use Rattle.std.proofs.lemmas.List.Elements.{All-push}
 use Rattle.rtl_lex.specs.declared.sort.Sort.{Sort}
 use Rattle.rtl_lex.specs.declared.sort.Sort.TheVariants as sorts
 use Rattle.rtl_lex.specs.Items.{Seen}
-use Rattle.rtl_sig.specs.declared.sig.SigBit.{SigBit}
 use Rattle.rtl_sig.specs.Names.{has_name, number_of, with_name, AreDistinct}
 use Rattle.rtl_ir.specs.declared.value.Value.{Value}
 use Rattle.rtl_ir.specs.declared.value.Attribute.{Attribute}
-use Rattle.rtl_ir.specs.declared.module.Module.{Module}
 use Rattle.rtl_grammar.specs.Uses.{◌>>=◌}
 use Rattle.rtl_grammar.specs.declared.expect.Expect.{Expect}
 use Rattle.rtl_grammar.specs.declared.expect.Expect.TheVariants as expects
 use Rattle.rtl_grammar.specs.Grammar.Module.{after_module_name, after_body, after_next_item, after_parameter_name, after_parameter_value}
 use Rattle.rtl_read.specs.declared.draft.Draft.{Draft}
 use Rattle.rtl_read.specs.declared.draft.PairKind.TheVariants.{Connect}
-use Rattle.rtl_read.specs.declared.signal.OpenSignal.{OpenSignal}
 use Rattle.rtl_read.specs.declared.limits.TheConstants.{MAX_CELLS}
 use Rattle.rtl_read.specs.declared.read_fault.ReadFault.TheVariants as faults
 use Rattle.rtl_read.specs.Constant.{constant}
@@ -27,15 +23,14 @@ use Rattle.rtl_read.specs.Meaning.Attribute.{no_attributes}
 use Rattle.rtl_read.specs.Meaning.Module.{fresh_module, with_parameter, with_link}
 use Rattle.rtl_read.specs.Meaning.Wire.{plain_wire, plain_store}
 use Rattle.rtl_read.specs.Meaning.Cell.{plain_cell}
-use Rattle.rtl_read.specs.Meaning.Process.{plain_process}
 use Rattle.rtl_read.specs.Act.Module.{act_module_name, close_module, act_next_item, act_body, act_parameter_name, act_parameter_value}
-use Rattle.rtl_trip.specs.Readable.{IsConstant, AreAttributes, IsSignal, IsReadableModule}
+use Rattle.rtl_trip.specs.Readable.{IsConstant, AreAttributes, IsReadableModule}
 use Rattle.rtl_trip.proofs.Names.{is_new}
 use Rattle.rtl_trip.proofs.Distinct.{not_numbered, distinct_push}
 use Rattle.rtl_trip.proofs.Items.{IsGood}
 use Rattle.rtl_trip.proofs.GoodParts.{Constant, constant_good, none_waiting, are_attributes}
 use Rattle.rtl_trip.proofs.GoodModules.{fresh_open, parameter_open, link_open}
-use Rattle.rtl_trip.proofs.Stages.{Stage, Fits, Out, Still, wires_in, IsWireSoFar, IsStoreSoFar}
+use Rattle.rtl_trip.proofs.Stages.{Stage, Fits, Still, IsWireSoFar, IsStoreSoFar}
 use Rattle.rtl_trip.proofs.Drafts.{in_waiting, in_with, pair_stage}
 use Rattle.rtl_trip.proofs.Rows.{Leaves, leaves_bind, leaves_if}
 

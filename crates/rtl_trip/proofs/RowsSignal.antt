@@ -1,5 +1,5 @@
 -- The tokens of signals leave what is good.
-use Rattle.std.proofs.Common.{◌≡◌, ℕ, zero, suc, ◌+◌, ◌-◌, ◌<◌, ◌≤◌, List, [], ◌∷◌, ◌++◌, length, take, drop, Option, Some, None, Result, Ok, Err, Bool, true, false, refl, sym, ap, subst, ◌∙◌, arith}
+use Rattle.std.proofs.Common.{◌≡◌, ℕ, zero, suc, ◌+◌, ◌-◌, ◌<◌, ◌≤◌, List, [], ◌∷◌, ◌++◌, length, take, drop, Option, Some, None, Result, Ok, Err, Bool, true, false, refl, sym, subst, ◌∙◌, arith}
 use Rattle.std.specs.Prelude.{◌||◌, nat_lt, nat_le, ℤ, pos, negsuc, if◌then◌else◌, slice_get, IsSomeAnd}
 use Rattle.std.specs.List.{All}
 use Rattle.std.proofs.lemmas.Bool.{ltb-false}
@@ -23,13 +23,13 @@ use Rattle.rtl_read.specs.declared.limits.TheConstants.{MAX_BITS, MAX_WIDTH, MAX
 use Rattle.rtl_read.specs.declared.read_fault.ReadFault.{ReadFault}
 use Rattle.rtl_read.specs.declared.read_fault.ReadFault.TheVariants as faults
 use Rattle.rtl_read.specs.Constant.{constant, integer, fixed}
-use Rattle.rtl_read.specs.Signal.{wire_bits, width_at, wire_signal, begin, close_brace, inside, put_below, open_index, set_high, set_low, slice, behind_index, behind_inside}
+use Rattle.rtl_read.specs.Signal.{wire_bits, width_at, wire_signal, close_brace, inside, put_below, set_high, set_low, slice, behind_index, behind_inside}
 use Rattle.rtl_read.specs.Act.Signal.{begin_signal, open_bracket}
 use Rattle.rtl_trip.specs.Readable.{IsBitOf, IsSignal, IsWire}
 use Rattle.rtl_trip.proofs.Items.{IsGood}
 use Rattle.rtl_trip.proofs.GoodParts.{constant_good, fixed_good}
 use Rattle.rtl_trip.proofs.Stages.{Stage, Fits, In, wires_in, IsGoodSignal, ThenSignal}
-use Rattle.rtl_trip.proofs.Rows.{Leaves, leaves_bind, leaves_bind_bind, leaves_if_bind}
+use Rattle.rtl_trip.proofs.Rows.{Leaves, leaves_bind_bind, leaves_if_bind}
 
 -- ---- the bits of a wire
 

@@ -1,6 +1,6 @@
 -- The tokens of wires and memories leave what is good.
-use Rattle.std.proofs.Common.{◌≡◌, ℕ, ◌+◌, ◌<◌, ◌≤◌, List, [], ◌∷◌, ◌++◌, length, Option, Some, None, Result, Ok, Err, Bool, false, refl, sym, subst, ◌∙◌, arith}
-use Rattle.std.specs.Prelude.{nat_lt, ℤ, pos, if◌then◌else◌}
+use Rattle.std.proofs.Common.{◌≡◌, ℕ, ◌+◌, ◌<◌, ◌≤◌, List, [], ◌∷◌, ◌++◌, Some, Result, Ok, Err, refl, sym, subst}
+use Rattle.std.specs.Prelude.{nat_lt, if◌then◌else◌}
 use Rattle.std.proofs.lemmas.Bool.{ltb-false}
 use Rattle.rtl_lex.specs.declared.sort.Sort.{Sort}
 use Rattle.rtl_lex.specs.declared.sort.Sort.TheVariants as sorts
@@ -9,7 +9,6 @@ use Rattle.rtl_sig.specs.Names.{with_name}
 use Rattle.rtl_ir.specs.declared.wire.Wire.{Wire}
 use Rattle.rtl_ir.specs.declared.wire.Role.{Role}
 use Rattle.rtl_ir.specs.declared.wire.Role.TheVariants as roles_of_wires
-use Rattle.rtl_ir.specs.declared.store.Store.{Store}
 use Rattle.rtl_grammar.specs.declared.expect.Expect.{Expect}
 use Rattle.rtl_grammar.specs.declared.expect.Expect.TheVariants as expects
 use Rattle.rtl_grammar.specs.Uses.{◌>>=◌}
@@ -28,7 +27,7 @@ use Rattle.rtl_read.specs.Act.Memory.{act_memory_option, act_memory_width, act_m
 use Rattle.rtl_trip.proofs.Items.{IsGood}
 use Rattle.rtl_trip.proofs.GoodParts.{integer_good, some_width_good, within}
 use Rattle.rtl_trip.proofs.GoodModules.{unused, wire_open, store_open}
-use Rattle.rtl_trip.proofs.Stages.{Stage, Fits, IsWireSoFar, IsStoreSoFar}
+use Rattle.rtl_trip.proofs.Stages.{Stage, Fits, IsWireSoFar}
 use Rattle.rtl_trip.proofs.Drafts.{in_with}
 use Rattle.rtl_trip.proofs.Rows.{Leaves, leaves_bind_bind, leaves_if_bind, leaves_if_bind_bind}
 

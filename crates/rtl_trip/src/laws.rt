@@ -10,9 +10,12 @@ ghost use Rattle.rtl_trip.specs.Readable.{IsReadable, IsReadableModule};
 ghost use Rattle.rtl_trip.specs.Bodies.{HasPlaceForName};
 ghost use Rattle.rtl_trip.specs.PortTables.{ArePorts};
 
-/// What is written of a design is read as that design.
+/// What is written of a readable design is read as that design. The readable designs are just those
+/// that a text gives, and so what was read of a text and written is read again.
 pub fn reads_again()
     ensures round_trip { (design : Design) → IsReadable design → Reads (text_of design) design }
+    ensures readable { (text : List ℕ) (design : Design) → Reads text design → IsReadable design }
+    ensures again { (text : List ℕ) (design : Design) → Reads text design → Reads (text_of design) design }
 {}
 
 /// The text of a module's body has no name; a blank and the name in one place make it the module's
