@@ -1,0 +1,27 @@
+#!/usr/bin/env python3
+"""Prints a canonical text of modules of wires and connections, in which no gates are made: the program reads it and writes it.
+
+usage: bench/wires.py [BYTES]      at least so many; 60,000,000 without a number
+"""
+import sys
+
+wanted = int(sys.argv[1]) if len(sys.argv) > 1 else 60_000_000
+
+
+def module(number):
+    n = 200
+    yield 'module \\core_%d\n' % number
+    for k in range(n):
+        yield '  attribute \\src "rtl/core.v:%d.3-%d.40"\n  wire width 16 \\data_path_%d\n' % (k + 10, k + 10, k)
+    for k in range(n):
+        yield "  connect \\data_path_%d { \\data_path_%d [7:0] 8'00000000 }\n" % (k, (k + 1) % n)
+    yield 'end\n'
+
+
+size = number = 0
+while size < wanted:
+    text = ''.join(module(number))
+    sys.stdout.write(text)
+    size += len(text)
+    number += 1
+print('%d modules, %d bytes' % (number, size), file=sys.stderr)
