@@ -8,7 +8,7 @@ top=$(cd "$(dirname "$0")/.." && pwd)
 work=$(mktemp -d)
 trap 'rm -rf "$work"' EXIT
 mkdir -p "$work/crates/gates/src" "$work/crates/gates/specs" "$work/crates/gates/proofs"
-for crate in rtl_bits rtl_sig cell_types rtl_ir; do
+for crate in rtl_bits cell_types cell_gate cell_word rtl_sig rtl_ir; do
     mkdir "$work/crates/$crate"
     for part in src specs proofs; do
         cp -R "$top/crates/$crate/$part" "$work/crates/$crate/$part"

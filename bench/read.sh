@@ -8,7 +8,7 @@ top=$(cd "$(dirname "$0")/.." && pwd)
 work=$(mktemp -d)
 trap 'rm -rf "$work"' EXIT
 mkdir -p "$work/crates/reading/src" "$work/crates/reading/specs" "$work/crates/reading/proofs"
-for crate in rtl_bits rtl_sig cell_types rtl_ir rtl_lex rtl_grammar rtl_read; do
+for crate in rtl_bits cell_types cell_gate cell_word rtl_sig rtl_ir rtl_lex rtl_grammar rtl_read; do
     mkdir "$work/crates/$crate"
     for part in src specs proofs; do
         cp -R "$top/crates/$crate/$part" "$work/crates/$crate/$part"
@@ -24,7 +24,7 @@ cat >"$work/crates/reading/src/main.rt" <<'END'
 
 use rtl_read::read;
 use std::alloc::Global;
-use std::io::{Read, stdin};
+use std::io::Read;
 use std::time::Instant;
 
 /// What the text is answered.
@@ -37,7 +37,7 @@ fn answer(alloc: Global, text: &[u8]) -> Result<String, anyhow::Error> {
 
 fn main(rt: HostRuntime) -> anyhow::Result<()> {
     let mut text = Vec::new(rt.alloc());
-    stdin(&rt).read_to_end(&mut text)?;
+    rt.reader().read_to_end(&mut text)?;
     let start = Instant::now(&rt)?;
     let words = answer(rt.alloc(), text.as_slice())?;
     let taken = start.elapsed(&rt)?;

@@ -67,7 +67,7 @@ fn pins_of(letters: &[u8], step: &[u8], at: usize) -> Pins {
 }
 
 /// What a storage cell holds at a place; of another cell `-`, which none holds.
-pub fn stored(shape: &Shape, at: u32, before: &Pins, now: &Pins, first: bool) -> Bit {
+pub(crate) fn stored(shape: &Shape, at: u32, before: &Pins, now: &Pins, first: bool) -> Bit {
     match shape.kind {
         CellKind::Storage(_) | CellKind::StorageGate(_) => store_bit(shape, at, before, now, first),
         _ => Bit::Dash,

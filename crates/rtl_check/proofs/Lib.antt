@@ -9,3 +9,4 @@ pub mod Searches
 pub mod PlaceLemmas
 pub mod Recursions
 pub mod Designs
+pub mod Endings

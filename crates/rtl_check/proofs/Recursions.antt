@@ -1,5 +1,5 @@
 -- The faults of recursion, one module after the other.
-use Rattle.std.proofs.Common.{◌≡◌, ℕ, suc, ◌+◌, ◌-◌, ◌<◌, ◌≤◌, Bool, true, false, cond, List, [], ◌∷◌, length, get_or, map, Some, None, Vec, Global, refl, sym, ◌∙◌, ap, subst, arith, zero, ⊎_elim, nat_lt, Option}
+use Rattle.std.proofs.Common.{◌≡◌, ℕ, suc, ◌+◌, ◌-◌, ◌<◌, Bool, true, false, cond, List, [], ◌∷◌, length, get_or, map, Some, None, Vec, Global, refl, sym, ◌∙◌, ap, subst, arith, zero, ⊎_elim, nat_lt, Option}
 use Rattle.std.proofs.lemmas.Bool.Decides.{nat_tests}
 use Rattle.std.proofs.lemmas.List.{length-map}
 use Rattle.std.specs.Str.{bytes_eq}
@@ -27,11 +27,6 @@ recursion_next modules at h e same =
     let more : length modules - at ≡ suc (length modules - (at + 1)) = omega arith in
     let without : faults_from modules at (suc (length modules - (at + 1))) ≡ faults_from modules (at + 1) (length modules - (at + 1)) = rw e refl in
     sym without ∙ ap (faults_from modules at) (sym more) ∙ same
-
-pub recursion_none : (modules : List Module) (at : ℕ) → length modules ≤ at → faults_from modules at (length modules - at) ≡ recursion_faults modules → recursion_faults modules ≡ []
-recursion_none modules at h same =
-    let none : length modules - at ≡ 0 = omega arith in
-    sym same ∙ ap (faults_from modules at) none
 
 -- a place that may be there, and then others
 abbrev with_first : Option ℕ → List ℕ → List ℕ

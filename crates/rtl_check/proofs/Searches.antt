@@ -9,6 +9,17 @@ use Rattle.std.specs.List.{list_any}
 use Rattle.rtl_ir.specs.Faults.Recursion.{leads_within}
 use Rattle.rtl_check.specs.Search.{In, IsGraph, IsDone, IsLooked, IsMarked, IsReached, AreMarks, Searching, Visiting, Within, followers, marks, rows_of, with_new, work_left}
 
+pub none_in : (f : ℕ → Bool) (xs : List ℕ) → ((x : ℕ) → In x xs → f x ≡ false) → list_any f xs ≡ false
+none_in f [] h = refl
+none_in f (x ∷ xs) h = rw (h x (inl refl)) (none_in f xs (λ y i. h y (inr i)))
+
+pub other : (x y : ℕ) → x ≢ y → nat_eq x y ≡ false
+other x y n = by (nat_eq x y) refl
+  where
+    by : (b : Bool) → nat_eq x y ≡ b → nat_eq x y ≡ false
+    by true e = absurd (n (eqb-true x y e))
+    by false e = e
+
 module _ (g : List (List ℕ)) where
   -- one step more at the end of a chain
   pub within-step : (n i k j : ℕ) → Within g n i k → In j (followers g k) → Within g (suc n) i j
@@ -44,17 +55,6 @@ module _ (g : List (List ℕ)) where
       by true = refl
       by false = refl
 
-  none_in : (f : ℕ → Bool) (xs : List ℕ) → ((x : ℕ) → In x xs → f x ≡ false) → list_any f xs ≡ false
-  none_in f [] h = refl
-  none_in f (x ∷ xs) h = rw (h x (inl refl)) (none_in f xs (λ y i. h y (inr i)))
-
-  other : (x y : ℕ) → x ≢ y → nat_eq x y ≡ false
-  other x y n = by (nat_eq x y) refl
-    where
-      by : (b : Bool) → nat_eq x y ≡ b → nat_eq x y ≡ false
-      by true e = absurd (n (eqb-true x y e))
-      by false e = e
-
   -- where all that was reached is done with, no chain leads back
   module _ (start : ℕ) (seen : List Bool) (all : Searching g start seen []) where
     none_from : (n k : ℕ) → (k ≡ start) ⊎ IsMarked seen k → leads_within g n k start ≡ false
@@ -89,16 +89,16 @@ marks-set (b ∷ seen) (suc k) h e =
     let m = marks-cons b (set seen k true) in
     omega (arith, n, m, marks-set seen k (omega arith) e)
 
-In-left : (x : ℕ) (xs ys : List ℕ) → In x xs → In x (xs ++ ys)
+pub In-left : (x : ℕ) (xs ys : List ℕ) → In x xs → In x (xs ++ ys)
 In-left x [] ys i = absurd i
 In-left x (z ∷ zs) ys (inl e) = inl e
 In-left x (z ∷ zs) ys (inr i) = inr (In-left x zs ys i)
 
-In-right : (x : ℕ) (xs ys : List ℕ) → In x ys → In x (xs ++ ys)
+pub In-right : (x : ℕ) (xs ys : List ℕ) → In x ys → In x (xs ++ ys)
 In-right x [] ys i = i
 In-right x (z ∷ zs) ys i = inr (In-right x zs ys i)
 
-In-cases : (x : ℕ) (xs : List ℕ) (y : ℕ) → In x (xs ++ y ∷ []) → In x xs ⊎ (x ≡ y)
+pub In-cases : (x : ℕ) (xs : List ℕ) (y : ℕ) → In x (xs ++ y ∷ []) → In x xs ⊎ (x ≡ y)
 In-cases x [] y (inl e) = inr e
 In-cases x [] y (inr i) = absurd i
 In-cases x (z ∷ zs) y (inl e) = inl (inl e)
@@ -276,7 +276,7 @@ pub record IsFollower (g : List (List ℕ)) (at i c : ℕ) : Type 0 where
   pub follows : In c (followers g at)
   pub next : drop i (followers g at) ≡ c ∷ drop (i + 1) (followers g at)
 
-In-get : (xs : List ℕ) (i c : ℕ) → i < length xs → c ≡ get_or xs i 0 → In c xs
+pub In-get : (xs : List ℕ) (i c : ℕ) → i < length xs → c ≡ get_or xs i 0 → In c xs
 In-get [] i c h e = absurd (omega arith)
 In-get (x ∷ xs) zero c h e = inl e
 In-get (x ∷ xs) (suc i) c h e = inr (In-get xs i c (omega arith) e)

@@ -4,3 +4,4 @@ pub mod Numbers
 pub mod Tallies
 pub mod Search
 pub mod Places
+pub mod Ends

@@ -68,14 +68,6 @@ pub record Visiting (graph : List (List ℕ)) (start : ℕ) (seen : List Bool) (
   pub looked : (c : ℕ) → In c (followers graph at) → In c left ⊎ IsLooked start seen c
   pub closed : (k : ℕ) → (k ≡ start) ⊎ IsMarked seen k → (k ≡ at) ⊎ (In k waiting ⊎ IsDone graph start seen k)
 
--- the number of a place, 0 where it has none
-abbrev pub rank_of : List ℕ → ℕ → ℕ
-rank_of ranks k = slice_index_or ranks k 0
-
--- the numbers fall along each step
-abbrev pub IsLayered : List ℕ → List (List ℕ) → Type 0
-IsLayered ranks graph = (i k : ℕ) → In k (followers graph i) → rank_of ranks k < rank_of ranks i
-
 -- what is still to be done: places without a mark, and places that wait
 abbrev pub work_left : List Bool → List ℕ → ℕ
 work_left seen waiting = (length seen - marks seen) + length waiting

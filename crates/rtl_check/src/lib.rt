@@ -6,6 +6,8 @@ mod bits;
 mod cells;
 mod checked;
 mod design;
+mod display;
+mod ends;
 mod fault;
 mod items;
 mod links;
@@ -15,6 +17,7 @@ mod recursion;
 mod search;
 mod tally;
 mod wires;
+mod words;
 
 pub use answer::{Refused, check};
 pub use checked::Checked;

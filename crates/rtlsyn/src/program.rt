@@ -1,15 +1,15 @@
 //! The top call.
 
-ghost use Rattle.std.specs.Prelude.{◌≡◌, ◌↔◌, ◌+◌, ◌⊎◌, map, string_bytes, IfOk, IfSome, OnOk, OnSome, None, Some, Err, true, false};
+ghost use Rattle.std.specs.Prelude.{◌≡◌, ◌↔◌, ◌+◌, ◌⊎◌, map, string_bytes, IfOk, IfSome, OnErr, OnOk, OnSome, None, Some, Err, true, false};
 ghost use Rattle.std.specs.Io.KnownBytes.{Keeps};
 ghost use Rattle.synth_io.specs.Counts.{HasRisen};
 ghost use Rattle.synth_io.specs.Taking.{TakesAtMost};
 ghost use Rattle.synth_io.specs.declared.input.TheConstants.{LIMIT};
-ghost use Rattle.rtlsyn.specs.Replies.{meaning_of, IsReadThrough, HasAnswered, HasBegun, IsCompleted, IsReply, exit_code};
+ghost use Rattle.rtlsyn.specs.Replies.{meaning_of, IsReadThrough, HasAnswered, HasBegun, IsCompleted, IsReply, IsTextReply, exit_code};
 ghost use Rattle.rtlsyn.specs.Said.{said_of};
 
 use crate::reply::{Reply, text_reply, too_long};
-use rtl_bits::Memory;
+use rtl_bits::{Memory, Text};
 use std::alloc::Global;
 use synth_io::{InputError, Sink, Source, read_input, write_reply};
 
@@ -63,6 +63,17 @@ fn meaning_of(words: &[String]) -> Option<Mode>
     }
 }
 
+/// The reply to an input that was read to its end.
+fn whole_reply(alloc: Global, bytes: &Text) -> Result<Reply, InputError>
+    ensures reply { IfOk result (λ reply. IsTextReply bytes.now (said_of reply)) }
+    ensures cause { OnErr result (result ≡ Err InputError.Memory) }
+{
+    match text_reply(alloc, bytes.as_slice()) {
+        Ok(reply) => Ok(reply),
+        Err(Memory) => Err(InputError::Memory),
+    }
+}
+
 /// Reads the input, and makes the reply.
 fn reply_to<S: Source>(alloc: Global, mode: Mode, source: &mut S) -> Result<Reply, InputError>
     ensures reply { IfOk result (λ reply. IfSome (S.left source.old) (λ input. IsReply mode input (said_of reply))) }
@@ -73,15 +84,14 @@ fn reply_to<S: Source>(alloc: Global, mode: Mode, source: &mut S) -> Result<Repl
     ensures same { (result ≡ Err InputError.Failed → ⊥) → S.faults source.new ≡ S.faults source.old }
 {
     let Mode::Synth = mode;
-    let reply = match read_input(alloc, source) {
-        Ok(bytes) => text_reply(alloc, bytes.as_slice()),
-        Err(InputError::TooLong) => too_long(alloc),
-        Err(InputError::Failed) => return Err(InputError::Failed),
-        Err(InputError::Memory) => return Err(InputError::Memory),
-    };
-    match reply {
-        Ok(reply) => Ok(reply),
-        Err(Memory) => Err(InputError::Memory),
+    match read_input(alloc, source) {
+        Ok(bytes) => whole_reply(alloc, &bytes),
+        Err(InputError::TooLong) => match too_long(alloc) {
+            Ok(reply) => Ok(reply),
+            Err(Memory) => Err(InputError::Memory),
+        },
+        Err(InputError::Failed) => Err(InputError::Failed),
+        Err(InputError::Memory) => Err(InputError::Memory),
     }
 }
 
@@ -89,6 +99,7 @@ fn reply_to<S: Source>(alloc: Global, mode: Mode, source: &mut S) -> Result<Repl
 ///
 /// At most 67,108,865 bytes are taken, in pieces of at most 65,536; each read but the last takes
 /// at least one. The reply is written in pieces of 4,096 bytes, of which the last may be shorter.
+#[tactic(auto, using(crate::proofs::Replying::begun_none))]
 pub fn run<S: Source, K: Sink>(
     alloc: Global,
     words: &[String],

@@ -1,6 +1,7 @@
 //! Replies to texts.
 
 ghost use Rattle.std.specs.Prelude.{◌≡◌, ◌++◌, IfOk, codes, string_bytes};
+ghost use Rattle.rtl_lex.specs.Place.{place_text};
 ghost use Rattle.rtlsyn.specs.Replies.{error_line, fault_reply, cause_number, design_reply, IsTextReply};
 ghost use Rattle.rtlsyn.specs.Said.{said_of};
 
@@ -98,11 +99,13 @@ fn design_reply(alloc: Global, design: Design) -> Result<Reply, Memory>
 }
 
 /// The reply to a text: that to its design, or to its first fault.
+#[tactic(auto, using(crate::proofs::Replying::of_fault, crate::proofs::Replying::is_first))]
 pub fn text_reply(alloc: Global, text: &[u8]) -> Result<Reply, Memory>
     ensures reply { IfOk result (λ reply. IsTextReply text.now (said_of reply)) }
 {
     match read(alloc, text) {
         Ok(design) => design_reply(alloc, design),
+        Err(ReadFault::Memory) => Err(Memory),
         Err(fault) => fault_reply(alloc, fault),
     }
 }

@@ -12,7 +12,7 @@ use std::fmt::Write;
 use std::process::Abort;
 use std::test::Fail;
 use synth_io::{MemSink, MemSource, StdSink, StdSource, SureSink, SureSource};
-use whole_text::{FIRST_ROWS, FOURTH_ROWS, SECOND_ROWS, THIRD_ROWS};
+use whole_text::{FIFTH_ROWS, FIRST_ROWS, FOURTH_ROWS, SECOND_ROWS, THIRD_ROWS};
 
 /// A call without words over memory whose reads and writes with these numbers fail.
 fn call(
@@ -73,7 +73,7 @@ fn run_rows(rt: &impl Abort, alloc: Global, table: &[u8]) -> Result<(u32, u32), 
 fn texts_have_their_netlists(rt: HostRuntime) -> Result<(), Fail> {
     let mut rows = 0u32;
     let mut accepted = 0u32;
-    for table in [FIRST_ROWS, SECOND_ROWS, THIRD_ROWS, FOURTH_ROWS] {
+    for table in [FIRST_ROWS, SECOND_ROWS, THIRD_ROWS, FOURTH_ROWS, FIFTH_ROWS] {
         let (more, taken) = run_rows(&rt, rt.alloc(), table)?;
         rows = rows.saturating_add(more);
         accepted = accepted.saturating_add(taken);

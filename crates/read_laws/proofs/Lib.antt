@@ -1,0 +1,2 @@
+pub mod SignalBits
+pub mod Places
