@@ -10,10 +10,11 @@ ghost use Rattle.rtl_trip.specs.Readable.{IsReadable, IsReadableModule};
 ghost use Rattle.rtl_trip.specs.Bodies.{HasPlaceForName};
 ghost use Rattle.rtl_trip.specs.PortTables.{ArePorts};
 
-/// What is written of a readable design is read as that design. The readable designs are just those
-/// that a text gives, and so what was read of a text and written is read again.
+/// What is written of a readable design is read as that design, and as no other. The readable designs
+/// are just those that a text gives, and so what was read of a text and written is read again.
 pub fn reads_again()
     ensures round_trip { (design : Design) → IsReadable design → Reads (text_of design) design }
+    ensures only { (design other : Design) → IsReadable design → Reads (text_of design) other → other ≡ design }
     ensures readable { (text : List ℕ) (design : Design) → Reads text design → IsReadable design }
     ensures again { (text : List ℕ) (design : Design) → Reads text design → Reads (text_of design) design }
 {}
