@@ -14,4 +14,6 @@ mod signals;
 #[cfg(test)]
 mod spelled;
 #[cfg(test)]
+mod steps;
+#[cfg(test)]
 mod tables;

@@ -1,3 +1,4 @@
 pub mod Knowledge
 pub mod Tables
 pub mod Numbers
+pub mod Counts

@@ -1,4 +1,4 @@
-//! Bits, lists of them, texts, and the one error of the base crates.
+//! Bits, lists of them, texts, a counter of steps, and the one error of the base crates.
 #![tactic(auto)]
 
 mod bit;
@@ -6,10 +6,12 @@ mod bits;
 pub mod laws;
 mod memory;
 mod seq;
+mod steps;
 
 pub use bit::{Bit, bit_and, bit_mux, bit_not, bit_or, bit_xor, merge};
 pub use memory::Memory;
 pub use seq::{Copied, Seq};
+pub use steps::Steps;
 
 /// A text, as its bytes.
 pub type Text = Seq<u8>;
