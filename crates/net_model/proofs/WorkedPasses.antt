@@ -16,7 +16,7 @@ use Rattle.rtl_ir.specs.Follow.{follow_joins}
 use Rattle.rtl_ir.specs.Tree.{NoSwitch, NoCase}
 use Rattle.rtl_ir.specs.Types.{cell_type}
 use Rattle.rtl_ir.specs.WritePorts.{is_write_cell}
-use Rattle.net_model.specs.Build.{made_number}
+use Rattle.rtl_ir.specs.Build.{made_number}
 use Rattle.net_model.specs.Fsm.Code.{fsm_of}
 use Rattle.net_model.specs.Mem.Expand.{memory_of}
 use Rattle.net_model.specs.Proc.Start.{proc_tree_of, init_attribute}

@@ -11,7 +11,6 @@ pub mod Relate
 pub mod Within
 pub mod Swap
 pub mod Gates
-pub mod Build
 pub mod Proc
 pub mod Fsm
 pub mod Mem

@@ -11,6 +11,7 @@ pub mod SwitchRules
 pub mod Assigns
 pub mod Rules
 pub mod Drivers
+pub mod Build
 pub mod Decisions
 pub mod Parameters
 pub mod WritePorts

@@ -26,7 +26,7 @@ use Rattle.rtl_ir.specs.Follow.{follow}
 use Rattle.rtl_ir.specs.Parameters.{given_params}
 use Rattle.rtl_ir.specs.Types.{Ports}
 use Rattle.rtl_ir.specs.WritePorts.{same_signal}
-use Rattle.net_model.specs.Build.{Building, Build, building_of, integer_param, bits_param, pin_of, fresh_wire, new_link}
+use Rattle.rtl_ir.specs.Build.{Building, Build, building_of, integer_param, bits_param, pin_of, fresh_wire, new_link}
 use Rattle.net_model.specs.Fsm.Find.{at_pin, arms_of, is_state_constant, whole_wire, has_place, machine_of}
 use Rattle.net_model.specs.Proc.Start.{init_attribute}
 use Rattle.net_model.specs.Proc.Sync.{polarity_of}

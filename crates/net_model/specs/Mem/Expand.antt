@@ -15,7 +15,7 @@ use Rattle.rtl_ir.specs.declared.plan.WritePort.{WritePort}
 use Rattle.rtl_ir.specs.declared.store.Store.{Store}
 use Rattle.rtl_ir.specs.Flat.Cell.{cell_kind}
 use Rattle.rtl_ir.specs.WritePorts.{is_of_memory, same_place}
-use Rattle.net_model.specs.Build.{Building, Build, building_of, integer_param, pin_of, fresh_wire, new_driver, new_cell, new_link}
+use Rattle.rtl_ir.specs.Build.{Building, Build, building_of, integer_param, pin_of, fresh_wire, new_driver, new_cell, new_link}
 use Rattle.net_model.specs.Proc.Start.{init_attribute}
 use Rattle.net_model.specs.Mem.Gather.{gathered}
 

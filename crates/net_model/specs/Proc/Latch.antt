@@ -17,7 +17,7 @@ use Rattle.rtl_ir.specs.Follow.{Join, all_joins}
 use Rattle.rtl_ir.specs.Rules.{acting_rules}
 use Rattle.rtl_ir.specs.Signals.{same_bit, has_bit}
 use Rattle.rtl_ir.specs.Tree.{Switches, NoSwitch, OneSwitch, Cases, NoCase, OneCase, CaseView}
-use Rattle.net_model.specs.Build.{Building, building_of, integer_param, pin_of, new_cell, new_link}
+use Rattle.rtl_ir.specs.Build.{Building, building_of, integer_param, pin_of, new_cell, new_link}
 use Rattle.net_model.specs.Proc.Mux.{Trees, with_case, assigns_run, lowest}
 
 -- how leaves are read: for the data of a latch, where the bit itself is x, or for its enable, where it is 0 and every other leaf is 1

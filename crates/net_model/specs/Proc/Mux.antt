@@ -16,7 +16,7 @@ use Rattle.rtl_ir.specs.Follow.{Join, joins}
 use Rattle.rtl_ir.specs.Signals.{same_bit}
 use Rattle.rtl_ir.specs.Tree.{Switches, NoSwitch, OneSwitch, Cases, NoCase, OneCase, CaseView}
 use Rattle.rtl_ir.specs.WritePorts.{same_signal}
-use Rattle.net_model.specs.Build.{Building, Build, building_of, integer_param, pin_of, new_driver, new_link}
+use Rattle.rtl_ir.specs.Build.{Building, Build, building_of, integer_param, pin_of, new_driver, new_link}
 
 -- a bit of a wire before another, by wire and place
 abbrev pub comes_before : WireBit → WireBit → Bool

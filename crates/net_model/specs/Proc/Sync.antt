@@ -22,7 +22,7 @@ use Rattle.rtl_ir.specs.Flat.Access.{cell_accesses, next_number, line_mask, writ
 use Rattle.rtl_ir.specs.Flat.Process.{Trigger, edge_trigger, level_trigger}
 use Rattle.rtl_ir.specs.Follow.{Join, joins, all_joins, source_at}
 use Rattle.rtl_ir.specs.Rules.{acting_rules}
-use Rattle.net_model.specs.Build.{Building, building_of, integer_param, bits_param, pin_of, new_cell}
+use Rattle.rtl_ir.specs.Build.{Building, building_of, integer_param, bits_param, pin_of, new_cell}
 
 -- what a level rule beside an edge rule gives a bit: nothing, a constant, or a bit of a wire
 pub data Class : Type 0 where
