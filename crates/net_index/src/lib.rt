@@ -3,8 +3,11 @@
 
 mod numbering;
 mod outputs;
+mod params;
+mod shape;
 mod types;
 
 pub use numbering::Numbering;
 pub use outputs::{drives_pin, output_pin};
+pub use shape::cell_shape;
 pub use types::{CellType, Port, PortNames, Types, is_port};

@@ -1,20 +1,11 @@
 -- What is found of cells is what the faults say.
-use Rattle.std.proofs.Common.{Bor, nat_eq, is_some, is_none, ◌≡◌, ◌≢◌, ℕ, suc, ◌<◌, ◌==◌, Bool, false, not, ◌&&◌, List, [], ◌∷◌, ◌++◌, length, get_or, drop, Option, Some, None, option_map, Ok, Err, refl, sym, ◌∙◌, ap, subst}
+use Rattle.std.proofs.Common.{Bor, nat_eq, is_some, is_none, ◌≡◌, ◌≢◌, ℕ, suc, ◌<◌, ◌==◌, Bool, false, not, ◌&&◌, List, [], ◌∷◌, ◌++◌, length, get_or, drop, Option, Some, None, option_map, refl, sym, ◌∙◌, ap, subst}
 use Rattle.std.proofs.Math.Seq.{drop-cons}
-use Rattle.cell_types.specs.declared.fault.CellFault.{CellFault}
-use Rattle.cell_types.specs.declared.fault.CellFault.TheVariants as cell
-use Rattle.cell_types.specs.declared.given.Param.{Param}
-use Rattle.cell_types.specs.declared.given.PinWidth.{PinWidth}
-use Rattle.cell_types.specs.declared.kind.CellKind.{CellKind}
-use Rattle.cell_types.specs.declared.shape.Shape.{Shape}
-use Rattle.cell_types.specs.Fault.{fault_of}
-use Rattle.cell_types.specs.Shape.{unless, shape_of, made_shape}
 use Rattle.rtl_ir.specs.declared.cell.Cell.{Cell}
 use Rattle.rtl_ir.specs.declared.cell.Pin.{Pin}
 use Rattle.rtl_ir.specs.declared.module.Module.{Module}
 use Rattle.rtl_ir.specs.declared.ports.PortLine.{PortLine}
-use Rattle.rtl_ir.specs.Faults.Cells.{cell_faults, faults_by_type, has_other_width, lacks_port, misfit, pin_widths}
-use Rattle.rtl_ir.specs.Parameters.{given_params}
+use Rattle.rtl_ir.specs.Faults.Cells.{cell_faults, faults_by_type, has_other_width, lacks_port}
 use Rattle.rtl_ir.specs.Scope.{cells_alone}
 use Rattle.rtl_ir.specs.Types.{Ports, cell_type, port_named}
 use Rattle.rtl_ir.specs.Rules.{has_item}
@@ -26,37 +17,8 @@ use Rattle.net_index.specs.Types.{Named, IsTable, IsType, at_name, port_of}
 use Rattle.rtl_ir.specs.Types as rtl_types
 use Rattle.rtl_ir.specs.Fault as rtl
 use Rattle.rtl_check.specs.declared.fault.CheckFault.{CheckFault}
-use Rattle.rtl_check.specs.Finds.{IsFirst, IsMisfit}
+use Rattle.rtl_check.specs.Finds.{IsFirst}
 use Rattle.rtl_check.proofs.Firsts.{first_before}
-
-no_fault : (o : Option CellFault) (made shape : Shape) → unless o made ≡ Ok shape → o ≡ None
-no_fault None made shape e = refl
-no_fault (Some f) made shape e = absurd (cc)
-
-one_fault : (o : Option CellFault) (made : Shape) (fault : CellFault) → unless o made ≡ Err fault → o ≡ Some fault
-one_fault None made fault e = absurd (cc)
-one_fault (Some f) made fault e = cc
-
--- a cell with a shape has no fault
-pub misfit-none : (kind : CellKind) (c : Cell) (params : List Param) (pins : List PinWidth) → params ≡ given_params c.params → pins ≡ pin_widths c.pins
-    → (shape : Shape) → shape_of kind params pins ≡ Ok shape → misfit kind c ≡ None
-unfolding misfit
-misfit-none kind c params pins p q shape e =
-    (λ i. fault_of kind (sym p i) (sym q i)) ∙ no_fault (fault_of kind params pins) (made_shape kind params) shape e
-
-misfit-some : (kind : CellKind) (c : Cell) (params : List Param) (pins : List PinWidth) → params ≡ given_params c.params → pins ≡ pin_widths c.pins
-    → (fault : CellFault) → shape_of kind params pins ≡ Err fault → misfit kind c ≡ Some fault
-unfolding misfit
-misfit-some kind c params pins p q fault e =
-    (λ i. fault_of kind (sym p i) (sym q i)) ∙ one_fault (fault_of kind params pins) (made_shape kind params) fault e
-
--- of a cell without a shape the fault is known
-pub misfit-of_fault : (kind : CellKind) (c : Cell) (params : List Param) (pins : List PinWidth) → params ≡ given_params c.params → pins ≡ pin_widths c.pins
-    → (fault : CellFault) → (fault ≢ cell.Memory → shape_of kind params pins ≡ Err fault) → IsMisfit fault (misfit kind c)
-misfit-of_fault kind c params pins p q cell.Bad h = misfit-some kind c params pins p q cell.Bad (h (λ e. cc))
-misfit-of_fault kind c params pins p q cell.Wide h = misfit-some kind c params pins p q cell.Wide (h (λ e. cc))
-misfit-of_fault kind c params pins p q cell.Width h = misfit-some kind c params pins p q cell.Width (h (λ e. cc))
-misfit-of_fault kind c params pins p q cell.Memory h = tt
 
 -- the width of a pin that is connected, against that of its port
 pub other_width : (lines : List PortLine) (p : Pin) (port : Port) (bits : List SigBit) → bits ≡ p.sig → length bits ≢ 0

@@ -1,4 +1,3 @@
-pub mod Chars
 pub mod Firsts
 pub mod CellLemmas
 pub mod Tallying

@@ -1,7 +1,5 @@
 -- What a part of the check answers.
-use Rattle.std.specs.Prelude.{◌≡◌, List, [], Option, Some, None, option_map, Result, Ok, Err}
-use Rattle.cell_types.specs.declared.fault.CellFault.{CellFault}
-use Rattle.cell_types.specs.declared.fault.CellFault.TheVariants as cell
+use Rattle.std.specs.Prelude.{◌≡◌, List, [], Option, Some, option_map, Result, Ok, Err}
 use Rattle.rtl_ir.specs.Fault as rtl
 use Rattle.rtl_ir.specs.Faults.{first_of}
 use Rattle.rtl_check.specs.declared.fault.CheckFault.{CheckFault}
@@ -21,13 +19,3 @@ IsFirst fault faults = first_answer faults ≡ Some fault
 abbrev pub Finds : {A : Type 0} → Result A CheckFault → List rtl.Fault → Type 0
 Finds (Ok done) faults = faults ≡ []
 Finds (Err fault) faults = IsFirst fault faults
-
--- the fault of a cell is this one, where it is one
-abbrev pub IsMisfit : CellFault → Option CellFault → Type 0
-IsMisfit cell.Memory found = Unit {0}
-IsMisfit fault found = found ≡ Some fault
-
--- a cell has no fault, or its first one is answered; memory may be wanted instead
-abbrev pub Misfits : {A : Type 0} → Result A CellFault → Option CellFault → Type 0
-Misfits (Ok done) found = found ≡ None
-Misfits (Err fault) found = IsMisfit fault found

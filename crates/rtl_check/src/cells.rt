@@ -1,6 +1,6 @@
 //! The faults of cells: of their types, parameters and pins.
 
-ghost use Rattle.std.specs.Prelude.{◌≡◌, List, [], IfOk, option_map};
+ghost use Rattle.std.specs.Prelude.{◌≡◌, List, [], option_map};
 ghost use Rattle.std.specs.List.{list_any};
 ghost use Rattle.rtl_ir.specs.declared.cell.Cell.{Cell};
 ghost use Rattle.rtl_ir.specs.declared.module.Module.{Module};
@@ -10,15 +10,14 @@ ghost use Rattle.rtl_ir.specs.Faults.Cells as cells;
 ghost use Rattle.rtl_ir.specs.Scope.{cells_alone};
 ghost use Rattle.rtl_ir.specs.Types as rtl;
 ghost use Rattle.net_index.specs.Types.{AreTypes, IsTable, IsType};
-ghost use Rattle.rtl_check.specs.Finds.{Finds, Misfits};
+ghost use Rattle.rtl_check.specs.Finds.{Finds};
 
 use crate::fault::CheckFault;
 use crate::links::has_constant;
-use crate::params::given_params;
 use crate::wires::spot;
-use cell_types::{CellFault, CellKind, PinWidth, shape_of};
-use net_index::{CellType, PortNames, Types, drives_pin};
-use rtl_bits::{Copied, Memory, Text};
+use cell_types::{CellFault, CellKind};
+use net_index::{CellType, PortNames, Types, cell_shape, drives_pin};
+use rtl_bits::Text;
 use rtl_ir::{Cell, Module, Pin};
 use std::alloc::Global;
 
@@ -68,38 +67,13 @@ fn check_library_cell(
 fn check_shape(alloc: Global, id: &Text, cell: &Cell, kind: CellKind) -> Result<(), CheckFault>
     ensures first { Finds result (cells.shape_fault (spot id.now cell.now.name) (cells.misfit kind cell.now)) }
 {
-    match misfit(alloc, cell, kind) {
-        Ok(()) => Ok(()),
+    match cell_shape(alloc, kind, cell) {
+        Ok(_) => Ok(()),
         Err(CellFault::Bad) => Err(CheckFault::BadParameterOrPort(spot(id, &cell.name)?)),
         Err(CellFault::Wide) => Err(CheckFault::TooWide(spot(id, &cell.name)?)),
         Err(CellFault::Width) => Err(CheckFault::Width(spot(id, &cell.name)?)),
         Err(CellFault::Memory) => Err(CheckFault::Memory),
     }
-}
-
-/// The first fault of the parameters and pins of a cell of this kind.
-fn misfit(alloc: Global, cell: &Cell, kind: CellKind) -> Result<(), CellFault>
-    ensures fault { Misfits result (cells.misfit kind cell.now) }
-{
-    let params = given_params(alloc, cell.params.as_slice())?;
-    let pins = pin_widths(alloc, cell.pins.as_slice())?;
-    shape_of(alloc, kind, params.as_slice(), pins.as_slice())?;
-    Ok(())
-}
-
-/// The pins by their widths. More than 2^32 bits are taken for want of memory.
-fn pin_widths(alloc: Global, pins: &[Pin]) -> Result<Vec<PinWidth>, Memory>
-    ensures value { IfOk result (λ widths. widths.items ≡ cells.pin_widths pins.now) }
-{
-    let mut widths = Vec::with_capacity(alloc, pins.len())?;
-    for pin in pins {
-        let width = u32::try_from(pin.sig.as_slice().len()).ok().ok_or(Memory)?;
-        widths.push(PinWidth {
-            name: pin.name.copy()?,
-            width,
-        })?;
-    }
-    Ok(widths)
 }
 
 /// The fault of a cell that drives a constant.

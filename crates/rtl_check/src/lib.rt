@@ -12,7 +12,6 @@ mod fault;
 mod items;
 mod links;
 mod module;
-mod params;
 mod recursion;
 mod search;
 mod tally;
