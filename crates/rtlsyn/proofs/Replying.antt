@@ -1,5 +1,5 @@
 -- Each input has just one reply.
-use Rattle.std.proofs.Common.{◌≡◌, ◌≤◌, ◌++◌, ℕ, List, [], Bool, arith, true, false, Option, Some, None, Result, Ok, Err, take, length, refl, sym, ap, subst, ◌∙◌, append-nil, inl, inr, ◌⊎◌}
+use Rattle.std.proofs.Common.{◌≡◌, ◌≢◌, ◌≤◌, ◌++◌, ℕ, List, [], Bool, arith, true, false, Option, Some, None, Result, Ok, Err, take, length, refl, sym, ap, subst, ◌∙◌, append-nil, inl, inr, ◌⊎◌}
 use Rattle.std.proofs.lemmas.Bool.Decides.{nat_tests}
 use Rattle.std.specs.Prelude.{nat_lt, codes, IfOk, IfSome}
 use Rattle.std.specs.Io.KnownBytes.{Appends, Consumes, IsAtEnd}
@@ -7,6 +7,14 @@ use Rattle.rtl_bits.specs.declared.memory.Memory.{Memory}
 use Rattle.synth_io.specs.declared.input.TheConstants.{LIMIT}
 use Rattle.synth_io.specs.declared.input.InputError.{InputError}
 use Rattle.rtl_ir.specs.declared.module.Design.{Design}
+use Rattle.rtl_ir.specs.Fault.{Fault}
+use Rattle.rtl_ir.specs.Faults.{faults_within}
+use Rattle.rtl_ir.specs.Scope.{cells_alone}
+use Rattle.rtl_check.specs.declared.fault.CheckFault.{CheckFault}
+use Rattle.rtl_check.specs.declared.fault.CheckFault.TheVariants as check
+use Rattle.rtl_check.specs.Finds.{IsFirst, first_answer}
+use Rattle.rtl_check.specs.Words.{fault_number, fault_words}
+use Rattle.rtl_write.specs.Text.{text_of}
 use Rattle.rtl_read.specs.declared.read_fault.ReadFault.{ReadFault}
 use Rattle.rtl_read.specs.declared.read_fault.ReadFault.TheVariants as faults
 use Rattle.rtl_read.specs.Reads.{Reads, IsFirstFault, OnFault}
@@ -15,7 +23,8 @@ use Rattle.rtlsyn.specs.declared.program.Mode.{Mode}
 use Rattle.rtlsyn.specs.declared.program.Mode.TheVariants.{Synth}
 use Rattle.rtlsyn.specs.declared.reply.Reply.{Reply}
 use Rattle.rtlsyn.specs.Said.{said_of}
-use Rattle.rtlsyn.specs.Replies.{Said, error_line, design_reply, fault_reply, IsTextReply, IsInputReply, IsReply, HasBegun, HasAnswered}
+use Rattle.rtlsyn.specs.Gates.{netlist_of}
+use Rattle.rtlsyn.specs.Replies.{Said, checked_reply, error_line, design_reply, fault_reply, IsTextReply, IsInputReply, IsReply, HasBegun, HasAnswered}
 
 -- ---- there is one
 
@@ -53,6 +62,35 @@ same_reply Synth input said other is is' = same_input (nat_lt LIMIT (length inpu
 pub of_design : (text : List ℕ) (design : Design) (r : Result Reply Memory) → Reads text design → IfOk r (λ reply. said_of reply ≡ design_reply design) → IfOk r (λ reply. IsTextReply text (said_of reply))
 of_design text design (Ok reply) reads is = inl (design, reads, is)
 of_design text design (Err memory) reads is = tt
+
+-- a design without faults has the reply with its netlist
+pub of_accepted : (design given : Design) (r : Result Reply Memory) → given ≡ design → faults_within cells_alone design.modules ≡ []
+    → IfOk r (λ reply. said_of reply ≡ record { text = text_of (netlist_of given); error = false }) → IfOk r (λ reply. said_of reply ≡ design_reply design)
+unfolding design_reply
+of_accepted design given (Ok reply) same fine is =
+    is ∙ ap (λ (d : Design). checked_reply d None) same ∙ sym (ap (λ fs. checked_reply design (first_answer fs)) fine)
+of_accepted design given (Err memory) same fine is = tt
+
+first_is : (fault : CheckFault) (all : List Fault) → IsFirst fault all → (fault ≡ check.Memory → ⊥) → first_answer all ≡ Some fault
+first_is (check.Width s) all first other = first
+first_is (check.UnknownCell s) all first other = first
+first_is (check.UnsupportedCell s) all first other = first
+first_is (check.BadParameterOrPort s) all first other = first
+first_is (check.TooWide s) all first other = first
+first_is (check.TwoDrivers s) all first other = first
+first_is (check.BadPort s) all first other = first
+first_is (check.BadProcess s) all first other = first
+first_is (check.BadMemory s) all first other = first
+first_is (check.Recursion id) all first other = first
+first_is check.Memory all first other = absurd (other refl)
+
+-- a design with a first fault has the reply with its line
+pub of_refused : (design : Design) (fault : CheckFault) (r : Result Reply Memory) → IsFirst fault (faults_within cells_alone design.modules)
+    → IfOk r (λ reply. fault ≢ check.Memory) → IfOk r (λ reply. said_of reply ≡ error_line (fault_number fault) (fault_words fault))
+    → IfOk r (λ reply. said_of reply ≡ design_reply design)
+unfolding design_reply
+of_refused design fault (Ok reply) first other is = is ∙ sym (ap (checked_reply design) (first_is fault (faults_within cells_alone design.modules) first other))
+of_refused design fault (Err memory) first other is = tt
 
 -- a fault that is no want of memory is the first
 pub is_first : (text : List ℕ) (fault : ReadFault) → OnFault {X = Design} (Err fault) (IsFirstFault text) → (fault ≡ faults.Memory → ⊥) → IsFirstFault text fault

@@ -1,17 +1,32 @@
--- The gates of a module's cells.
-use Rattle.std.specs.Prelude.{ℕ, zero, suc, ◌+◌, Option, Some, None, List, [], ◌∷◌, ◌++◌, length, map, slice_index_or, codes, if◌then◌else◌}
+-- The gates of a module's cells: those of `$not`, `$and`, `$or` and `$xor`, a gate for each bit.
+use Rattle.std.specs.Prelude.{ℕ, zero, suc, ◌+◌, Bool, ◌&&◌, Option, Some, None, List, [], ◌∷◌, ◌++◌, length, map, slice_index_or, codes, if◌then◌else◌}
 use Rattle.std.specs.Str.{bytes_eq}
 use Rattle.rtl_bits.specs.declared.bit.Bit.TheVariants.{S0}
+use Rattle.cell_types.specs.declared.pin_name.PinName.{PinName}
+use Rattle.cell_types.specs.declared.pin_name.PinName.TheVariants.{A, B, Y}
+use Rattle.cell_types.specs.declared.shape.Signs.{Signs}
+use Rattle.cell_types.specs.PinName.{pin_text}
+use Rattle.cell_types.specs.Shape.{signs_of}
 use Rattle.rtl_sig.specs.declared.sig.SigBit.{SigBit}
 use Rattle.rtl_sig.specs.declared.sig.SigBit.TheVariants.{Fixed}
+use Rattle.rtl_sig.specs.Signal.{extended}
 use Rattle.rtl_ir.specs.declared.cell.Pin.{Pin}
 use Rattle.rtl_ir.specs.declared.cell.Cell.{Cell}
 use Rattle.rtl_ir.specs.declared.module.Module.{Module}
 use Rattle.rtl_ir.specs.declared.module.Design.{Design}
-use Rattle.rtlsyn.specs.declared.accept.Gate.{Gate}
-use Rattle.rtlsyn.specs.declared.accept.Gate.TheVariants as gates
-use Rattle.rtlsyn.specs.Accept.{gate_of}
+use Rattle.rtl_ir.specs.Build.{pin_of}
+use Rattle.rtl_ir.specs.Parameters.{given_params, signal_at}
+use Rattle.rtlsyn.specs.declared.gates.Gate.{Gate}
+use Rattle.rtlsyn.specs.declared.gates.Gate.TheVariants as gates
 use Rattle.rtlsyn.specs.Fresh.{fresh_name, greatest_of, names_of}
+
+-- the gate that a type of cells becomes, one for each bit
+abbrev pub gate_of : List ℕ → Option Gate
+gate_of kind = if bytes_eq kind (codes "$not") then Some gates.Not
+    else if bytes_eq kind (codes "$and") then Some gates.And
+    else if bytes_eq kind (codes "$or") then Some gates.Or
+    else if bytes_eq kind (codes "$xor") then Some gates.Xor
+    else None
 
 -- the type of a gate
 abbrev pub gate_name : Gate → List ℕ
@@ -20,18 +35,31 @@ gate_name gates.And = codes "$_AND_"
 gate_name gates.Or = codes "$_OR_"
 gate_name gates.Xor = codes "$_XOR_"
 
--- the signal of the first pin of this name
-abbrev pub pin_signal : List ℕ → List Pin → List SigBit
-pin_signal name [] = []
-pin_signal name (pin ∷ pins) = if bytes_eq pin.name name then pin.sig else pin_signal name pins
+-- the pins of the operands
+abbrev pub operand_pins : Gate → List PinName
+operand_pins gates.Not = A ∷ []
+operand_pins gate = A ∷ B ∷ []
 
--- bit i of an operand, which is filled with 0 above its top bit
-abbrev pub operand_bit : List SigBit → ℕ → SigBit
-operand_bit operand i = slice_index_or operand i (Fixed S0)
+-- the operands are extended with their top bits where all of them are signed
+abbrev pub all_signed : Gate → Signs → Bool
+all_signed gates.Not signs = signs.a
+all_signed gate signs = signs.a && signs.b
+
+unfoldable pub is_signed : Gate → Cell → Bool
+is_signed gate c = all_signed gate (signs_of (given_params c.params))
+
+-- an operand, extended to a width
+abbrev pub operand : List Pin → ℕ → Bool → PinName → Pin
+operand pins width signed name = pin_of (pin_text name) (extended (signal_at pins (pin_text name)) width signed)
+
+-- the operands as the gates see them, and then the result
+abbrev pub extended_pins : List Pin → Bool → List PinName → List Pin
+extended_pins pins signed names =
+    map (operand pins (length (signal_at pins (pin_text Y))) signed) names ++ pin_of (pin_text Y) (signal_at pins (pin_text Y)) ∷ []
 
 -- a pin with bit i of its signal
 abbrev pub bit_pin : ℕ → Pin → Pin
-bit_pin i pin = record { name = pin.name; sig = operand_bit pin.sig i ∷ [] }
+bit_pin i pin = pin_of pin.name (slice_index_or pin.sig i (Fixed S0) ∷ [])
 
 -- the gate of bit i of a cell, under a fresh name
 abbrev pub bit_gate : Gate → ℕ → ℕ → List Pin → Cell
@@ -49,13 +77,14 @@ bit_gates gate n pins zero = []
 bit_gates gate n pins (suc k) = bit_gates gate n pins k ++ bit_gate gate (n + k + 1) k pins ∷ []
 
 -- the width of a cell's result
-abbrev pub result_width : List Pin → ℕ
-result_width pins = length (pin_signal (codes "\\Y") pins)
+abbrev pub result_width : Cell → ℕ
+result_width c = length (signal_at c.pins (pin_text Y))
 
 -- the gates of a cell where n is the greatest number so far; a cell that becomes no gates stays
 abbrev pub gates_or_cell : Option Gate → ℕ → Cell → List Cell
 gates_or_cell None n cell = cell ∷ []
-gates_or_cell (Some gate) n cell = bit_gates gate n cell.pins (result_width cell.pins)
+gates_or_cell (Some gate) n cell =
+    bit_gates gate n (extended_pins cell.pins (is_signed gate cell) (operand_pins gate)) (result_width cell)
 
 unfoldable pub gates_of : ℕ → Cell → List Cell
 gates_of n cell = gates_or_cell (gate_of cell.kind_name) n cell
@@ -63,7 +92,7 @@ gates_of n cell = gates_or_cell (gate_of cell.kind_name) n cell
 -- how many numbers the gates of a cell take
 abbrev pub numbers_or_none : Option Gate → Cell → ℕ
 numbers_or_none None cell = 0
-numbers_or_none (Some gate) cell = result_width cell.pins
+numbers_or_none (Some gate) cell = result_width cell
 
 unfoldable pub numbers_of : Cell → ℕ
 numbers_of cell = numbers_or_none (gate_of cell.kind_name) cell

@@ -1,4 +1,3 @@
-pub mod Accept
 pub mod Fresh
 pub mod Gates
 pub mod Numbers

@@ -7,14 +7,16 @@ use Rattle.rtl_lex.specs.Place.{place_text}
 use Rattle.rtl_read.specs.declared.read_fault.ReadFault.{ReadFault}
 use Rattle.rtl_read.specs.declared.read_fault.ReadFault.TheVariants as faults
 use Rattle.rtl_read.specs.Reads.{Reads, IsFirstFault}
+use Rattle.rtl_ir.specs.Faults.{faults_within}
+use Rattle.rtl_ir.specs.Scope.{cells_alone}
+use Rattle.rtl_check.specs.declared.fault.CheckFault.{CheckFault}
+use Rattle.rtl_check.specs.Finds.{first_answer}
+use Rattle.rtl_check.specs.Words.{fault_number, fault_words}
 use Rattle.rtl_write.specs.Text.{text_of}
 use Rattle.rtlsyn.specs.declared.program.Mode.{Mode}
 use Rattle.rtlsyn.specs.declared.program.Mode.TheVariants.{Synth}
 use Rattle.rtlsyn.specs.declared.program.Status.{Status}
 use Rattle.rtlsyn.specs.declared.program.Status.TheVariants as statuses
-use Rattle.rtlsyn.specs.declared.accept.Cause.{Cause}
-use Rattle.rtlsyn.specs.declared.accept.Cause.TheVariants as causes
-use Rattle.rtlsyn.specs.Accept.{Refused, design_refused}
 use Rattle.rtlsyn.specs.Gates.{netlist_of}
 
 -- a reply, and whether it is an error
@@ -42,20 +44,15 @@ fault_reply (faults.Range place) = error_line (codes "6") (place_text place)
 fault_reply (faults.Limit place) = error_line (codes "17") (place_text place)
 fault_reply faults.Memory = error_line [] []
 
--- the number of what is wrong with an item
-abbrev pub cause_number : Cause → List ℕ
-cause_number causes.Width = codes "7"
-cause_number causes.Unsupported = codes "9"
-
--- the reply to a design: its netlist, or its first item that becomes no gates
-abbrev pub checked_reply : Design → Option Refused → Said
+-- the reply to a design: its netlist, or its first fault
+abbrev pub checked_reply : Design → Option CheckFault → Said
 checked_reply design None = record { text = text_of (netlist_of design); error = false }
-checked_reply design (Some r) = error_line (cause_number r.cause) (r.id ++ codes " " ++ r.item)
+checked_reply design (Some fault) = error_line (fault_number fault) (fault_words fault)
 
-abbrev pub design_reply : Design → Said
-design_reply design = checked_reply design (design_refused design)
+unfoldable pub design_reply : Design → Said
+design_reply design = checked_reply design (first_answer (faults_within cells_alone design.modules))
 
--- the reply to a text: that to its design, or to its first fault
+-- the reply to a text: that to the design that it reads as, or its first fault
 abbrev pub IsTextReply : List ℕ → Said → Type 0
 IsTextReply text said =
     ((design : Design) × Reads text design × (said ≡ design_reply design))

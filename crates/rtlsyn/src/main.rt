@@ -1,7 +1,6 @@
 //! The program: reads a design from standard input, and writes its netlist to standard output.
 #![tactic(auto)]
 
-mod accept;
 mod fresh;
 mod gates;
 mod laws;

@@ -1,13 +1,16 @@
 //! Replies to texts.
 
-ghost use Rattle.std.specs.Prelude.{◌≡◌, ◌++◌, IfOk, codes, string_bytes};
+ghost use Rattle.std.specs.Prelude.{◌≡◌, ◌≢◌, IfOk, codes, false, string_bytes};
 ghost use Rattle.rtl_lex.specs.Place.{place_text};
-ghost use Rattle.rtlsyn.specs.Replies.{error_line, fault_reply, cause_number, design_reply, IsTextReply};
+ghost use Rattle.rtl_check.specs.Words.{fault_number, fault_words};
+ghost use Rattle.rtl_write.specs.Text.{text_of};
+ghost use Rattle.rtlsyn.specs.Gates.{netlist_of};
+ghost use Rattle.rtlsyn.specs.Replies.{error_line, fault_reply, design_reply, IsTextReply};
 ghost use Rattle.rtlsyn.specs.Said.{said_of};
 
-use crate::accept::{Cause, Refusal, design_refused};
 use crate::gates::netlist_of;
 use rtl_bits::{Memory, Text};
+use rtl_check::{CheckFault, Checked, check};
 use rtl_ir::Design;
 use rtl_lex::Place;
 use rtl_read::{ReadFault, read};
@@ -64,38 +67,44 @@ fn fault_reply(alloc: Global, fault: ReadFault) -> Result<Reply, Memory>
     }
 }
 
-/// The number of what is wrong with an item.
-fn cause_number(cause: Cause) -> &'static [u8]
-    ensures value { result.now ≡ cause_number cause }
+/// The reply to a design with this first fault.
+fn check_reply(alloc: Global, fault: &CheckFault) -> Result<Reply, Memory>
+    ensures value { IfOk result (λ reply. said_of reply ≡ error_line (fault_number fault.now) (fault_words fault.now)) }
 {
-    match cause {
-        Cause::Width => b"7",
-        Cause::Unsupported => b"9",
-    }
+    let words = fault.words(alloc)?;
+    error_line(alloc, fault.number(), words.as_slice())
 }
 
-/// The reply to a design with this first item that becomes no gates.
-fn refusal_reply(alloc: Global, refusal: &Refusal<'_>) -> Result<Reply, Memory>
-    ensures value { IfOk result (λ reply. said_of reply ≡ error_line (cause_number refusal.now.cause) (refusal.now.id.now ++ codes " " ++ refusal.now.item.now)) }
+/// The reply to a design without faults.
+fn netlist_reply(alloc: Global, checked: Checked) -> Result<Reply, Memory>
+    ensures value { IfOk result (λ reply. said_of reply ≡ record { text = text_of (netlist_of checked.design); error = false }) }
 {
-    let mut words = Text::from_slice(alloc, refusal.id)?;
-    words.extend(b" ")?;
-    words.extend(refusal.item)?;
-    error_line(alloc, cause_number(refusal.cause), words.as_slice())
-}
-
-/// The reply to a design: its netlist, or its first item that becomes no gates.
-fn design_reply(alloc: Global, design: Design) -> Result<Reply, Memory>
-    ensures value { IfOk result (λ reply. said_of reply ≡ design_reply design) }
-{
-    if let Some(refusal) = design_refused(&design) {
-        return refusal_reply(alloc, &refusal);
-    }
-    let netlist = netlist_of(alloc, design)?;
+    let netlist = netlist_of(alloc, checked.into_design())?;
     Ok(Reply {
         text: write(alloc, &netlist)?,
         error: false,
     })
+}
+
+/// The reply to a design with this first fault, where it is no want of memory.
+fn refused_reply(alloc: Global, fault: &CheckFault) -> Result<Reply, Memory>
+    ensures value { IfOk result (λ reply. said_of reply ≡ error_line (fault_number fault.now) (fault_words fault.now)) }
+    ensures memory { IfOk result (λ _. fault.now ≢ CheckFault.Memory) }
+{
+    match fault {
+        CheckFault::Memory => Err(Memory),
+        fault => check_reply(alloc, fault),
+    }
+}
+
+/// The reply to a design: its netlist, or its first fault.
+fn design_reply(alloc: Global, design: Design) -> Result<Reply, Memory>
+    ensures value { IfOk result (λ reply. said_of reply ≡ design_reply design) }
+{
+    match check(alloc, design) {
+        Ok(checked) => netlist_reply(alloc, checked),
+        Err(refused) => refused_reply(alloc, &refused.fault),
+    }
 }
 
 /// The reply to a text: that to its design, or to its first fault.

@@ -87,10 +87,10 @@ event_signal Global = []
 event_signal Init = []
 event_signal Always = []
 
--- what the tests and events of a process read
+-- what the tests of a process and the events of its rules with lines read
 abbrev pub control_reads : Process → List WireBit
 control_reads p =
-    wire_bits (switches_signals p.root.switches ++ flat_map (λ (r : SyncRule). event_signal r.event) p.syncs)
+    wire_bits (switches_signals p.root.switches ++ flat_map (λ (r : SyncRule). event_signal r.event) (acting_rules p.syncs))
 
 -- all that a process reads
 abbrev pub process_reads : Process → List WireBit

@@ -61,6 +61,10 @@ abbrev pub classed : (Join → Class) → List Join → List Run
 classed f [] = []
 classed f (j ∷ js) = classed_behind f (f j) (j ∷ []) 1 js
 
+-- the runs of this class
+abbrev pub runs_of : Class → List Run → List Run
+runs_of class runs = filter (λ (run : Run). same_class run.class class) runs
+
 -- both sides of places
 abbrev pub left_side : List Join → List SigBit
 left_side js = map (λ (j : Join). OnWire j.bit) js
@@ -131,10 +135,10 @@ level_cell l run =
     (integer_param (codes "\\WIDTH") (length run.places) ∷ integer_param (codes "\\EN_POLARITY") (polarity_of l.level) ∷ [])
     (pin_of (codes "\\EN") l.signal ∷ pin_of (codes "\\D") (right_side run.places) ∷ pin_of (codes "\\Q") (left_side run.places) ∷ [])
 
--- lines whose places have no class
+-- the places of lines that are asked for, each line by their runs; a place that is not asked for ends a run
 abbrev pub plain_lines : (Run → Building → Building) → (Join → Bool) → List Link → Building → Building
-plain_lines cell taken lines =
-    in_turn (λ (line : Link). in_turn cell (classed (λ (j : Join). Plain) (filter taken (joins line.left line.right)))) lines
+plain_lines cell asked lines =
+    in_turn (λ (line : Link). in_turn cell (runs_of Plain (classed (λ (j : Join). if asked j then Plain else Loads) (joins line.left line.right)))) lines
 
 -- an edge rule, and then the bits of a level rule that it does not have
 abbrev pub edge_and_level : Trigger → List Link → Trigger → List Link → Building → Building
