@@ -1,0 +1,15 @@
+pub mod Parts
+pub mod Groups
+pub mod Bits
+pub mod Counting
+pub mod Named
+pub mod Ports
+pub mod Rows
+pub mod Instances
+pub mod Cells
+pub mod Memories
+pub mod Updates
+pub mod Processes
+pub mod WellDriven
+pub mod Accepted
+pub mod Readable
