@@ -1,0 +1,4 @@
+mod PortWords
+mod Joining
+mod Words
+mod Lines

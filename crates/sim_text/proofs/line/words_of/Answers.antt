@@ -1,0 +1,16 @@
+use Rattle.std.proofs.Common.{◌≡◌, ◌==◌, IfOk, length, map, not, subst, rules, tests}
+use Rattle.std.proofs.lemmas.Iterator.Consumers.{YieldsList-at, YieldsList-from_filter, map_from_collect}
+use Rattle.std.proofs.lemmas.Iterator.Splits.{YieldsList-from_slice_split}
+use Rattle.sim_text.specs.Lines.{is_blank, words_of}
+use Rattle.sim_text.proofs.line.words_of.Goals as goal
+
+pub returns : goal.returns
+returns c = record {
+  value =
+      subst (λ r. IfOk r (λ words. map (λ word. word.now) words.items ≡ words_of c.args.line.now)) c.in_ok-collect.was
+      (map_from_collect _ c.collect.ensures.ran
+      (YieldsList-from_filter _ (λ word. not (length word == 0))
+      (YieldsList-at c.filter.ensures.source
+      (YieldsList-from_slice_split _ is_blank c.args.line.now c.split-parts.ensures.rest c.split-parts.ensures.done c.split-parts.ensures.closure (λ x r q k. search (rules, tests))))
+      c.filter.ensures.closure (λ x r q k. search (rules, tests))));
+}
