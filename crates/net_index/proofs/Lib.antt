@@ -3,3 +3,8 @@ pub mod Tables
 pub mod Found
 pub mod Chars
 pub mod Shapes
+pub mod FreshNumbers
+pub mod KindNames
+pub mod NewParams
+pub mod Rooms
+pub mod GivenParams

@@ -1,12 +1,23 @@
 //! What drives each bit of a module, by tables over the numbers of its bits.
 #![tactic(auto)]
 
+mod builder;
+mod builder_fault;
+mod builder_given;
+mod builder_items;
+mod builder_params;
+mod fresh;
 mod numbering;
 mod outputs;
 mod params;
 mod shape;
 mod types;
 
+pub use builder::Builder;
+pub use builder_fault::PassFault;
+pub use builder_given::{memory_param, number_param, value_param};
+pub use builder_items::whole;
+pub use fresh::{first_number, made_name};
 pub use numbering::Numbering;
 pub use outputs::{drives_pin, output_pin};
 pub use shape::cell_shape;

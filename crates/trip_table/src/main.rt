@@ -65,7 +65,7 @@ fn holds(alloc: Global, text: &[u8], told: Option<&[u8]>) -> Result<bool, Memory
 }
 
 /// The rows of the table.
-fn tally(alloc: Global, table: &[u8]) -> Result<Tally, Memory> {
+fn tally_of(alloc: Global, table: &[u8]) -> Result<Tally, Memory> {
     let mut tally = Tally {
         rows: 0,
         told: 0,
@@ -89,7 +89,7 @@ fn main(rt: HostRuntime) -> ExitCode {
         Ok(table) => table,
         Err(_) => return ExitCode::FAILURE,
     };
-    let Ok(tally) = tally(rt.alloc(), table.as_slice()) else {
+    let Ok(tally) = tally_of(rt.alloc(), table.as_slice()) else {
         return ExitCode::FAILURE;
     };
     let Tally { rows, told, bad } = tally;
