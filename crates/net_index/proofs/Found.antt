@@ -5,7 +5,6 @@ use Rattle.cell_types.specs.Kind.{kind_of}
 use Rattle.cell_types.specs.Unsupported.{is_unsupported}
 use Rattle.rtl_ir.specs.declared.ports.PortLine.{PortLine}
 use Rattle.rtl_ir.specs.Types.{Ports, cell_type, type_by}
-use Rattle.net_index.specs.declared.types.CellType.{CellType}
 use Rattle.net_index.specs.declared.types.CellType.TheVariants.{Library, Instance, Unsupported, Unknown}
 use Rattle.net_index.specs.declared.types.Port.{Port}
 use Rattle.net_index.specs.Types.{Named, Stands, IsType}

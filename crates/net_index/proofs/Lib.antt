@@ -1,3 +1,10 @@
 pub mod Numbers
 pub mod Tables
 pub mod Found
+pub mod IndexTables
+pub mod IndexDrives
+pub mod IndexPlaces
+pub mod IndexEnds
+pub mod IndexPassing
+pub mod IndexNotes
+pub mod Indexing

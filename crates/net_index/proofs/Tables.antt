@@ -1,5 +1,5 @@
 -- What is put into tables with names as their keys.
-use Rattle.std.proofs.Common.{◌≡◌, ℕ, ◌-◌, ◌<◌, ◌≤◌, Bool, true, false, cond, List, [], ◌∷◌, length, get_or, drop, Option, Some, None, option_map, find, Bor, refl, sym, ◌∙◌, ap, subst, arith}
+use Rattle.std.proofs.Common.{◌≡◌, ℕ, ◌-◌, ◌<◌, ◌≤◌, Bool, true, false, cond, List, length, get_or, drop, Some, option_map, find, Bor, refl, subst}
 use Rattle.std.proofs.lemmas.Map.Text.{hash_map_updates_str}
 use Rattle.std.specs.HashMap.{UpdatesBy}
 use Rattle.std.specs.Str.{bytes_eq}
@@ -8,7 +8,7 @@ use Rattle.rtl_ir.specs.declared.ports.ModulePorts.{ModulePorts}
 use Rattle.rtl_ir.specs.declared.ports.PortLine.{PortLine}
 use Rattle.rtl_ir.specs.declared.wire.Wire.{Wire}
 use Rattle.rtl_ir.specs.Ports.{is_port, line_of}
-use Rattle.rtl_ir.specs.Types.{Ports, design_ports, module_named, port_lines, port_named, table_ports}
+use Rattle.rtl_ir.specs.Types.{design_ports, module_named, port_lines, port_named, table_ports}
 use Rattle.rtl_ir.proofs.PortLemmas.{drop-before}
 use Rattle.net_index.specs.declared.types.Port.{Port}
 use Rattle.net_index.specs.Types.{Named, IsTable, Stands, at_name, port_of}
