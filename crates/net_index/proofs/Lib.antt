@@ -8,3 +8,10 @@ pub mod KindNames
 pub mod NewParams
 pub mod Rooms
 pub mod GivenParams
+pub mod IndexTables
+pub mod IndexDrives
+pub mod IndexPlaces
+pub mod IndexEnds
+pub mod IndexPassing
+pub mod IndexNotes
+pub mod Indexing

@@ -1,0 +1,61 @@
+//! What drives each bit of a module, and where its connections lead.
+
+ghost use Rattle.std.specs.Prelude.{◌≡◌, [], IfOk};
+ghost use Rattle.rtl_ir.specs.declared.module.Module.{Module};
+ghost use Rattle.rtl_ir.specs.Drivers.{driver_in, drives_of};
+ghost use Rattle.rtl_ir.specs.Follow.{follow};
+ghost use Rattle.rtl_ir.specs.Types.{Ports, table_ports};
+ghost use Rattle.net_index.specs.Driver.{driver_answer};
+ghost use Rattle.net_index.specs.Index.{IsIndex};
+
+use crate::driver::Driver;
+use crate::driver_fill::drivers_of;
+use crate::index_joins::joins_of;
+use crate::index_table::BitTable;
+use crate::index_ways::Ways;
+use crate::types::Types;
+use rtl_bits::Memory;
+use rtl_ir::{Module, PortTable};
+use rtl_sig::{SigBit, WireBit};
+use std::alloc::Global;
+
+/// The drivers of the bits of a module, and the ends of the ways along its connections.
+#[derive(Drop)]
+pub struct Index {
+    drivers: BitTable<Driver>,
+    ways: Ways,
+}
+
+impl Index {
+    /// The index of the module, whose cells may be instances of the modules of the table. It takes time and memory
+    /// in proportion to the module, and none of either at the calls below.
+    pub fn of(alloc: Global, module: &Module, ports: &PortTable) -> Result<Index, Memory>
+        requires process_free { «module».now.processes ≡ [] }
+        ensures value { IfOk result (λ index. IsIndex index (table_ports ports.now.modules) «module».now) }
+    {
+        let types = Types::of_table(alloc, ports)?;
+        let joins = joins_of(alloc, module.links.as_slice())?;
+        Ok(Index {
+            drivers: drivers_of(alloc, module, &types, joins.as_slice())?,
+            ways: Ways::of(alloc, module.wires.as_slice(), joins.as_slice())?,
+        })
+    }
+
+    /// What drives the bit. It takes no memory.
+    pub fn driver(&self, bit: WireBit) -> Driver
+        ensures value { (ports : Ports) (m : Module) → IsIndex self.now ports m → result ≡ driver_answer (driver_in (drives_of ports m) bit) }
+    {
+        self.drivers.get(bit).unwrap_or(Driver::Nothing)
+    }
+
+    /// The first bit or constant on the way back along the connections that none of them drives, and the bit itself
+    /// where the way runs into a loop. It takes no memory.
+    pub fn follow(&self, bit: SigBit) -> SigBit
+        ensures value { (ports : Ports) (m : Module) → IsIndex self.now ports m → result ≡ follow m.links bit }
+    {
+        match bit {
+            SigBit::Fixed(_) => bit,
+            SigBit::Wire(start) => self.ways.end_of(start).unwrap_or(bit),
+        }
+    }
+}
