@@ -1,0 +1,71 @@
+//! Gates for the word cells that work bit by bit.
+#![tactic(auto)]
+
+mod bitwise;
+mod gate;
+mod operand;
+
+ghost use Rattle.std.specs.Prelude.{◌≡◌, Err, List, OnOk};
+ghost use Rattle.rtl_bits.specs.declared.bit.Bit.{Bit};
+ghost use Rattle.rtl_sig.specs.declared.sig.SigBit.{SigBit};
+ghost use Rattle.rtl_ir.specs.Flat.Cell.{Ports};
+ghost use Rattle.rtl_ir.specs.declared.wire.Wire.{Wire};
+ghost use Rattle.net_index.specs.Builder.{IsInLimits, PassesLimit};
+ghost use Rattle.net_model.specs.Swap.{StandsFor};
+ghost use Rattle.map_gates.specs.Expand.{IsMapped, IsShapeOf, map_of};
+ghost use Rattle.map_gates.specs.Gates.{added};
+
+use crate::bitwise::{binary_gates, gate_for, mux_gates, unary_gates};
+use crate::operand::{bit_at, pin_signal};
+use cell_types::{CellKind, GateKind, PinName, Shape, UnaryKind, WordKind};
+use net_index::{Builder, PassFault};
+use rtl_ir::Cell;
+use std::alloc::Global;
+
+/// Adds the gates that stand for the cell. A cell of another kind adds nothing. After an error the builder
+/// holds some of the gates, and is to be given up.
+pub fn expand(
+    alloc: Global,
+    cell: &Cell,
+    shape: &Shape,
+    builder: &mut Builder,
+) -> Result<(), PassFault>
+    ensures exact { OnOk result (builder.new ≡ map_of shape.now cell.now builder.old) }
+    ensures over { result ≡ Err PassFault.Over → PassesLimit (map_of shape.now cell.now builder.old) }
+    ensures within { IsInLimits builder.old → OnOk result (IsInLimits builder.new) }
+    ensures refines { OnOk result (IsShapeOf cell.now shape.now → IsMapped shape.now.kind →
+        (ports : Ports) (start : SigBit → Bit) (wires : List Wire) →
+        StandsFor ports start wires cell.now (added builder.old builder.new)) }
+{
+    add_gates(alloc, cell, shape, builder)
+}
+
+/// The gates by the kind of the cell.
+fn add_gates(
+    alloc: Global,
+    cell: &Cell,
+    shape: &Shape,
+    builder: &mut Builder,
+) -> Result<(), PassFault>
+    ensures exact { OnOk result (builder.new ≡ map_of shape.now cell.now builder.old) }
+    ensures over { result ≡ Err PassFault.Over → PassesLimit (map_of shape.now cell.now builder.old) }
+    ensures within { IsInLimits builder.old → OnOk result (IsInLimits builder.new) }
+{
+    let a = pin_signal(cell, PinName::A);
+    let b = pin_signal(cell, PinName::B);
+    let y = pin_signal(cell, PinName::Y);
+    match shape.kind {
+        CellKind::Word(WordKind::Unary(UnaryKind::Not)) => {
+            unary_gates(alloc, GateKind::Not, shape.signs.a, a, y, builder)
+        }
+        CellKind::Word(WordKind::Bitwise(kind)) => {
+            let signed = shape.signs.a && shape.signs.b;
+            binary_gates(alloc, gate_for(kind), signed, a, b, y, builder)
+        }
+        CellKind::Word(WordKind::Mux) => {
+            let s = bit_at(false, pin_signal(cell, PinName::S), 0);
+            mux_gates(alloc, a, b, s, y, builder)
+        }
+        _ => Ok(()),
+    }
+}
