@@ -1,4 +1,4 @@
-//! Tests of what is written and read again, as tables of rows.
+//! Tests of tables of ports, which are written and read again.
 #![tactic(auto)]
 
 #[cfg(test)]
