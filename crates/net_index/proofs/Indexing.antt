@@ -1,12 +1,9 @@
 -- What an index holds, and what it answers.
 use Rattle.std.proofs.Common.{◌≡◌, List, [], ◌∷◌, ◌++◌, map, Option, Some, None, option_map, unwrap_or, refl, ◌∙◌, ap}
 use Rattle.std.specs.Option.{option_or}
-use Rattle.std.proofs.lemmas.List.{append-nil}
 use Rattle.rtl_sig.specs.declared.sig.WireBit.{WireBit}
-use Rattle.rtl_ir.specs.declared.module.Module.{Module}
-use Rattle.rtl_ir.specs.Drivers.{Drive, Source, FromLink, cell_drives, driver_in, drives_of, link_drives, port_drives, rule_drives, tree_drives}
+use Rattle.rtl_ir.specs.Drivers.{Drive, Source, FromLink, driver_in}
 use Rattle.rtl_ir.specs.Follow as follow
-use Rattle.rtl_ir.specs.Types.{Ports}
 use Rattle.net_index.specs.declared.driver.Driver.{Driver}
 use Rattle.net_index.specs.declared.driver.Driver.TheVariants.{Nothing}
 use Rattle.net_index.specs.declared.index_joins.Join.{Join}
@@ -35,10 +32,3 @@ adds_both t mid new xs ys h k b = k b ∙ adds_append t mid xs ys h b
 pub adds_alone : (t new : BitTable Driver) (ds : List Drive) → ((b : WireBit) → at_bit t b ≡ None) → Adds t ds new
     → (b : WireBit) → at_bit new b ≡ option_map driver_by (driver_in ds b)
 adds_alone t new ds none h b = h b ∙ ap (λ o. option_or o (option_map driver_by (driver_in ds b))) (none b)
-
--- a module without processes is driven by its ports, cells and connections
-pub drives_without : (ports : Ports) (m : Module) → m.processes ≡ [] → drives_of ports m ≡ port_drives 0 m.wires ++ cell_drives ports 0 m.cells ++ link_drives m.links
-drives_without ports m none =
-    let some = port_drives 0 m.wires ++ cell_drives ports 0 m.cells ++ link_drives m.links in
-    let more : drives_of ports m ≡ some ++ [] ++ [] = (λ i. some ++ tree_drives 0 (none i) ++ rule_drives 0 (none i)) in
-    more ∙ append-nil (some ++ []) ∙ append-nil some

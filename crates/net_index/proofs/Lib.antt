@@ -15,3 +15,6 @@ pub mod IndexEnds
 pub mod IndexPassing
 pub mod IndexNotes
 pub mod Indexing
+pub mod DriverReading
+pub mod DriverTrees
+pub mod DriverMarks

@@ -1,12 +1,12 @@
 -- The drivers of the bits of a module, in a table.
-use Rattle.std.specs.Prelude.{◌≡◌, ℕ, List, [], Option, if◌then◌else◌}
+use Rattle.std.specs.Prelude.{◌≡◌, ℕ, List, [], Option, Some, None, if◌then◌else◌}
 use Rattle.std.specs.Option.{option_map, option_or}
 use Rattle.rtl_sig.specs.declared.sig.WireBit.{WireBit}
 use Rattle.rtl_ir.specs.declared.cell.Pin.{Pin}
 use Rattle.rtl_ir.specs.declared.wire.Wire.{Wire}
 use Rattle.rtl_ir.specs.Drivers.{Drive, FromPort, FromCell, FromLink, all_by, driver_in, is_input, places_by}
 use Rattle.rtl_ir.specs.Outputs.{drives_pin}
-use Rattle.rtl_ir.specs.Signals.{bits_of_wire}
+use Rattle.rtl_ir.specs.Signals.{bits_of_wire, has_bit}
 use Rattle.rtl_ir.specs.Types.{CellType}
 use Rattle.net_index.specs.declared.driver.Driver.{Driver}
 use Rattle.net_index.specs.declared.index_joins.Join.{Join}
@@ -37,3 +37,7 @@ drives_of_pin type cell pin p = if drives_pin type p.name then places_by (λ at.
 -- what one place of a connection drives
 abbrev pub join_drive : Join → Drive
 join_drive j = record { bit = j.bit; source = FromLink j.source }
+
+-- the driver of a bit in the table, and else this one where the bit is among these
+abbrev pub marked_at : BitTable Driver → List WireBit → Driver → WireBit → Option Driver
+marked_at table bits driver b = option_or (at_bit table b) (if has_bit bits b then Some driver else None)

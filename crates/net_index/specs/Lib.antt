@@ -1,5 +1,7 @@
 pub mod Driver
 pub mod DriverFill
+pub mod DriverRules
+pub mod DriverTree
 pub mod Index
 pub mod IndexJoins
 pub mod IndexTable

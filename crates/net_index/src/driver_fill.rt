@@ -1,21 +1,24 @@
 //! The drivers of the bits of a module, in a table.
 
-ghost use Rattle.std.specs.Prelude.{◌≡◌, [], IfOk, OnOk, map};
-ghost use Rattle.rtl_ir.specs.Drivers.{FromCell, FromPort, all_by, cell_drives, drives_of, pin_drives, places_by, port_drives};
+ghost use Rattle.std.specs.Prelude.{◌≡◌, IfOk, OnOk, map};
+ghost use Rattle.rtl_sig.specs.declared.sig.WireBit.{WireBit};
+ghost use Rattle.rtl_ir.specs.Drivers.{FromCell, FromPort, all_by, cell_drives, drives_of, pin_drives, places_by, port_drives, rule_drives, tree_drives};
 ghost use Rattle.rtl_ir.specs.Follow.{all_joins};
 ghost use Rattle.rtl_ir.specs.Signals.{bits_of_wire};
 ghost use Rattle.rtl_ir.specs.Types as rtl;
-ghost use Rattle.net_index.specs.DriverFill.{Adds, HasDrivers, join_drive, drives_of_pin, drives_of_port};
+ghost use Rattle.net_index.specs.DriverFill.{Adds, HasDrivers, join_drive, drives_of_pin, drives_of_port, marked_at};
 ghost use Rattle.net_index.specs.IndexJoins.{join_of};
+ghost use Rattle.net_index.specs.IndexTable.{at_bit};
 ghost use Rattle.net_index.specs.Types.{AreTypes, IsType};
 
 use crate::driver::{CellPin, Driver};
+use crate::driver_tree::{assigned_bits, ruled_bits};
 use crate::index_joins::Join;
 use crate::index_table::BitTable;
 use crate::outputs::drives_pin;
 use crate::types::{CellType, Types};
 use rtl_bits::Memory;
-use rtl_ir::{Cell, Module, Pin, Role, Wire};
+use rtl_ir::{Cell, Module, Pin, Process, Role, Wire};
 use rtl_sig::{SigBit, WireBit};
 use std::alloc::Global;
 
@@ -27,7 +30,6 @@ pub(crate) fn drivers_of(
     types: &Types,
     joins: &[Join],
 ) -> Result<BitTable<Driver>, Memory>
-    requires process_free { «module».now.processes ≡ [] }
     requires joins { map join_of joins.now ≡ all_joins «module».now.links }
     ensures value { IfOk result (λ table. (ports : rtl.Ports) → AreTypes types.now ports → HasDrivers table (drives_of ports «module».now)) }
 {
@@ -36,6 +38,8 @@ pub(crate) fn drivers_of(
     add_ports(&mut drivers, wires)?;
     add_cells(&mut drivers, types, module.cells.as_slice())?;
     add_joins(&mut drivers, joins)?;
+    add_trees(alloc, &mut drivers, module.processes.as_slice())?;
+    add_rules(alloc, &mut drivers, module.processes.as_slice())?;
     Ok(drivers)
 }
 
@@ -142,6 +146,46 @@ fn add_joins(drivers: &mut BitTable<Driver>, joins: &[Join]) -> Result<(), Memor
 {
     for join in joins {
         drivers.put_first(join.bit, Driver::Link(join.source))?;
+    }
+    Ok(())
+}
+
+/// What the trees of the processes drive.
+fn add_trees(
+    alloc: Global,
+    drivers: &mut BitTable<Driver>,
+    processes: &[Process],
+) -> Result<(), Memory>
+    ensures ok { OnOk result (Adds drivers.old (tree_drives 0 processes.now) drivers.new) }
+{
+    for (place, process) in processes.iter().enumerate() {
+        let bits = assigned_bits(alloc, &process.root)?;
+        add_bits(drivers, bits.as_slice(), Driver::Tree(place as u64))?;
+    }
+    Ok(())
+}
+
+/// What the rules of the processes drive.
+fn add_rules(
+    alloc: Global,
+    drivers: &mut BitTable<Driver>,
+    processes: &[Process],
+) -> Result<(), Memory>
+    ensures ok { OnOk result (Adds drivers.old (rule_drives 0 processes.now) drivers.new) }
+{
+    for (place, process) in processes.iter().enumerate() {
+        let bits = ruled_bits(alloc, process.syncs.as_slice())?;
+        add_bits(drivers, bits.as_slice(), Driver::Sync(place as u64))?;
+    }
+    Ok(())
+}
+
+/// These bits, with one driver.
+fn add_bits(drivers: &mut BitTable<Driver>, bits: &[WireBit], driver: Driver) -> Result<(), Memory>
+    ensures ok { OnOk result ((b : WireBit) → at_bit drivers.new b ≡ marked_at drivers.old bits.now driver b) }
+{
+    for bit in bits {
+        drivers.put_first(*bit, driver)?;
     }
     Ok(())
 }

@@ -1,6 +1,6 @@
 //! What drives each bit of a module, and where its connections lead.
 
-ghost use Rattle.std.specs.Prelude.{◌≡◌, [], IfOk};
+ghost use Rattle.std.specs.Prelude.{◌≡◌, IfOk};
 ghost use Rattle.rtl_ir.specs.declared.module.Module.{Module};
 ghost use Rattle.rtl_ir.specs.Drivers.{driver_in, drives_of};
 ghost use Rattle.rtl_ir.specs.Follow.{follow};
@@ -30,7 +30,6 @@ impl Index {
     /// The index of the module, whose cells may be instances of the modules of the table. It takes time and memory
     /// in proportion to the module, and none of either at the calls below.
     pub fn of(alloc: Global, module: &Module, ports: &PortTable) -> Result<Index, Memory>
-        requires process_free { «module».now.processes ≡ [] }
         ensures value { IfOk result (λ index. IsIndex index (table_ports ports.now.modules) «module».now) }
     {
         let types = Types::of_table(alloc, ports)?;

@@ -1,0 +1,102 @@
+//! The bits that the trees and the rules of processes name.
+
+ghost use Rattle.std.specs.Prelude.{◌≡◌, [], ◌++◌, ◌&&◌, not, IfOk, OnOk, flat_map};
+ghost use Rattle.rtl_ir.specs.Assigns.{case_assigns, cases_assigns, left_bits, switches_assigns};
+ghost use Rattle.rtl_ir.specs.Rules.{has_line, is_init};
+ghost use Rattle.rtl_ir.specs.Signals.{wire_bits};
+ghost use Rattle.rtl_ir.specs.SwitchRules.{cases_by_rules, root_by_rules, switches_by_rules};
+ghost use Rattle.net_index.specs.DriverTree.{rule_lefts};
+
+use crate::driver_rules::{Reading, read_case};
+use rtl_bits::Memory;
+use rtl_ir::{Case, Event, Link, Switch, SyncRule};
+use rtl_sig::{SigBit, WireBit};
+use std::alloc::Global;
+
+/// The bits that the assigns of a tree name, those of cases that never act left out.
+pub(crate) fn assigned_bits(alloc: Global, root: &Case) -> Result<Vec<WireBit>, Memory>
+    ensures value { IfOk result (λ bits. bits.items ≡ left_bits (case_assigns (root_by_rules root.now))) }
+{
+    let mut bits = Vec::new(alloc);
+    put_case(alloc, &mut bits, root)?;
+    Ok(bits)
+}
+
+/// Puts the bits last that the assigns in the case and below it name.
+#[cycle(tree)]
+fn put_case(alloc: Global, bits: &mut Vec<WireBit>, case: &Case) -> Result<(), Memory>
+    ensures ok { OnOk result (bits.new.items ≡ bits.old.items ++ left_bits (case.now.assigns ++ switches_assigns (switches_by_rules case.now.switches))) }
+{
+    put_left_bits(bits, case.assigns.as_slice())?;
+    for switch in &case.switches {
+        put_switch(alloc, bits, switch)?;
+    }
+    Ok(())
+}
+
+/// Puts the bits last that the assigns below the switch name.
+#[cycle(tree)]
+fn put_switch(alloc: Global, bits: &mut Vec<WireBit>, switch: &Switch) -> Result<(), Memory>
+    ensures ok { OnOk result (bits.new.items ≡ bits.old.items ++ left_bits (cases_assigns (cases_by_rules switch.now.signal [] switch.now.cases))) }
+{
+    let mut earlier = Vec::new(alloc);
+    for case in &switch.cases {
+        let reading = read_case(
+            alloc,
+            switch.signal.as_slice(),
+            &mut earlier,
+            case.patterns.as_slice(),
+        )?;
+        if let Reading::Dropped = reading {
+            continue;
+        }
+        put_case(alloc, bits, case)?;
+        if let Reading::Last = reading {
+            return Ok(());
+        }
+    }
+    Ok(())
+}
+
+/// The bits that the rules update: those with lines, but for those that give start values.
+pub(crate) fn ruled_bits(alloc: Global, rules: &[SyncRule]) -> Result<Vec<WireBit>, Memory>
+    ensures value { IfOk result (λ bits. bits.items ≡ rule_lefts rules.now) }
+{
+    let mut bits = Vec::new(alloc);
+    for rule in rules {
+        if acts(rule) {
+            put_left_bits(&mut bits, rule.updates.as_slice())?;
+        }
+    }
+    Ok(bits)
+}
+
+/// Whether the rule has a line, and gives no start values.
+fn acts(rule: &SyncRule) -> bool
+    ensures value { result ≡ (has_line rule.now && not (is_init rule.now.event)) }
+{
+    let has_line = !rule.updates.as_slice().is_empty() || !rule.writes.as_slice().is_empty();
+    has_line && !matches!(rule.event, Event::Init)
+}
+
+/// Puts the bits last that stand on the left of these lines.
+fn put_left_bits(bits: &mut Vec<WireBit>, lines: &[Link]) -> Result<(), Memory>
+    ensures ok { OnOk result (bits.new.items ≡ bits.old.items ++ left_bits lines.now) }
+{
+    for line in lines {
+        put_wire_bits(bits, line.left.as_slice())?;
+    }
+    Ok(())
+}
+
+/// Puts the bits of wires in the signal last.
+fn put_wire_bits(bits: &mut Vec<WireBit>, signal: &[SigBit]) -> Result<(), Memory>
+    ensures ok { OnOk result (bits.new.items ≡ bits.old.items ++ wire_bits signal.now) }
+{
+    for bit in signal {
+        if let SigBit::Wire(bit) = bit {
+            bits.push(*bit)?;
+        }
+    }
+    Ok(())
+}
