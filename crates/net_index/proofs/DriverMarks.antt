@@ -126,21 +126,3 @@ pub next_rules : (ps : List Process) (i : ℕ) (p : Process) → i < length ps �
 next_rules ps i p h is =
     let next : suc i ≡ i + 1 = sym (add-one i) in
     ap (rule_drives i) (drop-cons ps i p h ∙ (λ j. sym is j ∷ drop (next j) ps))
-
--- one more bit with the driver
-pub marks_next : (t new start : BitTable Driver) (bits all : List WireBit) (driver : Driver) (i : ℕ) (c d : WireBit) → i < length bits → c ≡ get_or bits i d
-    → ((b : WireBit) → at_bit new b ≡ option_or (at_bit t b) (cond (same_bit c b) (Some driver) None))
-    → ((b : WireBit) → marked_at t (drop i bits) driver b ≡ marked_at start all driver b) → (b : WireBit) → marked_at new (drop (i + 1) bits) driver b ≡ marked_at start all driver b
-marks_next t new start bits all driver i c d h is put before b =
-    let next : suc i ≡ i + 1 = sym (add-one i) in
-    let front : drop i bits ≡ c ∷ drop (i + 1) bits = drop-cons bits i d h ∙ (λ j. sym is j ∷ drop (next j) bits) in
-    let rest = has_bit (drop (i + 1) bits) b in
-    ap (λ o. option_or o (cond rest (Some driver) None)) (put b ∙ ap (λ s. option_or (at_bit t b) (cond s (Some driver) None)) (turned c b))
-    ∙ by (at_bit t b) (same_bit b c) rest
-    ∙ ap (λ xs. marked_at t xs driver b) (sym front)
-    ∙ before b
-  where
-    by : (o : Option Driver) (s r : Bool) → option_or (option_or o (cond s (Some driver) None)) (cond r (Some driver) None) ≡ option_or o (cond (s || r) (Some driver) None)
-    by (Some x) s r = refl
-    by None true r = refl
-    by None false r = refl

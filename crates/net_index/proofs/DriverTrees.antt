@@ -21,24 +21,6 @@ left_bits-append (l ∷ xs) ys = ap (λ bits. wire_bits l.left ++ bits) (left_bi
 abbrev pub switch_bits : List SwitchView → List WireBit
 switch_bits items = left_bits (switches_assigns (switches_by_rules (switches_of items)))
 
--- one more switch
-pub switch_goes : (done all : List WireBit) (items : List SwitchView) (k : ℕ) (s : SwitchView) → k < length items → s ≡ get_or items k s
-    → (new : List WireBit) → new ≡ done ++ left_bits (cases_assigns (cases_by_rules s.signal [] s.cases)) → done ++ switch_bits (drop k items) ≡ all → new ++ switch_bits (drop (k + 1) items) ≡ all
-switch_goes done all items k s lt is new made before =
-    let next : suc k ≡ k + 1 = sym (add-one k) in
-    let own = cases_assigns (cases_by_rules s.signal [] s.cases) in
-    let rest = switches_assigns (switches_by_rules (switches_of (drop (k + 1) items))) in
-    let front : drop k items ≡ s ∷ drop (k + 1) items = drop-cons items k s lt ∙ (λ j. sym is j ∷ drop (next j) items) in
-    ap (λ bits. bits ++ left_bits rest) made
-    ∙ append_assoc done (left_bits own) (left_bits rest)
-    ∙ ap (λ bits. done ++ bits) (sym (left_bits-append own rest))
-    ∙ ap (λ xs. done ++ switch_bits xs) (sym front)
-    ∙ before
-
--- no switch is left
-pub switches_end : (done all : List WireBit) (items : List SwitchView) (k : ℕ) → length items ≤ k → done ++ switch_bits (drop k items) ≡ all → done ≡ all
-switches_end done all items k le before = sym (append-nil done) ∙ ap (λ xs. done ++ switch_bits xs) (sym (drop_of_length-le items le)) ∙ before
-
 -- what a case names, and those behind it, as it is read
 abbrev pub read_as : Reading → List Link → List Link → List Link
 read_as Dropped own behind = behind
@@ -83,13 +65,6 @@ case_here signal earlier items k c lt is r e =
     let behind = cases_assigns (cases_by_rules signal (constants_after signal earlier c.patterns) (cases_of (drop (k + 1) items))) in
     ap (case_bits signal earlier) front ∙ ap left_bits (case_read signal earlier c (cases_of (drop (k + 1) items)) ∙ ap (λ x. read_as x (own_assigns c) behind) (sym e))
 
--- a case is passed over
-pub case_dropped : (signal : List SigBit) (earlier after : List (List SigBit)) (items : List CaseView) (k : ℕ) (c : CaseView) → k < length items → c ≡ get_or items k c
-    → Dropped ≡ reading_of signal earlier c.patterns → after ≡ constants_after signal earlier c.patterns
-    → (done all : List WireBit) → done ++ case_bits signal earlier (drop k items) ≡ all → done ++ case_bits signal after (drop (k + 1) items) ≡ all
-case_dropped signal earlier after items k c lt is e f done all before =
-    ap (λ x. done ++ case_bits signal x (drop (k + 1) items)) f ∙ ap (λ bits. done ++ bits) (sym (case_here signal earlier items k c lt is Dropped e)) ∙ before
-
 -- a case is the last
 pub case_last : (signal : List SigBit) (earlier : List (List SigBit)) (items : List CaseView) (k : ℕ) (c : CaseView) → k < length items → c ≡ get_or items k c
     → Last ≡ reading_of signal earlier c.patterns
@@ -107,11 +82,6 @@ case_goes signal earlier after items k c lt is e f done new all made before =
     ∙ append_assoc done (left_bits (own_assigns c)) (left_bits behind)
     ∙ ap (λ bits. done ++ bits) (sym (left_bits-append (own_assigns c) behind) ∙ sym (case_here signal earlier items k c lt is Kept e))
     ∙ before
-
--- no case is left
-pub cases_end : (signal : List SigBit) (earlier : List (List SigBit)) (items : List CaseView) (k : ℕ) → length items ≤ k
-    → (done all : List WireBit) → done ++ case_bits signal earlier (drop k items) ≡ all → done ≡ all
-cases_end signal earlier items k le done all before = sym (append-nil done) ∙ ap (λ xs. done ++ case_bits signal earlier xs) (sym (drop_of_length-le items le)) ∙ before
 
 -- what is neither of two readings is the third
 pub kept_is : (r : Reading) → (r ≡ Dropped → ⊥) → (r ≡ Last → ⊥) → Kept ≡ r

@@ -17,14 +17,6 @@ use Rattle.net_index.specs.Driver.{driver_by}
 use Rattle.net_index.specs.DriverFill.{Adds, first_of, drives_of_pin, drives_of_port}
 use Rattle.net_index.specs.IndexTable.{at_bit}
 
-or-none : {T : Type 0} (o : Option T) → option_or o None ≡ o
-or-none None = refl
-or-none (Some x) = refl
-
--- nothing more
-pub first_of-none : (t : BitTable Driver) (b : WireBit) → first_of t [] b ≡ at_bit t b
-first_of-none t b = or-none (at_bit t b)
-
 -- one list and then another
 first_of-append : (o : Option Driver) (x y : Option Drive)
     → option_or (option_or o (option_map driver_by (option_map (λ (d : Drive). d.source) x))) (option_map driver_by (option_map (λ (d : Drive). d.source) y))
@@ -43,10 +35,6 @@ adds_append t mid xs ys h b =
 pub adds_next : (t mid start : BitTable Driver) (own rest left all : List Drive) → left ≡ own ++ rest → Adds t own mid
     → ((b : WireBit) → first_of t left b ≡ first_of start all b) → (b : WireBit) → first_of mid rest b ≡ first_of start all b
 adds_next t mid start own rest left all e h inv b = adds_append t mid own rest h b ∙ ap (λ ds. first_of t ds b) (sym e) ∙ inv b
-
--- nothing is left
-pub adds_all : (t start : BitTable Driver) (left all : List Drive) → left ≡ [] → ((b : WireBit) → first_of t left b ≡ first_of start all b) → Adds start all t
-adds_all t start left all e inv b = sym (first_of-none t b) ∙ ap (λ ds. first_of t ds b) (sym e) ∙ inv b
 
 -- one bit with its source
 pub put_adds : (t new : BitTable Driver) (bit : WireBit) (source : Source)
@@ -75,9 +63,6 @@ pub next_of_wire : (wire at width : ℕ) → at < width
 next_of_wire wire at width h =
     let e : width - at ≡ suc (width - (at + 1)) = omega arith in
     ap (λ n. all_by FromPort (bits_from wire at n)) e
-
-pub end_of_wire : (wire at width : ℕ) → width ≤ at → all_by FromPort (bits_from wire at (width - at)) ≡ []
-end_of_wire wire at width h = let e : width - at ≡ 0 = omega arith in ap (λ n. all_by FromPort (bits_from wire at n)) e
 
 -- what the next item of a list drives, and then those behind it
 pub next_port : (wires : List Wire) (i : ℕ) (w : Wire) → i < length wires → w ≡ get_or wires i w

@@ -14,12 +14,7 @@ use Rattle.net_index.specs.IndexWays.{IsEnd, IsFound, IsWay, first_way, found_by
 use Rattle.net_index.proofs.IndexEnds.{ends_here, ends_not, ends_on}
 use Rattle.net_index.proofs.IndexTables.{same_bit-true}
 
--- where an end was looked for, it is found
-pub end_found : (js : List Join) (b : WireBit) (o : Option SigBit) → IsEnd js (sig.Wire b) o → IsFound js b (found_by o)
-end_found js b (Some e) h = h
-end_found js b None h = h
-
--- and it is that of the next bit
+-- what is found of a bit is so of the next one
 pub found_next : (js : List Join) (bit next : WireBit) (found : Way) → source_at js bit ≡ Some (sig.Wire next) → IsFound js bit found → IsFound js next found
 found_next js bit next (To c) on h = h
 found_next js bit next (End e) on (zero, h) = absurd (let f : end_within js 0 (sig.Wire bit) ≡ None = ends_not js (sig.Wire bit) (sig.Wire next) on in cc)

@@ -1,4 +1,5 @@
-//! The bits that the trees and the rules of processes name.
+//! The bits that the trees and the rules of processes name. In the Yosys manual, "The RTL Intermediate Language (RTLIL)",
+//! the section "RTLIL::Process".
 
 ghost use Rattle.std.specs.Prelude.{◌≡◌, [], ◌++◌, ◌&&◌, not, IfOk, OnOk, flat_map};
 ghost use Rattle.rtl_ir.specs.Assigns.{case_assigns, cases_assigns, left_bits, switches_assigns};

@@ -19,7 +19,8 @@ use rtl_ir::{Module, PortTable};
 use rtl_sig::{SigBit, WireBit};
 use std::alloc::Global;
 
-/// The drivers of the bits of a module, and the ends of the ways along its connections.
+/// The drivers of the bits of a module, and the ends of the ways along its connections. In the Yosys manual, "The RTL
+/// Intermediate Language (RTLIL)", the section "RTLIL::Design and RTLIL::Module".
 #[derive(Drop)]
 pub struct Index {
     drivers: BitTable<Driver>,
@@ -27,8 +28,7 @@ pub struct Index {
 }
 
 impl Index {
-    /// The index of the module, whose cells may be instances of the modules of the table. It takes time and memory
-    /// in proportion to the module, and none of either at the calls below.
+    /// The index of the module, whose cells may be instances of the modules of the table.
     pub fn of(alloc: Global, module: &Module, ports: &PortTable) -> Result<Index, Memory>
         ensures value { IfOk result (λ index. IsIndex index (table_ports ports.now.modules) «module».now) }
     {
