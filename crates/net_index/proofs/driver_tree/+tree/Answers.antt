@@ -11,7 +11,7 @@ put_switch-returns-in-Last t c = record {
       let signal = c.as_slice.ensures.value ∙ ap (λ (s : SwitchView). s.signal) c.switch.view_is in
       let patterns = c.as_slice-in-loop-case.ensures.value ∙ ap (λ (x : CaseView). x.patterns) c.case.view_is in
       let reading : Last ≡ reading_of c.args.switch.now.signal c.loop-case.earlier.items c.case-item.result.patterns =
-          sym c.in-Last.is ∙ c.in_ok-reading.ensures.value ∙ (λ i. reading_of (signal i) c.loop-case.earlier.items (patterns i)) in
+      sym c.in-Last.is ∙ c.in_ok-reading.ensures.value ∙ (λ i. reading_of (signal i) c.loop-case.earlier.items (patterns i)) in
       case_last c.args.switch.now.signal c.loop-case.earlier.items c.deref-case-items.result.now c.loop-case.case-index c.case-item.result c.loop-case-test.true c.case-item.is reading
       c.loop-case.bits.items c.put_case.new.bits.items _ c.in_ok-put_case.ensures.ok c.loop-case.invariant
       ∙ ap (λ bits. c.args.bits.now.items ++ bits) (switch_cases c.switch.inside.cases.items c.deref-case-items.result.now _ _ c.args.switch.now c.deref-case-items.ensures.value c.switch.view_is);
@@ -22,8 +22,8 @@ put_switch-loop-case-preserved t c =
     let signal = c.as_slice.ensures.value ∙ ap (λ (s : SwitchView). s.signal) c.switch.view_is in
     let patterns = c.as_slice-in-loop-case.ensures.value ∙ ap (λ (x : CaseView). x.patterns) c.case.view_is in
     let reading : Kept ≡ reading_of c.args.switch.now.signal c.loop-case.earlier.items c.case-item.result.patterns =
-        kept_is c.in_ok-reading.reading c.in_default.not-Dropped c.in_default-reading.not-Last ∙ c.in_ok-reading.ensures.value ∙ (λ i. reading_of (signal i) c.loop-case.earlier.items (patterns i)) in
+    kept_is c.in_ok-reading.reading c.in_default.not-Dropped c.in_default-reading.not-Last ∙ c.in_ok-reading.ensures.value ∙ (λ i. reading_of (signal i) c.loop-case.earlier.items (patterns i)) in
     let after : c.read_case.new.earlier.items ≡ constants_after c.args.switch.now.signal c.loop-case.earlier.items c.case-item.result.patterns =
-        c.in_ok-reading.ensures.earlier ∙ (λ i. constants_after (signal i) c.loop-case.earlier.items (patterns i)) in
+    c.in_ok-reading.ensures.earlier ∙ (λ i. constants_after (signal i) c.loop-case.earlier.items (patterns i)) in
     case_goes c.args.switch.now.signal c.loop-case.earlier.items c.read_case.new.earlier.items c.deref-case-items.result.now c.loop-case.case-index c.case-item.result c.loop-case-test.true c.case-item.is reading after
     c.loop-case.bits.items c.put_case.new.bits.items _ c.in_ok-put_case.ensures.ok c.loop-case.invariant
