@@ -1,5 +1,5 @@
 -- Bits with one driver: only which bits they are matters, and not how often or in which order.
-use Rattle.std.proofs.Common.{◌≡◌, ℕ, Bool, true, false, cond, ◌||◌, List, [], ◌∷◌, ◌++◌, length, get_or, drop, Option, Some, None, option_map, ◌+◌, ◌<◌, suc, flat_map, refl, sym, ◌∙◌, ap, subst, add-one}
+use Rattle.std.proofs.Common.{◌≡◌, ℕ, Bool, true, false, cond, ◌||◌, List, [], ◌∷◌, ◌++◌, length, get_or, drop, Some, None, option_map, ◌+◌, ◌<◌, suc, flat_map, refl, sym, ◌∙◌, ap, subst, add-one}
 use Rattle.std.specs.Option.{option_or}
 use Rattle.std.proofs.Math.Seq.{drop-cons}
 use Rattle.rtl_sig.specs.declared.sig.WireBit.{WireBit}

@@ -10,7 +10,7 @@ use Rattle.net_index.specs.declared.index_table.BitTable.{BitTable}
 use Rattle.net_index.specs.declared.index_ways.Way.{Way}
 use Rattle.net_index.specs.declared.index_ways.Way.TheVariants.{To, End, Loop}
 use Rattle.net_index.specs.IndexTable.{at_bit}
-use Rattle.net_index.specs.IndexWays.{IsEnd, IsFound, IsWay, first_way, found_by, way_at, way_by}
+use Rattle.net_index.specs.IndexWays.{IsFound, IsWay, first_way, way_at, way_by}
 use Rattle.net_index.proofs.IndexEnds.{ends_here, ends_not, ends_on}
 use Rattle.net_index.proofs.IndexTables.{same_bit-true}
 
