@@ -1,0 +1,4 @@
+pub mod Fits
+pub mod Moving
+pub mod Growing
+pub mod Placing

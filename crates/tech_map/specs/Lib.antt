@@ -1,0 +1,2 @@
+pub mod Techmap
+pub mod InPlace
