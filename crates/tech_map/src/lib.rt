@@ -7,10 +7,12 @@ mod taken;
 
 ghost use Rattle.std.specs.Prelude.{◌≡◌, [], Err, OnOk, IfOk};
 ghost use Rattle.rtl_ir.specs.Faults.{module_faults};
-ghost use Rattle.rtl_ir.specs.Flat.Cell.{cell_shape};
+ghost use Rattle.rtl_ir.specs.Flat.Cell.{Ports, cell_shape, instances};
+ghost use Rattle.rtl_ir.specs.Ports.{ports_of};
 ghost use Rattle.rtl_ir.specs.Scope.{cells_alone};
 ghost use Rattle.rtl_ir.specs.Types.{table_ports};
 ghost use Rattle.net_index.specs.Builder.{IsInLimits, PassesLimit};
+ghost use Rattle.net_model.specs.Refine.{IsWellDriven, RefinesIn};
 ghost use Rattle.tech_map.specs.Techmap.{TechmapPassesLimit, beside, taken_kind, techmap_of, with_all_gates, with_gates};
 
 use crate::in_place::with_gates_in_place;
@@ -25,14 +27,28 @@ use std::alloc::Global;
 
 /// The module with each cell of a kind that becomes gates replaced in its place by them. The cells that
 /// are replaced count for the limits beside the gates.
-#[tactic(auto, using(crate::proofs::Growing::over_later, crate::proofs::Placing::no_fewer, crate::proofs::Placing::in_their_places))]
 pub fn apply(alloc: Global, module: &Module, ports: &PortTable) -> Result<Module, PassFault>
     requires faultless { module_faults cells_alone (table_ports ports.now.modules) «module».now ≡ [] }
     ensures exact { IfOk result (λ after. after ≡ techmap_of «module».now) }
     ensures over { result ≡ Err PassFault.Over → TechmapPassesLimit «module».now }
     ensures within { OnOk result (IsInLimits (beside «module».now)) }
+    ensures refines { IfOk result (λ after. RefinesIn «module».now after ports.now) }
+    ensures well_driven { IfOk result (λ after. (ports : Ports) → IsWellDriven ports «module».now → IsWellDriven ports after) }
+    ensures same_id { IfOk result (λ after. after.id ≡ «module».now.id) }
+    ensures same_ports { IfOk result (λ after. ports_of after.wires ≡ ports_of «module».now.wires) }
+    ensures same_instances { IfOk result (λ after. instances after.cells ≡ instances «module».now.cells) }
 {
     let _ports = ports;
+    mapped(alloc, module)
+}
+
+/// The gates go last, and then into the places of the cells that they replace.
+#[tactic(auto, using(crate::proofs::Growing::over_later, crate::proofs::Placing::no_fewer, crate::proofs::Placing::in_their_places))]
+fn mapped(alloc: Global, module: &Module) -> Result<Module, PassFault>
+    ensures exact { IfOk result (λ after. after ≡ techmap_of «module».now) }
+    ensures over { result ≡ Err PassFault.Over → TechmapPassesLimit «module».now }
+    ensures within { OnOk result (IsInLimits (beside «module».now)) }
+{
     check_limits(module)?;
     let cells = module.cells.as_slice();
     let mut builder = Builder::of(alloc, module.copy()?)?;
