@@ -59,22 +59,42 @@ fits here c kind e =
 pub library_faults : (scope : Scope) (ports : Ports) (m : Module) (earlier : List Cell) (c : Cell) (kind : CellKind) → cell_kind c ≡ Some kind → faults_by_type scope m earlier c (cell_type ports c.kind_name) ≡ faults_by_type scope m earlier c (Library kind)
 library_faults scope ports m earlier c kind own = ap (faults_by_type scope m earlier c) (type_is ports c kind own)
 
-one_fits : (scope : Scope) (m : Module) (earlier : List Cell) (c : Cell) (kind : CellKind) → faults_by_type scope m earlier c (Library kind) ≡ [] → misfit kind c ≡ None
-one_fits scope m earlier c kind e =
-    let here : Spot = spot m.id c.name in
-    let known : List Fault = fault_if (is_memory_kind kind && not scope.memories) (UnsupportedCell here) in
-    let shape : List Fault = shape_fault here (misfit kind c) in
-    let output : List Fault = output_faults here (Library kind) c.pins in
-    fits here c kind (none_right known shape (none_left (known ++ shape) output (none_left ((known ++ shape) ++ output) (memory_faults m earlier c kind) e)))
+-- a cell without faults, behind some cells of its module
+abbrev pub IsFine : Scope → Ports → Module → Cell → Type 0
+IsFine scope ports m c = (earlier : List Cell) × (faults_by_type scope m earlier c (cell_type ports c.kind_name) ≡ [])
 
-pub all_fit : (scope : Scope) (ports : Ports) (m : Module) (earlier cs : List Cell) → cell_faults scope ports m earlier cs ≡ [] → AreFit cs
-all_fit scope ports m earlier [] e c i kind own = absurd i
-all_fit scope ports m earlier (d ∷ ds) e c (inl here) kind own =
-    let first : faults_by_type scope m earlier d (cell_type ports d.kind_name) ≡ [] = none_left (faults_by_type scope m earlier d (cell_type ports d.kind_name)) (cell_faults scope ports m (earlier ++ d ∷ []) ds) e in
-    let same : cell_kind d ≡ Some kind = ap cell_kind (sym here) ∙ own in
-    subst (λ x. misfit kind x ≡ None) (sym here) (one_fits scope m earlier d kind (sym (library_faults scope ports m earlier d kind same) ∙ first))
-all_fit scope ports m earlier (d ∷ ds) e c (inr later) kind own =
-    all_fit scope ports m (earlier ++ d ∷ []) ds (none_right (faults_by_type scope m earlier d (cell_type ports d.kind_name)) (cell_faults scope ports m (earlier ++ d ∷ []) ds) e) c later kind own
+pub all_fine : (scope : Scope) (ports : Ports) (m : Module) (earlier cs : List Cell) → cell_faults scope ports m earlier cs ≡ [] → (c : Cell) → In c cs → IsFine scope ports m c
+all_fine scope ports m earlier [] e c i = absurd i
+all_fine scope ports m earlier (d ∷ ds) e c (inl here) =
+    subst (IsFine scope ports m) (sym here) (earlier, none_left (faults_by_type scope m earlier d (cell_type ports d.kind_name)) (cell_faults scope ports m (earlier ++ d ∷ []) ds) e)
+all_fine scope ports m earlier (d ∷ ds) e c (inr later) =
+    all_fine scope ports m (earlier ++ d ∷ []) ds (none_right (faults_by_type scope m earlier d (cell_type ports d.kind_name)) (cell_faults scope ports m (earlier ++ d ∷ []) ds) e) c later
+
+-- the parts of the faults of a cell of the library
+pub record HasNoCellFaults (scope : Scope) (m : Module) (earlier : List Cell) (c : Cell) (kind : CellKind) : Type 0 where
+  pub known : fault_if (is_memory_kind kind && not scope.memories) (UnsupportedCell (spot m.id c.name)) ≡ []
+  pub shape : shape_fault (spot m.id c.name) (misfit kind c) ≡ []
+  pub output : output_faults (spot m.id c.name) (Library kind) c.pins ≡ []
+
+pub no_cell_faults : (scope : Scope) (ports : Ports) (m : Module) (earlier : List Cell) (c : Cell) (kind : CellKind) → cell_kind c ≡ Some kind → faults_by_type scope m earlier c (cell_type ports c.kind_name) ≡ [] → HasNoCellFaults scope m earlier c kind
+no_cell_faults scope ports m earlier c kind own e =
+    let here : Spot = spot m.id c.name in
+    let k : List Fault = fault_if (is_memory_kind kind && not scope.memories) (UnsupportedCell here) in
+    let s : List Fault = shape_fault here (misfit kind c) in
+    let o : List Fault = output_faults here (Library kind) c.pins in
+    let all : ((k ++ s) ++ o) ++ memory_faults m earlier c kind ≡ [] = sym (library_faults scope ports m earlier c kind own) ∙ e in
+    let three : (k ++ s) ++ o ≡ [] = none_left ((k ++ s) ++ o) (memory_faults m earlier c kind) all in
+    let two : k ++ s ≡ [] = none_left (k ++ s) o three in
+    record { known = none_left k s two; shape = none_right k s two; output = none_right (k ++ s) o three }
+
+-- where cells alone are taken, none is a cell of a memory
+no_memory : (ports : Ports) (m : Module) (c : Cell) → IsFine cells_alone ports m c → (kind : CellKind) → cell_kind c ≡ Some kind → is_memory_kind kind ≡ false
+no_memory ports m c fine kind own =
+    by (is_memory_kind kind) (no_cell_faults cells_alone ports m fine.0 c kind own fine.1).known
+  where
+    by : (t : Bool) → fault_if (t && true) (UnsupportedCell (spot m.id c.name)) ≡ [] → t ≡ false
+    by false e = refl
+    by true e = absurd (cc)
 
 -- the parts of the faults of a module
 pub record HasNoFaults (scope : Scope) (ports : Ports) (m : Module) : Type 0 where
@@ -119,6 +139,8 @@ pub record IsPlain (m : Module) : Type 0 where
   pub processes : m.processes ≡ []
   pub memories : m.memories ≡ []
   pub cells : AreFit m.cells
+  -- none of the cells is one of a memory
+  pub others : (c : Cell) → In c m.cells → (kind : CellKind) → cell_kind c ≡ Some kind → is_memory_kind kind ≡ false
 
 pub plain : (ports : Ports) (m : Module) → module_faults cells_alone ports m ≡ [] → IsPlain m
 plain ports m e =
@@ -126,5 +148,7 @@ plain ports m e =
     record {
       processes = no_processes ports m [] m.processes none.processes;
       memories = no_stores m.id m.memories none.stores;
-      cells = all_fit cells_alone ports m [] m.cells none.cells;
+      cells = λ c i kind own. let fine = all_fine cells_alone ports m [] m.cells none.cells c i in
+          fits (spot m.id c.name) c kind (no_cell_faults cells_alone ports m fine.0 c kind own fine.1).shape;
+      others = λ c i. no_memory ports m c (all_fine cells_alone ports m [] m.cells none.cells c i);
     }

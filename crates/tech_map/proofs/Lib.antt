@@ -5,4 +5,6 @@ pub mod Placing
 pub mod Faultless
 pub mod Standing
 pub mod Driving
+pub mod Pins
+pub mod Forming
 pub mod Promised

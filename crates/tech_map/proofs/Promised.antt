@@ -11,9 +11,11 @@ use Rattle.rtl_ir.specs.declared.module.Module.{Module}
 use Rattle.rtl_ir.specs.declared.ports.PortTable.{PortTable}
 use Rattle.net_model.specs.Refine.{IsWellDriven, RefinesIn}
 use Rattle.net_index.specs.declared.builder_fault.PassFault.{PassFault}
+use Rattle.tech_map.specs.Stays.{StaysFaultless}
 use Rattle.tech_map.specs.Techmap.{techmap_of}
 use Rattle.tech_map.proofs.Driving.{techmap_driven}
 use Rattle.tech_map.proofs.Faultless.{IsPlain, plain}
+use Rattle.tech_map.proofs.Forming.{techmap_faultless}
 use Rattle.tech_map.proofs.Standing.{cells_alone_change, instances_stay, techmap_refines}
 
 -- of what is answered, where it is what the pass defines
@@ -34,6 +36,9 @@ module _ (m : Module) (r : Result Module PassFault) (is : IfOk r (λ after. afte
 
     pub well_driven : IfOk r (λ after. (ports : Ports) → IsWellDriven ports m → IsWellDriven ports after)
     well_driven = so (λ after. (ports : Ports) → IsWellDriven ports m → IsWellDriven ports after) (λ ports h. techmap_driven ports m fine h)
+
+    pub stays_faultless : IfOk r (StaysFaultless m)
+    stays_faultless = so (StaysFaultless m) (techmap_faultless m fine)
 
     pub same_instances : IfOk r (λ after. instances after.cells ≡ instances m.cells)
     same_instances = so (λ after. instances after.cells ≡ instances m.cells) (instances_stay m fine)

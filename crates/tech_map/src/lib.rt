@@ -13,6 +13,7 @@ ghost use Rattle.rtl_ir.specs.Scope.{cells_alone};
 ghost use Rattle.rtl_ir.specs.Types.{table_ports};
 ghost use Rattle.net_index.specs.Builder.{IsInLimits, PassesLimit};
 ghost use Rattle.net_model.specs.Refine.{IsWellDriven, RefinesIn};
+ghost use Rattle.tech_map.specs.Stays.{StaysFaultless};
 ghost use Rattle.tech_map.specs.Techmap.{TechmapPassesLimit, beside, taken_kind, techmap_of, with_all_gates, with_gates};
 
 use crate::in_place::with_gates_in_place;
@@ -34,6 +35,7 @@ pub fn apply(alloc: Global, module: &Module, ports: &PortTable) -> Result<Module
     ensures within { OnOk result (IsInLimits (beside «module».now)) }
     ensures refines { IfOk result (λ after. RefinesIn «module».now after ports.now) }
     ensures well_driven { IfOk result (λ after. (ports : Ports) → IsWellDriven ports «module».now → IsWellDriven ports after) }
+    ensures well_formed { IfOk result (StaysFaultless «module».now) }
     ensures same_id { IfOk result (λ after. after.id ≡ «module».now.id) }
     ensures same_ports { IfOk result (λ after. ports_of after.wires ≡ ports_of «module».now.wires) }
     ensures same_instances { IfOk result (λ after. instances after.cells ≡ instances «module».now.cells) }

@@ -7,6 +7,9 @@ returns-clause-refines c = promised.refines c.args.module.now c.mapped.result c.
 pub returns-clause-well_driven : goal.returns-clause-well_driven
 returns-clause-well_driven c = promised.well_driven c.args.module.now c.mapped.result c.mapped.ensures.exact c.args.ports.now c.requires.faultless
 
+pub returns-clause-well_formed : goal.returns-clause-well_formed
+returns-clause-well_formed c = promised.stays_faultless c.args.module.now c.mapped.result c.mapped.ensures.exact c.args.ports.now c.requires.faultless
+
 pub returns-clause-same_id : goal.returns-clause-same_id
 returns-clause-same_id c = promised.same_id c.args.module.now c.mapped.result c.mapped.ensures.exact
 
