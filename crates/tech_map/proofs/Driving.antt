@@ -1,5 +1,5 @@
 -- Gates drive the places that the cell drives, in the same order.
-use Rattle.std.proofs.Common.{◌≡◌, ℕ, suc, ◌+◌, true, List, [], ◌∷◌, ◌++◌, Option, Some, None, inl, inr, refl, sym, ◌∙◌, ap, subst}
+use Rattle.std.proofs.Common.{◌≡◌, ℕ, suc, ◌+◌, true, List, [], ◌∷◌, ◌++◌, Option, Some, None, refl, sym, ◌∙◌, ap, subst}
 use Rattle.std.specs.Prelude.{map}
 use Rattle.std.proofs.lemmas.List.{append-nil}
 use Rattle.cell_types.specs.declared.gate.GateKind.{GateKind}
@@ -8,8 +8,6 @@ use Rattle.cell_types.specs.declared.kind.CellKind.{CellKind}
 use Rattle.cell_types.specs.declared.kind.CellKind.TheVariants.{Gate, Word}
 use Rattle.cell_types.specs.declared.pin_name.PinName.TheVariants.{A, B, Y}
 use Rattle.cell_types.specs.declared.shape.Shape.{Shape}
-use Rattle.cell_types.specs.declared.word.BitwiseKind.{BitwiseKind}
-use Rattle.cell_types.specs.declared.word.BitwiseKind.TheVariants.{And, Or, Xor}
 use Rattle.cell_types.specs.declared.word.UnaryKind.TheVariants.{Not}
 use Rattle.cell_types.specs.declared.word.WordKind.TheVariants.{Unary, Bitwise}
 use Rattle.cell_word.specs.Values.{both_signed}
@@ -18,7 +16,7 @@ use Rattle.rtl_sig.specs.declared.sig.SigBit.{SigBit}
 use Rattle.rtl_ir.specs.Build.{Building, building_of}
 use Rattle.rtl_ir.specs.Flat.Cell.{Ports, cell_kind, cell_rows, cell_shape, cells_rows, instances, outputs}
 use Rattle.rtl_ir.specs.Flat.Driver.{Driven}
-use Rattle.rtl_ir.specs.Flat.Place.{Frame, IsOf, Path, Place}
+use Rattle.rtl_ir.specs.Flat.Place.{Frame, IsOf, Path}
 use Rattle.rtl_ir.specs.Flat.Point.{At, Constant, Point, point, points}
 use Rattle.rtl_ir.specs.Flat.Rows.{plain_rows, rows_of}
 use Rattle.rtl_ir.specs.Flat.Start.{start_of}

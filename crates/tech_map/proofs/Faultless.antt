@@ -1,10 +1,8 @@
 -- A module without faults where cells alone are taken: no process, no memory, and each cell of the library has its shape.
-use Rattle.std.proofs.Common.{◌≡◌, Bool, true, false, if◌then◌else◌, List, [], ◌∷◌, ◌++◌, Option, Some, None, inl, inr, refl, sym, ◌∙◌, ap, subst}
+use Rattle.std.proofs.Common.{◌≡◌, Bool, true, false, if◌then◌else◌, List, [], ◌∷◌, ◌++◌, Some, None, inl, inr, refl, sym, ◌∙◌, ap, subst}
 use Rattle.std.specs.Prelude.{flat_map, not, ◌&&◌}
-use Rattle.cell_types.specs.Fault.{fault_of, has_other_width, is_bad, is_wide}
-use Rattle.cell_types.specs.Kind.{kind_of}
+use Rattle.cell_types.specs.Fault.{has_other_width, is_bad, is_wide}
 use Rattle.cell_types.specs.Unsupported.{is_unsupported}
-use Rattle.cell_types.specs.declared.fault.CellFault.{CellFault}
 use Rattle.cell_types.specs.declared.fault.CellFault.TheVariants.{Bad, Wide, Width}
 use Rattle.cell_types.specs.declared.kind.CellKind.{CellKind}
 use Rattle.rtl_ir.specs.Drivers.{drives_of}
@@ -19,7 +17,7 @@ use Rattle.rtl_ir.specs.Faults.Wires.{wire_faults}
 use Rattle.rtl_ir.specs.Flat.Cell.{cell_kind}
 use Rattle.rtl_ir.specs.Parameters.{given_params}
 use Rattle.rtl_ir.specs.Scope.{Scope, cells_alone}
-use Rattle.rtl_ir.specs.Types.{CellType, Library, Ports, cell_type, type_by}
+use Rattle.rtl_ir.specs.Types.{Library, Ports, cell_type, type_by}
 use Rattle.rtl_ir.specs.declared.cell.Cell.{Cell}
 use Rattle.rtl_ir.specs.declared.module.Module.{Module}
 use Rattle.rtl_ir.specs.declared.process.Process.{Process}

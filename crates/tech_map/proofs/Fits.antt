@@ -1,10 +1,10 @@
 -- A module with few cells and bits is within the limits: its fresh names have at most nine digits.
-use Rattle.std.proofs.Common.{◌≡◌, ℕ, ◌+◌, ◌≤◌, max, Bool, true, false, List, [], ◌∷◌, ◌++◌, length, map, take, drop, if◌then◌else◌, refl, arith}
+use Rattle.std.proofs.Common.{◌≡◌, ℕ, ◌≤◌, max, Bool, true, false, List, [], ◌∷◌, length, map, take, drop, if◌then◌else◌, refl, arith}
 use Rattle.std.specs.Prelude.{◌&&◌, codes}
 use Rattle.std.specs.List.{fold}
 use Rattle.std.specs.Str.{bytes_eq}
 use Rattle.std.proofs.lemmas.Bool.{and_parts}
-use Rattle.rtl_ir.specs.Build.{building_of, digits_number, first_number, is_made_number, made_number, module_names}
+use Rattle.rtl_ir.specs.Build.{building_of, digits_number, is_made_number, made_number, module_names}
 use Rattle.rtl_ir.specs.declared.module.Module.{Module}
 use Rattle.net_index.specs.Builder.{IsInLimits}
 use Rattle.net_index.specs.Numbering.{bit_count, widths_of}

@@ -1,6 +1,6 @@
 -- A module without faults has none with gates in the places of its cells.
 use Rattle.std.proofs.Common.{◌≡◌, ℕ, suc, ◌+◌, Bool, true, false, cond, if◌then◌else◌, List, [], ◌∷◌, ◌++◌, Option, Some, None, inl, inr, ⊎_elim, refl, sym, ◌∙◌, ap, subst}
-use Rattle.std.specs.Prelude.{flat_map, map, nat_lt, ◌||◌}
+use Rattle.std.specs.Prelude.{flat_map, nat_lt, ◌||◌}
 use Rattle.std.specs.List.{fold, range_with_len}
 use Rattle.std.proofs.lemmas.Bool.{or_parts}
 use Rattle.std.proofs.lemmas.Grind.{flat_map-append}
@@ -17,7 +17,6 @@ use Rattle.cell_types.specs.declared.shape.Shape.{Shape}
 use Rattle.cell_types.specs.declared.word.BitwiseKind.{BitwiseKind}
 use Rattle.cell_types.specs.declared.word.BitwiseKind.TheVariants.{And, Or, Xor, Xnor}
 use Rattle.cell_types.specs.declared.word.UnaryKind.TheVariants.{Not}
-use Rattle.cell_types.specs.declared.word.WordKind.{WordKind}
 use Rattle.cell_types.specs.declared.word.WordKind.TheVariants.{Unary, Bitwise}
 use Rattle.cell_word.specs.Values.{both_signed}
 use Rattle.rtl_sig.specs.declared.sig.SigBit.{SigBit}
@@ -26,7 +25,6 @@ use Rattle.rtl_sig.specs.declared.sig.WireBit.{WireBit}
 use Rattle.rtl_ir.specs.Build.{Building, building_of}
 use Rattle.rtl_ir.specs.Drivers.{Drive, cell_drives, drive_count, drives_of, link_drives, port_drives, rule_drives, tree_drives}
 use Rattle.rtl_ir.specs.Fault.{Fault, BadPort, fault_if, spot}
-use Rattle.rtl_ir.specs.Faults.{module_faults}
 use Rattle.rtl_ir.specs.Faults.Bits.{bits_faults, faults_of_two}
 use Rattle.rtl_ir.specs.Faults.Cells.{cell_faults, faults_by_type, has_constant_output, is_memory_kind, misfit, shape_fault}
 use Rattle.rtl_ir.specs.Faults.Processes.{process_faults}
@@ -35,7 +33,6 @@ use Rattle.rtl_ir.specs.Scope.{Scope}
 use Rattle.rtl_ir.specs.Signals.{has_constant, is_constant, same_bit, wire_bits}
 use Rattle.rtl_ir.specs.Types.{CellType, Instance, Library, Ports, Unknown, Unsupported, cell_type, type_by}
 use Rattle.rtl_ir.specs.declared.cell.Cell.{Cell}
-use Rattle.rtl_ir.specs.declared.cell.Pin.{Pin}
 use Rattle.rtl_ir.specs.declared.module.Module.{Module}
 use Rattle.rtl_ir.specs.declared.ports.PortLine.{PortLine}
 use Rattle.rtl_ir.specs.declared.wire.Wire.{Wire}
@@ -49,7 +46,7 @@ use Rattle.map_gates.specs.Bitwise.{gate_for}
 use Rattle.map_gates.specs.Gates.{bit_at, one, pin_signal}
 use Rattle.tech_map.specs.Stays.{StaysFaultless}
 use Rattle.tech_map.specs.Techmap.{is_taken, stand_in, stand_ins, taken_kind, techmap_of, with_gates}
-use Rattle.tech_map.proofs.Faultless.{AreFit, HasNoCellFaults, HasNoFaults, IsFine, IsPlain, all_fine, library_faults, no_cell_faults, no_faults, type_is}
+use Rattle.tech_map.proofs.Faultless.{AreFit, HasNoFaults, IsFine, IsPlain, all_fine, library_faults, no_cell_faults, no_faults, type_is}
 use Rattle.tech_map.proofs.Growing.{Adds, added_are, gate_cell, gate_cells, gates_add, group, taken_is}
 use Rattle.tech_map.proofs.Pins.{bits_of, cell_drives_bits, cells_bits, no_constant, pin_bits, taken_bits}
 use Rattle.tech_map.proofs.Standing.{cells_alone_change}

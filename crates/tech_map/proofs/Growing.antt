@@ -1,5 +1,5 @@
 -- Gates are only added: all else of the module stays, and the numbers of fresh names go up.
-use Rattle.std.proofs.Common.{◌≡◌, ℕ, suc, ◌+◌, ◌<◌, ◌≤◌, Bool, true, false, List, [], ◌∷◌, ◌++◌, length, take, drop, get_or, Option, Some, None, if◌then◌else◌, refl, sym, ◌∙◌, ap, subst, arith, append_assoc, length-append}
+use Rattle.std.proofs.Common.{◌≡◌, ℕ, suc, ◌+◌, ◌<◌, ◌≤◌, Bool, true, false, List, [], ◌∷◌, ◌++◌, length, drop, get_or, Option, Some, None, if◌then◌else◌, refl, sym, ◌∙◌, ap, subst, arith, append_assoc, length-append}
 use Rattle.std.proofs.Math.Seq.{drop-append_seam, drop-cons}
 use Rattle.std.proofs.lemmas.List.{append-nil}
 use Rattle.cell_types.specs.declared.gate.GateKind.TheVariants as GateOf
@@ -7,7 +7,6 @@ use Rattle.cell_types.specs.declared.kind.CellKind.{CellKind}
 use Rattle.cell_types.specs.declared.kind.CellKind.TheVariants.{Word}
 use Rattle.cell_types.specs.declared.pin_name.PinName.TheVariants.{A, B, Y}
 use Rattle.cell_types.specs.declared.shape.Shape.{Shape}
-use Rattle.cell_types.specs.declared.word.BitwiseKind.{BitwiseKind}
 use Rattle.cell_types.specs.declared.word.BitwiseKind.TheVariants.{And, Or, Xor}
 use Rattle.cell_types.specs.declared.word.UnaryKind.TheVariants.{Not}
 use Rattle.cell_types.specs.declared.word.WordKind.TheVariants.{Unary, Bitwise}

@@ -1,12 +1,12 @@
 -- The bits that pins drive: at a cell of the library on words, those of its one pin Y.
-use Rattle.std.proofs.Common.{◌≡◌, ℕ, suc, ◌+◌, Bool, true, false, cond, if◌then◌else◌, List, [], ◌∷◌, ◌++◌, length, Option, Some, None, refl, sym, ◌∙◌, ap, arith}
+use Rattle.std.proofs.Common.{◌≡◌, ℕ, ◌+◌, Bool, true, false, cond, if◌then◌else◌, List, [], ◌∷◌, ◌++◌, Some, None, refl, ◌∙◌, ap, arith}
 use Rattle.std.specs.Prelude.{◌&&◌, ◌||◌, ◌==◌, find, flat_map, map, not}
-use Rattle.std.specs.List.{count_by, fold, list_all, list_any}
+use Rattle.std.specs.List.{count_by, fold, list_all}
 use Rattle.std.specs.Option.{option_map_or}
 use Rattle.std.specs.Str.{bytes_eq}
 use Rattle.std.proofs.lemmas.Bool.{and_parts, eqb-true, or_parts}
 use Rattle.std.proofs.lemmas.List.{append-nil}
-use Rattle.cell_types.specs.Fault.{are_params_good, are_pins_good, has_no_meaning, has_other_width, has_pin, is_bad, is_joined, is_wide}
+use Rattle.cell_types.specs.Fault.{are_params_good, are_pins_good, has_no_meaning, has_other_width, has_pin, is_joined, is_wide}
 use Rattle.cell_types.specs.PinName.{pin_text}
 use Rattle.cell_types.specs.declared.fault.CellFault.TheVariants.{Bad, Wide, Width}
 use Rattle.cell_types.specs.declared.given.PinWidth.{PinWidth}

@@ -1,13 +1,12 @@
 -- The gates of cells in a row, put into the places of the cells, are what the pass puts there.
-use Rattle.std.proofs.Common.{◌≡◌, ℕ, ◌≤◌, ◌+◌, List, [], ◌∷◌, ◌++◌, length, take, drop, Option, Some, None, refl, sym, ◌∙◌, ap, subst, arith, length-append}
+use Rattle.std.proofs.Common.{◌≡◌, ◌≤◌, ◌+◌, List, [], ◌∷◌, ◌++◌, length, take, drop, Option, Some, None, refl, sym, ◌∙◌, ap, arith, length-append}
 use Rattle.std.proofs.Math.Seq.{drop-append_seam}
 use Rattle.cell_types.specs.declared.kind.CellKind.{CellKind}
 use Rattle.rtl_ir.specs.Build.{Building, building_of}
 use Rattle.rtl_ir.specs.declared.cell.Cell.{Cell}
 use Rattle.rtl_ir.specs.declared.module.Module.{Module}
-use Rattle.map_gates.specs.Gates.{added}
-use Rattle.tech_map.specs.InPlace.{first_of, output_width, put_in, rest_of}
-use Rattle.tech_map.specs.Techmap.{beside, stand_in, stand_ins, taken_kind, techmap_of, with_all_gates, with_gates}
+use Rattle.tech_map.specs.InPlace.{first_of, put_in, rest_of}
+use Rattle.tech_map.specs.Techmap.{beside, stand_in, stand_ins, taken_kind, techmap_of, with_gates}
 use Rattle.tech_map.proofs.Growing.{Adds, added_are, all_add, gate_cells, gates_add, gates_length, group, groups}
 
 take_seam : (xs ys : List Cell) → take (length xs) (xs ++ ys) ≡ xs

@@ -16,7 +16,7 @@ use Rattle.tech_map.specs.Techmap.{techmap_of}
 use Rattle.tech_map.proofs.Driving.{techmap_driven}
 use Rattle.tech_map.proofs.Faultless.{IsPlain, plain}
 use Rattle.tech_map.proofs.Forming.{techmap_faultless}
-use Rattle.tech_map.proofs.Standing.{cells_alone_change, instances_stay, techmap_refines}
+use Rattle.tech_map.proofs.Standing.{id_stays, instances_stay, techmap_refines, wires_stay}
 
 -- of what is answered, where it is what the pass defines
 module _ (m : Module) (r : Result Module PassFault) (is : IfOk r (λ after. after ≡ techmap_of m)) where
@@ -44,7 +44,7 @@ module _ (m : Module) (r : Result Module PassFault) (is : IfOk r (λ after. afte
     same_instances = so (λ after. instances after.cells ≡ instances m.cells) (instances_stay m fine)
 
   pub same_id : IfOk r (λ after. after.id ≡ m.id)
-  same_id = so (λ after. after.id ≡ m.id) (ap (λ n. n.id) (cells_alone_change m))
+  same_id = so (λ after. after.id ≡ m.id) (id_stays m)
 
   pub same_ports : IfOk r (λ after. ports_of after.wires ≡ ports_of m.wires)
-  same_ports = so (λ after. ports_of after.wires ≡ ports_of m.wires) (ap (λ n. ports_of n.wires) (cells_alone_change m))
+  same_ports = so (λ after. ports_of after.wires ≡ ports_of m.wires) (ap ports_of (wires_stay m))

@@ -1,5 +1,5 @@
 -- The module with gates in the places of cells refines the module.
-use Rattle.std.proofs.Common.{◌≡◌, Bool, true, List, [], ◌∷◌, ◌++◌, Option, Some, None, inl, inr, ⊎_elim, refl, sym, ◌∙◌, ap, subst}
+use Rattle.std.proofs.Common.{◌≡◌, true, List, [], ◌∷◌, ◌++◌, Option, Some, None, inl, inr, ⊎_elim, refl, sym, ◌∙◌, ap, subst}
 use Rattle.cell_types.specs.Shape.{made_shape, unless}
 use Rattle.cell_types.specs.declared.kind.CellKind.{CellKind}
 use Rattle.cell_types.specs.declared.kind.CellKind.TheVariants.{Word}
@@ -30,9 +30,9 @@ use Rattle.net_model.specs.Swap.{StandsFor, with_cells}
 use Rattle.net_model.specs.Valuation.{Valuation}
 use Rattle.map_gates.proofs.Expanded.{expanded_stands}
 use Rattle.map_gates.specs.Expand.{IsMapped, IsShapeOf}
-use Rattle.tech_map.specs.Techmap.{beside, is_taken, stand_in, stand_ins, taken_kind, techmap_of, with_gates}
+use Rattle.tech_map.specs.Techmap.{is_taken, stand_in, stand_ins, taken_kind, techmap_of, with_gates}
 use Rattle.tech_map.proofs.Faultless.{AreFit, IsPlain}
-use Rattle.tech_map.proofs.Growing.{all_add, groups, taken_is}
+use Rattle.tech_map.proofs.Growing.{all_add, taken_is}
 
 -- a cell that fits its kind has the shape of its parameters
 shape_fits : (c : Cell) (kind : CellKind) → cell_kind c ≡ Some kind → misfit kind c ≡ None → IsShapeOf c (cell_shape kind c.params)
@@ -99,6 +99,12 @@ module _ (ports : Ports) (start : SigBit → Bit) (wires : List Wire) where
 -- the pass changes the cells alone
 pub cells_alone_change : (m : Module) → techmap_of m ≡ with_cells (stand_ins m.cells (building_of m)) m
 cells_alone_change m = ap (with_cells (stand_ins m.cells (building_of m))) (all_add m.cells (building_of m)).body
+
+pub id_stays : (m : Module) → (techmap_of m).id ≡ m.id
+id_stays m = ap (λ n. n.id) (cells_alone_change m)
+
+pub wires_stay : (m : Module) → (techmap_of m).wires ≡ m.wires
+wires_stay m = ap (λ n. n.wires) (cells_alone_change m)
 
 pub instances_stay : (m : Module) → IsPlain m → instances (techmap_of m).cells ≡ instances m.cells
 instances_stay m fine = sym (children (λ name. []) (start_of m.wires m.processes) m.wires m.cells (building_of m) fine.cells)
