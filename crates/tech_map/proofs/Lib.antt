@@ -6,5 +6,6 @@ pub mod Faultless
 pub mod Standing
 pub mod Driving
 pub mod Pins
+pub mod Gating
 pub mod Forming
 pub mod Promised
