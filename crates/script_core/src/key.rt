@@ -1,0 +1,94 @@
+//! What the result of a script over a module depends on.
+
+ghost use Rattle.std.specs.Prelude.{◌≡◌, ◌<◌, ◌^◌, ◌++◌, IfOk, OnOk, length, map};
+ghost use Rattle.rtl_ir.specs.Faults.{faults_within};
+ghost use Rattle.script_core.specs.declared.key.Key.{Key};
+ghost use Rattle.script_core.specs.Keys.{key_of, key_text, part_text};
+ghost use Rattle.script_core.specs.Words.{letter_of};
+
+use crate::script::Script;
+use crate::word::Word;
+use rtl_bits::{Copied, Memory, Text};
+use rtl_check::Checked;
+use rtl_ir::port_table;
+use rtl_write::{body_text, ports_text};
+use std::alloc::Global;
+
+/// All that the result of a script over a module depends on: the text of the module without its name, the
+/// text of the ports of the modules that it instantiates, and the script.
+#[derive(Drop)]
+pub struct Key {
+    pub body: Text,
+    pub ports: Text,
+    pub script: Script,
+}
+
+impl Copied for Key {
+    fn copy(&self) -> Result<Key, Memory> {
+        Ok(Key {
+            body: self.body.copy()?,
+            ports: self.ports.copy()?,
+            script: self.script.copy()?,
+        })
+    }
+}
+
+/// The key of the module at this place of the design, under the script.
+pub fn key_of(alloc: Global, design: &Checked, module: u32, script: &Script) -> Result<Key, Memory>
+    requires in_range { «module» < length design.now.design.modules }
+    ensures exact { IfOk result (λ key. key ≡ key_of design.now.design.modules «module» script.now) }
+{
+    let design = design.design();
+    let ports = port_table(alloc, design, module)?;
+    Ok(Key {
+        body: body_text(alloc, &design.modules.as_slice()[module as usize])?,
+        ports: ports_text(alloc, &ports)?,
+        script: script.copy()?,
+    })
+}
+
+/// Writes how long a part is, and the part.
+#[tactic(auto, unfolding(crate::specs::Keys::part_text))]
+fn put_part(out: &mut Text, part: &[u8]) -> Result<(), Memory>
+    ensures ok { OnOk result (out.new ≡ out.old ++ part_text part.now) }
+{
+    let length = part.len() as u64;
+    let digits = length.to_string(out.allocator())?;
+    out.extend(digits.as_bytes())?;
+    out.push(b' ')?;
+    out.extend(part)
+}
+
+/// Writes the letters of the words.
+fn put_words(out: &mut Text, words: &[Word]) -> Result<(), Memory>
+    ensures ok { OnOk result (out.new ≡ out.old ++ map letter_of words.now) }
+{
+    for word in words {
+        out.push(word.letter())?;
+    }
+    Ok(())
+}
+
+/// The text, which is shorter than 2^64: so the lengths in it can be told from one another.
+fn whole(text: Text) -> Text
+    ensures value { result ≡ text }
+    ensures short { length result < 2 ^ 64 }
+{
+    let _length = text.as_slice().len();
+    text
+}
+
+impl Key {
+    /// The key as one text, which no other key has.
+    #[tactic(auto, unfolding(crate::specs::Keys::key_text), using(crate::proofs::KeyLemmas::key_once))]
+    pub fn text(&self, alloc: Global) -> Result<Text, Memory>
+        ensures exact { IfOk result (λ text. text ≡ key_text self.now) }
+        ensures only { IfOk result (λ text. (other : Key) → key_text other ≡ text → other ≡ self.now) }
+    {
+        let mut out = Text::make(alloc);
+        put_part(&mut out, self.body.as_slice())?;
+        put_part(&mut out, self.ports.as_slice())?;
+        put_words(&mut out, self.script.as_slice())?;
+        Ok(whole(out))
+    }
+}

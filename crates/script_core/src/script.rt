@@ -1,0 +1,64 @@
+//! Scripts.
+
+ghost use Rattle.std.specs.Prelude.{◌≡◌, [], ◌∷◌, ◌++◌, IfOk, OnErr, OnOk};
+ghost use Rattle.script_core.specs.declared.word.Word.TheVariants.{Proc};
+ghost use Rattle.script_core.specs.Words.{IsScript};
+
+use crate::word::Word;
+use rtl_bits::{Copied, Memory, Seq};
+use std::alloc::Global;
+use std::marker::Model;
+
+/// The words of a script, in order: 1 to 64 words, of which the first is `proc`. Contracts see the list.
+#[derive(Drop)]
+pub struct Script {
+    words: Seq<Word>,
+}
+
+impl Model for Script {
+    ghost use Rattle.std.specs.Prelude.{List};
+    ghost use Rattle.script_core.specs.declared.word.Word.{Word};
+
+    ghost Value = { List Word };
+
+    ghost use Rattle.script_core.specs.Words.{IsScript};
+
+    ghost view = { λ s. s.words };
+
+    ghost invariant = { λ s. IsScript s.words };
+}
+
+impl Script {
+    /// The script of the word `proc` alone.
+    pub fn make(alloc: Global) -> Result<Script, Memory>
+        ensures value { IfOk result (λ script. script ≡ Proc ∷ []) }
+    {
+        let mut words = Seq::make(alloc);
+        words.push(Word::Proc)?;
+        Ok(Script { words })
+    }
+
+    /// Puts the word last. After an error the script is as before.
+    pub fn push(&mut self, word: Word) -> Result<(), Memory>
+        requires script { IsScript (self.old ++ word ∷ []) }
+        ensures ok { OnOk result (self.new ≡ self.old ++ word ∷ []) }
+        ensures err { OnErr result (self.new ≡ self.old) }
+    {
+        self.words.push(word)
+    }
+
+    /// The words in order.
+    pub fn as_slice(&self) -> &[Word]
+        ensures value { result.now ≡ self.now }
+        ensures script { IsScript self.now }
+    {
+        self.words.as_slice()
+    }
+}
+
+impl Copied for Script {
+    fn copy(&self) -> Result<Script, Memory> {
+        let words = self.words.copy()?;
+        Ok(Script { words })
+    }
+}
