@@ -1,2 +1,5 @@
 pub mod Words
 pub mod Keys
+pub mod Fold
+pub mod Built
+pub mod Cold

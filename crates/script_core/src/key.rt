@@ -2,7 +2,9 @@
 
 ghost use Rattle.std.specs.Prelude.{◌≡◌, ◌<◌, ◌^◌, ◌++◌, IfOk, OnOk, length, map};
 ghost use Rattle.rtl_ir.specs.Faults.{faults_within};
+ghost use Rattle.rtl_trip.specs.Readable.{IsReadable};
 ghost use Rattle.script_core.specs.declared.key.Key.{Key};
+ghost use Rattle.script_core.specs.Built.{IsAcceptedKey};
 ghost use Rattle.script_core.specs.Keys.{key_of, key_text, part_text};
 ghost use Rattle.script_core.specs.Words.{letter_of};
 
@@ -10,7 +12,7 @@ use crate::script::Script;
 use crate::word::Word;
 use rtl_bits::{Copied, Memory, Text};
 use rtl_check::Checked;
-use rtl_ir::port_table;
+use rtl_ir::{Design, port_table};
 use rtl_write::{body_text, ports_text};
 use std::alloc::Global;
 
@@ -37,8 +39,16 @@ impl Copied for Key {
 pub fn key_of(alloc: Global, design: &Checked, module: u32, script: &Script) -> Result<Key, Memory>
     requires in_range { «module» < length design.now.design.modules }
     ensures exact { IfOk result (λ key. key ≡ key_of design.now.design.modules «module» script.now) }
+    ensures accepted { IsReadable design.now.design → IfOk result IsAcceptedKey }
 {
-    let design = design.design();
+    key_in(alloc, design.design(), module, script)
+}
+
+/// The key of the module at this place of any design.
+fn key_in(alloc: Global, design: &Design, module: u32, script: &Script) -> Result<Key, Memory>
+    requires in_range { «module» < length design.now.modules }
+    ensures exact { IfOk result (λ key. key ≡ key_of design.now.modules «module» script.now) }
+{
     let ports = port_table(alloc, design, module)?;
     Ok(Key {
         body: body_text(alloc, &design.modules.as_slice()[module as usize])?,

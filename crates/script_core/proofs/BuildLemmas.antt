@@ -1,0 +1,111 @@
+-- What a build reads of a key.
+use Rattle.std.proofs.Common.{◌≡◌, ℕ, suc, zero, ◌<◌, List, [], ◌∷◌, length, Option, Some, None, Result, Ok, Err, inl, inr, refl, sym, ap, subst, ◌∙◌, arith}
+use Rattle.std.specs.Prelude.{slice_get, IfOk, unwrap_or, map}
+use Rattle.std.specs.List.{All}
+use Rattle.std.specs.Option.{option_map}
+use Rattle.std.proofs.lemmas.List.Elements.{All-head, All-tail}
+use Rattle.rtl_ir.specs.declared.module.Design.{Design}
+use Rattle.rtl_ir.specs.Faults.{faults_within}
+use Rattle.rtl_ir.specs.Scope.{cells_alone}
+use Rattle.rtl_trip.specs.Readable.{IsReadable}
+use Rattle.rtl_ir.specs.declared.module.Module.{Module}
+use Rattle.rtl_ir.specs.declared.ports.PortTable.{PortTable}
+use Rattle.rtl_ir.specs.Ports.{instances_of, ports_by_module, port_table_of}
+use Rattle.rtl_trip.specs.Readable.{IsReadableModule}
+use Rattle.rtl_trip.specs.PortTables.{ArePorts}
+use Rattle.rtl_trip.proofs.PortTableLemmas.{readable_table}
+use Rattle.rtl_write.specs.Text.{body_text}
+use Rattle.rtl_write.specs.Ports.{ports_text}
+use Rattle.net_model.specs.Lists.{In}
+use Rattle.script_core.specs.declared.key.Key.{Key}
+use Rattle.script_core.specs.declared.outcome.Outcome.{Outcome}
+use Rattle.script_core.specs.declared.word.Word.{Word}
+use Rattle.script_core.specs.Built.{body_name, unnamed, IsValueOf, IsAcceptedKey}
+use Rattle.script_core.specs.Cold.{table_of}
+use Rattle.script_core.specs.Fold.{fold_script, techmap_within, AfterWord, AreApplicable, IsFaultless, IsStageScript}
+use Rattle.script_core.specs.Keys.{body_text_at, key_of}
+use Rattle.script_core.proofs.Faultless.{faultless_alone}
+
+-- the script of this stage may be applied to a module without faults
+no_more : (table : PortTable) (o : Option Module) → AfterWord (AreApplicable [] table) o
+no_more table None = tt
+no_more table (Some m) = tt
+
+pub stage_applicable : (script : List Word) (table : PortTable) (m : Module) → IsStageScript script → IsFaultless table m → AreApplicable script table m
+stage_applicable script table m is h = subst (λ (s : List Word). AreApplicable s table m) (sym is) (h, (h, no_more table (techmap_within m)))
+
+-- the module at a place of a design, with its table
+pub record IsAt (modules : List Module) (at : ℕ) : Type 0 where
+  pub m : Module
+  pub member : In m modules
+  pub body : body_text_at modules at ≡ body_text m
+  pub ports : port_table_of modules at ≡ (table_of modules m).modules
+
+member_at : (ms : List Module) (at : ℕ) → at < length ms → (m : Module) × In m ms × (slice_get ms at ≡ Some m)
+member_at [] at h = absurd (omega arith)
+member_at (m ∷ ms) zero h = (m, inl refl, refl)
+member_at (m ∷ ms) (suc at) h = let more = member_at ms at (omega arith) in (more.0, inr more.1, more.2)
+
+pub module_at : (modules : List Module) (at : ℕ) → at < length modules → IsAt modules at
+module_at modules at h =
+    let found = member_at modules at h in
+    record {
+      m = found.0;
+      member = found.1;
+      body = ap (λ (o : Option Module). unwrap_or (option_map body_text o) []) found.2;
+      ports = ap (λ (o : Option Module). map ports_by_module (instances_of modules (unwrap_or (option_map (λ (m : Module). m.cells) o) []))) found.2;
+    }
+
+-- each module of a readable design is readable
+pub readable_in : (P : Module → Type 0) (ms : List Module) → All P ms → (m : Module) → In m ms → P m
+readable_in P [] all m i = absurd i
+readable_in P (n ∷ ns) all m (inl e) = subst P (sym e) (All-head P n ns all)
+readable_in P (n ∷ ns) all m (inr i) = readable_in P ns (All-tail P n ns all) m i
+
+-- what is read of the texts of an accepted key
+pub record IsRead (key : Key) (read : Module) (table : PortTable) : Type 0 where
+  pub faultless : IsFaultless table read
+  -- each module and table of these texts
+  pub only : (m : Module) (ports : PortTable) → IsReadableModule m → m.id ≡ body_name → ArePorts ports → body_text m ≡ key.body → ports_text ports ≡ key.ports → (m ≡ read) × (ports ≡ table)
+
+module _ (key : Key) (read : Module) (table : PortTable)
+    (body : (m : Module) → IsReadableModule m → key.body ≡ body_text m → read ≡ record m { id = body_name })
+    (ports : (t : PortTable) → ArePorts t → key.ports ≡ ports_text t → table ≡ t) where
+  pub read_key : IsAcceptedKey key → IsRead key read table
+  read_key is =
+      let d = is.design in
+      let here = module_at d.modules is.at is.in_range in
+      let m = here.m in
+      let readable = readable_in IsReadableModule d.modules is.readable.modules m here.member in
+      let own : read ≡ unnamed m = body m readable (ap (λ (k : Key). k.body) is.same ∙ here.body) in
+      let its : table ≡ table_of d.modules m = ports (record { modules = port_table_of d.modules is.at }) (readable_table d is.at is.readable) (ap (λ (k : Key). k.ports) is.same) ∙ ap (λ ts. record { modules = ts }) here.ports in
+      record {
+        faultless = subst (λ (t : PortTable). IsFaultless t read) (sym its) (subst (IsFaultless (table_of d.modules m)) (sym own) (faultless_alone d is.readable is.faultless m here.member body_name));
+        only = λ n t good name are b p. (same n name ∙ sym (body n good (sym b)), sym (ports t are (sym p)));
+      }
+    where
+      same : (n : Module) → n.id ≡ body_name → n ≡ record n { id = body_name }
+      same n e = (λ i. record n { id = e i })
+
+-- the fold over what was read is the value of the key
+pub value_of_key : (key : Key) (read : Module) (table : PortTable) → IsRead key read table → (outcome : Outcome) → outcome ≡ fold_script key.script table read → IsValueOf key outcome
+value_of_key key read table is outcome e = record {
+  value = λ m t good name are b p. let only = is.only m t good name are b p in e ∙ (λ i. fold_script key.script (sym only.1 i) (sym only.0 i));
+}
+
+-- .. in each answer that has one
+pub value_of_answer : {E : Type 0} (key : Key) (read : Module) (table : PortTable) → IsRead key read table → (script : List Word) → script ≡ key.script → (r : Result Outcome E) → IfOk r (λ outcome. outcome ≡ fold_script script table read) → IfOk r (λ outcome. IsValueOf key outcome)
+value_of_answer key read table is script same (Ok outcome) e = value_of_key key read table is outcome (e ∙ ap (λ (s : List Word). fold_script s table read) same)
+value_of_answer key read table is script same (Err fault) e = tt
+
+-- the key of a module of an accepted design is accepted
+pub accepted_answer : {E : Type 0} (d : Design) (at : ℕ) (script : List Word) → faults_within cells_alone d.modules ≡ [] → at < length d.modules → IsReadable d → (r : Result Key E) → IfOk r (λ key. key ≡ key_of d.modules at script) → IfOk r IsAcceptedKey
+accepted_answer d at script none inside readable (Ok key) e = record {
+  design = d;
+  at = at;
+  readable = readable;
+  faultless = none;
+  in_range = inside;
+  same = e ∙ ap (key_of d.modules at) (sym (ap (λ (k : Key). k.script) e));
+}
+accepted_answer d at script none inside readable (Err fault) e = tt

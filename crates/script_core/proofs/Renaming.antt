@@ -1,0 +1,100 @@
+-- No pass looks at the name of a module.
+use Rattle.std.proofs.Common.{◌≡◌, ℕ, suc, List, [], ◌∷◌, ◌++◌, Bool, true, false, cond, Option, Some, None, refl, ap, ◌∙◌}
+use Rattle.std.specs.Option.{option_map}
+use Rattle.cell_types.specs.declared.kind.CellKind.{CellKind}
+use Rattle.cell_types.specs.declared.kind.CellKind.TheVariants.{Word}
+use Rattle.cell_types.specs.declared.shape.Shape.{Shape}
+use Rattle.cell_types.specs.declared.word.BitwiseKind.TheVariants.{And, Or, Xor}
+use Rattle.cell_types.specs.declared.word.UnaryKind.TheVariants.{Not}
+use Rattle.cell_types.specs.declared.word.WordKind.TheVariants.{Unary, Bitwise}
+use Rattle.cell_types.specs.declared.pin_name.PinName.TheVariants.{Y}
+use Rattle.rtl_sig.specs.declared.sig.SigBit.{SigBit}
+use Rattle.rtl_ir.specs.declared.cell.Cell.{Cell}
+use Rattle.rtl_ir.specs.declared.module.Module.{Module}
+use Rattle.rtl_ir.specs.declared.ports.PortTable.{PortTable}
+use Rattle.rtl_ir.specs.Build.{Building, building_of}
+use Rattle.rtl_ir.specs.Flat.Cell.{cell_kind, cell_shape}
+use Rattle.map_gates.specs.Expand.{gates_of}
+use Rattle.map_gates.specs.Gates.{added, each_bit, pin_signal}
+use Rattle.map_gates.proofs.Adding.{puts}
+use Rattle.tech_map.specs.Techmap.{is_taken, taken_kind, with_gates, stand_in, with_all_gates, stand_ins, beside, techmap_of}
+use Rattle.tech_map.proofs.Growing.{gate_cell, taken_is}
+use Rattle.script_core.specs.declared.word.Word as words
+use Rattle.script_core.specs.declared.word.Word.TheVariants.{Proc, OptExpr, OptMerge, OptClean, Opt, Fsm, Memory, Techmap}
+use Rattle.script_core.specs.Cold.{named}
+use Rattle.script_core.specs.Fold.{is_within, techmap_within, pass_of, after_word, fold_script}
+
+module _ (id : List ℕ) where
+  -- a module under the name, and one that is added to
+  abbrev pub under : Module → Module
+  under m = record m { id = id }
+
+  abbrev renamed : Building → Building
+  renamed b = record { body = under b.body; next = b.next }
+
+  each_renamed : (cell : ℕ → ℕ → SigBit → Cell) (at : ℕ) (ys : List SigBit) (b : Building) → each_bit (puts cell) at ys (renamed b) ≡ renamed (each_bit (puts cell) at ys b)
+  each_renamed cell at [] b = refl
+  each_renamed cell at (y ∷ ys) b = each_renamed cell (suc at) ys (puts cell at y b)
+
+  kind_renamed : (kind : CellKind) → is_taken kind ≡ true → (shape : Shape) (c : Cell) (b : Building) → gates_of kind shape c (renamed b) ≡ renamed (gates_of kind shape c b)
+  kind_renamed (Word (Unary Not)) e shape c b = each_renamed (gate_cell (Word (Unary Not)) shape c) 0 (pin_signal c Y) b
+  kind_renamed (Word (Bitwise And)) e shape c b = each_renamed (gate_cell (Word (Bitwise And)) shape c) 0 (pin_signal c Y) b
+  kind_renamed (Word (Bitwise Or)) e shape c b = each_renamed (gate_cell (Word (Bitwise Or)) shape c) 0 (pin_signal c Y) b
+  kind_renamed (Word (Bitwise Xor)) e shape c b = each_renamed (gate_cell (Word (Bitwise Xor)) shape c) 0 (pin_signal c Y) b
+  kind_renamed kind e shape c b = absurd (cc)
+
+  one_renamed : (c : Cell) (b : Building) (k : Option CellKind) → taken_kind c ≡ k → with_gates k c (renamed b) ≡ renamed (with_gates k c b)
+  unfolding cell_shape
+  one_renamed c b None e = refl
+  one_renamed c b (Some kind) e = kind_renamed kind (taken_is (cell_kind c) kind e).taken (cell_shape kind c.params) c b
+
+  gates_renamed : (c : Cell) (b : Building) → with_gates (taken_kind c) c (renamed b) ≡ renamed (with_gates (taken_kind c) c b)
+  gates_renamed c b = one_renamed c b (taken_kind c) refl
+
+  all_renamed : (cs : List Cell) (b : Building) → with_all_gates cs (renamed b) ≡ renamed (with_all_gates cs b)
+  all_renamed [] b = refl
+  all_renamed (c ∷ cs) b = ap (with_all_gates cs) (gates_renamed c b) ∙ all_renamed cs (with_gates (taken_kind c) c b)
+
+  in_renamed : (c : Cell) (b : Building) (k : Option CellKind) → taken_kind c ≡ k → stand_in k c (renamed b) ≡ stand_in k c b
+  in_renamed c b None e = refl
+  in_renamed c b (Some kind) e = ap (added b) (one_renamed c b (Some kind) e)
+
+  ins_renamed : (cs : List Cell) (b : Building) → stand_ins cs (renamed b) ≡ stand_ins cs b
+  ins_renamed [] b = refl
+  ins_renamed (c ∷ cs) b = (λ i. in_renamed c b (taken_kind c) refl i ++ (ap (stand_ins cs) (gates_renamed c b) ∙ ins_renamed cs (with_gates (taken_kind c) c b)) i)
+
+  beside_renamed : (m : Module) → beside (under m) ≡ renamed (beside m)
+  beside_renamed m = all_renamed m.cells (building_of m)
+
+  pub techmap_renamed : (m : Module) → techmap_of (under m) ≡ under (techmap_of m)
+  techmap_renamed m = (λ i. record (beside_renamed m i).body { cells = ins_renamed m.cells (building_of m) i })
+
+  within_kept : (b : Building) → is_within (renamed b) ≡ is_within b
+  unfolding is_within
+  within_kept b = refl
+
+  within_renamed : (m : Module) → techmap_within (under m) ≡ option_map under (techmap_within m)
+  within_renamed m =
+      (λ i. cond ((ap is_within (beside_renamed m) ∙ within_kept (beside m)) i) (Some (techmap_renamed m i)) None) ∙ by (is_within (beside m))
+    where
+      by : (t : Bool) → cond t (Some (under (techmap_of m))) None ≡ option_map under (cond t (Some (techmap_of m)) None)
+      by true = refl
+      by false = refl
+
+  pass_renamed : (word : words.Word) (m : Module) → pass_of word (under m) ≡ option_map under (pass_of word m)
+  pass_renamed Proc m = refl
+  pass_renamed OptExpr m = refl
+  pass_renamed OptMerge m = refl
+  pass_renamed OptClean m = refl
+  pass_renamed Opt m = refl
+  pass_renamed Fsm m = refl
+  pass_renamed Memory m = refl
+  pass_renamed Techmap m = within_renamed m
+
+  pub fold_renamed : (ws : List words.Word) (table : PortTable) (m : Module) → fold_script ws table (under m) ≡ named id (fold_script ws table m)
+  fold_renamed [] table m = refl
+  fold_renamed (w ∷ ws) table m = ap (after_word w (fold_script ws table)) (pass_renamed w m) ∙ by (λ n. fold_renamed ws table n) (pass_of w m)
+    where
+      by : ((n : Module) → fold_script ws table (under n) ≡ named id (fold_script ws table n)) → (o : Option Module) → after_word w (fold_script ws table) (option_map under o) ≡ named id (after_word w (fold_script ws table) o)
+      by ih None = refl
+      by ih (Some n) = ih n

@@ -1,0 +1,38 @@
+-- What a build gives for a key.
+use Rattle.std.specs.Prelude.{◌≡◌, ◌<◌, ℕ, List, [], ◌∷◌, length}
+use Rattle.rtl_ir.specs.declared.module.Design.{Design}
+use Rattle.rtl_ir.specs.declared.module.Module.{Module}
+use Rattle.rtl_ir.specs.declared.ports.PortTable.{PortTable}
+use Rattle.rtl_ir.specs.Faults.{faults_within}
+use Rattle.rtl_ir.specs.Scope.{cells_alone}
+use Rattle.rtl_trip.specs.Readable.{IsReadable, IsReadableModule}
+use Rattle.rtl_trip.specs.PortTables.{ArePorts}
+use Rattle.rtl_write.specs.Text.{body_text}
+use Rattle.rtl_write.specs.Ports.{ports_text}
+use Rattle.script_core.specs.declared.key.Key.{Key}
+use Rattle.script_core.specs.declared.outcome.Outcome.{Outcome}
+use Rattle.script_core.specs.Fold.{fold_script}
+use Rattle.script_core.specs.Keys.{key_of}
+
+-- the name that a module has while it is built, since a body has none
+abbrev pub body_name : List ℕ
+body_name = 92 ∷ 109 ∷ []
+
+-- the module under that name
+abbrev pub unnamed : Module → Module
+unnamed m = record m { id = body_name }
+
+-- an outcome is the value of a key: what the key's script makes of each module and table of ports whose texts are the key's
+pub record IsValueOf (key : Key) (outcome : Outcome) : Type 0 where
+  pub value :
+      (m : Module) (table : PortTable) → IsReadableModule m → m.id ≡ body_name → ArePorts table →
+      body_text m ≡ key.body → ports_text table ≡ key.ports → outcome ≡ fold_script key.script table m
+
+-- the key is that of a module of a design that a text can give and that has no fault
+pub record IsAcceptedKey (key : Key) : Type 0 where
+  pub design : Design
+  pub at : ℕ
+  pub readable : IsReadable design
+  pub faultless : faults_within cells_alone design.modules ≡ []
+  pub in_range : at < length design.modules
+  pub same : key ≡ key_of design.modules at key.script

@@ -1,0 +1,62 @@
+-- What a script makes of a module, word by word.
+use Rattle.std.specs.Prelude.{◌≡◌, ◌&&◌, nat_le, Bool, List, [], ◌∷◌, length, Option, Some, None, if◌then◌else◌}
+use Rattle.rtl_ir.specs.declared.module.Module.{Module}
+use Rattle.rtl_ir.specs.declared.ports.PortTable.{PortTable}
+use Rattle.rtl_ir.specs.Build.{Building}
+use Rattle.rtl_ir.specs.Faults.{module_faults}
+use Rattle.rtl_ir.specs.Scope.{cells_alone}
+use Rattle.rtl_ir.specs.Types.{table_ports}
+use Rattle.net_index.specs.Numbering.{bit_count, widths_of}
+use Rattle.tech_map.specs.Techmap.{beside, techmap_of}
+use Rattle.script_core.specs.declared.outcome.Outcome.{Outcome}
+use Rattle.script_core.specs.declared.outcome.Outcome.TheVariants.{Done, Over}
+use Rattle.script_core.specs.declared.word.Word.{Word}
+use Rattle.script_core.specs.declared.word.Word.TheVariants.{Proc, OptExpr, OptMerge, OptClean, Opt, Fsm, Memory, Techmap}
+
+-- a module that is added to is within the limits on cells, on bits of wires and on the numbers of fresh names
+unfoldable pub is_within : Building → Bool
+is_within b = nat_le (length b.body.cells) 1048576 && (nat_le (bit_count (widths_of b.body.wires)) 4194304 && nat_le b.next 1000000000)
+
+-- `techmap`: None where the gates, beside the cells that they replace, pass a limit
+abbrev pub techmap_within : Module → Option Module
+techmap_within m = if is_within (beside m) then Some (techmap_of m) else None
+
+-- what the pass of a word makes of a module, None where that passes a limit. A module without processes is what `proc`
+-- gives; the passes of the words between are not there yet
+abbrev pub pass_of : Word → Module → Option Module
+pass_of Proc m = Some m
+pass_of OptExpr m = Some m
+pass_of OptMerge m = Some m
+pass_of OptClean m = Some m
+pass_of Opt m = Some m
+pass_of Fsm m = Some m
+pass_of Memory m = Some m
+pass_of Techmap m = techmap_within m
+
+-- the rest of a fold, behind a word that gave a module or passed a limit
+abbrev pub after_word : Word → (Module → Outcome) → Option Module → Outcome
+after_word word rest None = Over word
+after_word word rest (Some m) = rest m
+
+-- what the words make of a module, in order: the last module, or the first word whose result would pass a limit
+abbrev pub fold_script : List Word → PortTable → Module → Outcome
+fold_script [] table m = Done m
+fold_script (word ∷ words) table m = after_word word (fold_script words table) (pass_of word m)
+
+-- a module has no fault, with cells and instances alone, over the ports of a table
+abbrev pub IsFaultless : PortTable → Module → Type 0
+IsFaultless table m = module_faults cells_alone (table_ports table.modules) m ≡ []
+
+-- the rest of the words may be applied, behind a word that gave a module
+abbrev pub AfterWord : (Module → Type 0) → Option Module → Type 0
+AfterWord rest None = Unit {0}
+AfterWord rest (Some m) = rest m
+
+-- the words may be applied to a module: each one to a module without faults
+abbrev pub AreApplicable : List Word → PortTable → Module → Type 0
+AreApplicable [] table m = Unit {0}
+AreApplicable (word ∷ words) table m = IsFaultless table m × AfterWord (AreApplicable words table) (pass_of word m)
+
+-- the script of this stage: each cell of a module without processes is mapped
+abbrev pub IsStageScript : List Word → Type 0
+IsStageScript script = script ≡ Proc ∷ Techmap ∷ []

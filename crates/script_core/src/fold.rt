@@ -1,0 +1,44 @@
+//! The passes of a script, in order.
+
+ghost use Rattle.std.specs.Prelude.{◌≡◌, Err, IfOk, None, Some};
+ghost use Rattle.script_core.specs.Fold.{AreApplicable, IsFaultless, fold_script, pass_of};
+
+use crate::outcome::Outcome;
+use crate::word::Word;
+use net_index::PassFault;
+use rtl_bits::Memory;
+use rtl_ir::{Module, PortTable};
+use std::alloc::Global;
+
+/// What the pass of a word makes of the module. `Over` where that would pass a limit.
+fn pass(alloc: Global, word: Word, module: Module, ports: &PortTable) -> Result<Module, PassFault>
+    requires faultless { IsFaultless ports.now «module» }
+    ensures exact { IfOk result (λ after. pass_of word «module» ≡ Some after) }
+    ensures over { result ≡ Err PassFault.Over → pass_of word «module» ≡ None }
+{
+    match word {
+        Word::Techmap => tech_map::apply(alloc, &module, ports),
+        _ => Ok(module),
+    }
+}
+
+/// What the words make of the module, in order, up to the first word whose result would pass a limit.
+pub(crate) fn fold(
+    alloc: Global,
+    script: &[Word],
+    module: Module,
+    ports: &PortTable,
+) -> Result<Outcome, Memory>
+    requires applicable { AreApplicable script.now ports.now «module» }
+    ensures exact { IfOk result (λ outcome. outcome ≡ fold_script script.now ports.now «module») }
+{
+    let mut module = module;
+    for word in script {
+        match pass(alloc, *word, module, ports) {
+            Ok(after) => module = after,
+            Err(PassFault::Over) => return Ok(Outcome::Over(*word)),
+            Err(PassFault::Memory) => return Err(Memory),
+        }
+    }
+    Ok(Outcome::Done(module))
+}

@@ -1,0 +1,58 @@
+//! Laws of tables of ports, of builds and of cold runs. Each is the contract of a function that does nothing.
+
+ghost use Rattle.std.specs.Prelude.{◌≡◌, ℕ, List, [], Some, slice_get};
+ghost use Rattle.rtl_ir.specs.declared.module.Design.{Design};
+ghost use Rattle.rtl_ir.specs.declared.module.Module.{Module};
+ghost use Rattle.rtl_ir.specs.declared.ports.PortTable.{PortTable};
+ghost use Rattle.rtl_ir.specs.Faults.{faults_within};
+ghost use Rattle.rtl_ir.specs.Flat.Cell.{instances};
+ghost use Rattle.rtl_ir.specs.Flat.Tree.{design_ports, table_ports};
+ghost use Rattle.rtl_ir.specs.Scope.{cells_alone};
+ghost use Rattle.rtl_trip.specs.Readable.{IsReadable};
+ghost use Rattle.net_model.specs.Lists.{In};
+ghost use Rattle.net_model.specs.Refine.{AgreeOn, Refines, RefinesIn};
+ghost use Rattle.script_core.specs.declared.outcome.Outcome.{Outcome};
+ghost use Rattle.script_core.specs.declared.outcome.Outcome.TheVariants.{Done};
+ghost use Rattle.script_core.specs.declared.word.Word.{Word};
+ghost use Rattle.script_core.specs.Built.{IsValueOf, unnamed};
+ghost use Rattle.script_core.specs.Cold.{IsNetlist, cold, named, outcome_of, table_of};
+ghost use Rattle.script_core.specs.Fold.{IsFaultless, IsStageScript, fold_script};
+ghost use Rattle.script_core.specs.Keys.{key_of};
+
+/// The table of a module has the ports that the design has for each of its instances; so a module of an
+/// accepted design has no fault over its table either, whatever its name is.
+pub fn tables_have_the_ports()
+    ensures ports { (d : Design) (m : Module) → AgreeOn (table_ports (table_of d.modules m)) (design_ports d) (instances m.cells) }
+    ensures faultless { (d : Design) → IsReadable d → faults_within cells_alone d.modules ≡ [] → (m : Module) → In m d.modules →
+        IsFaultless (table_of d.modules m) (unnamed m) }
+{}
+
+/// No pass looks at the name of a module: what a script makes of it under a name is what it makes of it
+/// otherwise, under that name.
+pub fn folds_keep_names()
+    ensures { (script : List Word) (table : PortTable) (m : Module) (id : List ℕ) →
+        fold_script script table (record m { id = id }) ≡ named id (fold_script script table m) }
+{}
+
+/// The value of the key of a module is the module's outcome in the cold run, once it has its own name.
+pub fn values_are_outcomes()
+    ensures { (d : Design) (at : ℕ) (m : Module) (script : List Word) (outcome : Outcome) →
+        IsReadable d → slice_get d.modules at ≡ Some m → IsValueOf (key_of d.modules at script) outcome →
+        named m.id outcome ≡ outcome_of script d.modules m }
+{}
+
+/// Where the value of the key of a module of an accepted design is a module, this refines it, under every
+/// name that both have.
+pub fn build_refines()
+    ensures { (d : Design) (at : ℕ) (before after : Module) (script : List Word) →
+        IsReadable d → faults_within cells_alone d.modules ≡ [] → slice_get d.modules at ≡ Some before → IsStageScript script →
+        IsValueOf (key_of d.modules at script) (Done after) → (name : List ℕ) →
+        RefinesIn (record before { id = name }) (record after { id = name }) (table_of d.modules before) }
+{}
+
+/// Where the cold run of an accepted design is a netlist, this refines the design.
+pub fn cold_runs_refine()
+    ensures { (d netlist : Design) (script : List Word) →
+        IsReadable d → faults_within cells_alone d.modules ≡ [] → IsStageScript script →
+        IsNetlist (cold script d) netlist → Refines d netlist }
+{}
