@@ -1,3 +1,5 @@
+pub mod Known
+pub mod Keys
 pub mod Points
 pub mod Parts
 pub mod Within

@@ -3,6 +3,7 @@
 
 mod flat;
 mod net;
+mod places;
 
 pub use flat::flatten;
 pub use net::{Join, Logic, Net, Output, Part, Point, Storage, StoreBit, StorePins};

@@ -1,0 +1,4 @@
+pub mod Kept
+pub mod Keys
+pub mod Apart
+pub mod Results
