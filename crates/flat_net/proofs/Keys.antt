@@ -234,3 +234,10 @@ module _ (ns ms : List (List ℕ)) (fs gs : List FrameKey) (ss : List SpotKey) (
       let called : name_at ms k.name ≡ name = get_or_from_slice_get ms k.name name [] named in
       let of : name_at ms k.module_name ≡ id = get_or_from_slice_get ms k.module_name id [] named' in
       path-at ms gs (length ms) n k fits.frames there ∙ (λ i. Some (frame (called i) (of i) ∷ around i))
+
+-- no keys
+pub Fits-none : (fs : List FrameKey) (ss : List SpotKey) → length fs ≡ 0 → length ss ≡ 0 → Fits [] fs ss
+unfolding IsDistinct
+Fits-none [] [] a b = record { names_apart = tt; frames_apart = tt; frames = tt; spots = tt }
+Fits-none (f ∷ fs) ss a b = absurd (omega arith)
+Fits-none [] (s ∷ ss) a b = absurd (omega arith)

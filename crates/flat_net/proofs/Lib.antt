@@ -2,3 +2,5 @@ pub mod Kept
 pub mod Keys
 pub mod Apart
 pub mod Results
+pub mod Reading
+pub mod Adding

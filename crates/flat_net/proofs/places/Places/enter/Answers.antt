@@ -43,5 +43,5 @@ returns c =
     record {
       grows = on_ok c.number_behind.result extends;
       value = λ p path. if_ok c.number_behind.result c.number_behind.ensures.value
-      (λ n is. subst (λ n. slice_get (known_of c.intern-2.new.self c.insert_full.new.self.keys c.self.inside.spots.keys).paths n ≡ Some (frame c.args.name.now c.args.module_name.now ∷ p)) (next ∙ sym is) (stands p c.in_ok-index.index path (second _ _ c.in_ok-name.ensures.text) c.in_ok-module_name.ensures.text there));
+          (λ n is. subst (λ n. slice_get (known_of c.intern-2.new.self c.insert_full.new.self.keys c.self.inside.spots.keys).paths n ≡ Some (frame c.args.name.now c.args.module_name.now ∷ p)) (next ∙ sym is) (stands p c.in_ok-index.index path (second _ _ c.in_ok-name.ensures.text) c.in_ok-module_name.ensures.text there));
     }

@@ -1,0 +1,200 @@
+-- Numbers that stand for something go on to stand for it.
+use Rattle.std.proofs.Common.{◌≡◌, ℕ, zero, suc, ◌+◌, ◌<◌, ◌≤◌, List, [], ◌∷◌, ◌++◌, length, get_or, take, Option, Some, None, slice_get, refl, sym, ◌∙◌, ap, subst, arith, map, append_assoc}
+use Rattle.std.specs.List.{AllByRecursion}
+use Rattle.std.proofs.lemmas.Grind.{flat_map-append}
+use Rattle.std.proofs.lemmas.List.{map-append, take_more, take_all, append-nil}
+use Rattle.std.proofs.lemmas.Option.{slice_get_within, get_or_from_slice_get}
+use Rattle.rtl_sig.specs.declared.sig.SigBit.{SigBit}
+use Rattle.rtl_ir.specs.declared.wire.Wire.{Wire}
+use Rattle.rtl_ir.specs.Flat.Driver.{Driven, StorePoints, Given, Joined, Worked, Stored}
+use Rattle.rtl_ir.specs.Flat.Place.{Path, Place, wire_place}
+use Rattle.rtl_ir.specs.Flat.Point.{point, points, wire_points}
+use Rattle.rtl_ir.specs.Flat.Point as rtl
+use Rattle.flat_net.specs.declared.net.Output.{Output}
+use Rattle.flat_net.specs.declared.net.Part.{Part}
+use Rattle.flat_net.specs.declared.net.Part.TheVariants as part
+use Rattle.flat_net.specs.declared.net.Point.{Point}
+use Rattle.flat_net.specs.declared.net.Point.TheVariants.{Constant, At}
+use Rattle.flat_net.specs.declared.net.StoreBit.{StoreBit}
+use Rattle.flat_net.specs.declared.net.StorePins.{StorePins}
+use Rattle.cell_types.specs.declared.shape.Shape.{Shape}
+use Rattle.flat_net.specs.Known.{Known, Keeps, Extends}
+use Rattle.flat_net.specs.Parts.{part_rows, parts_rows, output_row, store_row, inputs_of}
+use Rattle.flat_net.specs.Points.{place_at, point_of, points_of, pins_of}
+use Rattle.flat_net.specs.Reads.{IsPoint, ArePoints, AreParts}
+use Rattle.flat_net.specs.Within.{IsPointWithin, ArePointsWithin, ArePinsWithin, IsStoreWithin, IsPartWithin, ArePartsWithin}
+use Rattle.flat_net.proofs.Kept.{Keeps-refl, get_or-Keeps, within-Keeps}
+
+pub Extends-refl : (k : Known) → Extends k k
+Extends-refl k = record { paths = Keeps-refl k.paths; places = Keeps-refl k.places }
+
+pub Extends-then : (a b c : Known) → Extends a b → Extends b c → Extends a c
+Extends-then a b c f g = record { paths = λ n x h. g.paths n x (f.paths n x h); places = λ n x h. g.places n x (f.places n x h) }
+
+-- a bit with a number is read
+pub number_read : (ps : List Place) (n : ℕ) (q : Place) → slice_get ps n ≡ Some q → IsPoint ps (At n) (rtl.At q)
+number_read ps n q h = record { is = ap rtl.At (get_or_from_slice_get ps n q _ h); within = slice_get_within ps n q h }
+
+-- more bits have a number
+
+module _ (ps qs : List Place) (keeps : Keeps ps qs) where
+  place-kept : (n : ℕ) → n < length ps → place_at qs n ≡ place_at ps n
+  place-kept n h = get_or-Keeps ps qs _ n keeps h
+
+  number-kept : (n : ℕ) → n < length ps → n < length qs
+  number-kept n h = within-Keeps ps qs n keeps h
+
+  point-kept : (x : Point) → IsPointWithin (length ps) x → point_of qs x ≡ point_of ps x
+  point-kept (Constant b) h = refl
+  point-kept (At n) h = ap rtl.At (place-kept n h)
+
+  point-within : (x : Point) → IsPointWithin (length ps) x → IsPointWithin (length qs) x
+  point-within (Constant b) h = tt
+  point-within (At n) h = number-kept n h
+
+  points-kept : (xs : List Point) → ArePointsWithin (length ps) xs → points_of qs xs ≡ points_of ps xs
+  points-kept [] h = refl
+  points-kept (x ∷ xs) h = (λ i. point-kept x h.0 i ∷ points-kept xs h.1 i)
+
+  points-within : (xs : List Point) → ArePointsWithin (length ps) xs → ArePointsWithin (length qs) xs
+  points-within [] h = tt
+  points-within (x ∷ xs) h = (point-within x h.0, points-within xs h.1)
+
+  pub IsPoint-kept : (x : Point) (q : rtl.Point) → IsPoint ps x q → IsPoint qs x q
+  IsPoint-kept x q h = record { is = point-kept x h.within ∙ h.is; within = point-within x h.within }
+
+  pub ArePoints-kept : (xs : List Point) (they : List rtl.Point) → ArePoints ps xs they → ArePoints qs xs they
+  ArePoints-kept xs they h = record { are = points-kept xs h.within ∙ h.are; within = points-within xs h.within }
+
+  pins-kept : (x : StorePins) → ArePinsWithin (length ps) x → pins_of qs x ≡ pins_of ps x
+  pins-kept x h = (λ i. record {
+    clk = point-kept x.clk h.clk i;
+    en = point-kept x.en h.en i;
+    arst = point-kept x.arst h.arst i;
+    srst = point-kept x.srst h.srst i;
+    aload = point-kept x.aload h.aload i;
+    ad = point-kept x.ad h.ad i;
+    set = point-kept x.set h.set i;
+    clr = point-kept x.clr h.clr i;
+    d = point-kept x.d h.d i;
+  })
+
+  pins-within : (x : StorePins) → ArePinsWithin (length ps) x → ArePinsWithin (length qs) x
+  pins-within x h = record {
+    clk = point-within x.clk h.clk;
+    en = point-within x.en h.en;
+    arst = point-within x.arst h.arst;
+    srst = point-within x.srst h.srst;
+    aload = point-within x.aload h.aload;
+    ad = point-within x.ad h.ad;
+    set = point-within x.set h.set;
+    clr = point-within x.clr h.clr;
+    d = point-within x.d h.d;
+  }
+
+  outputs-kept : (shape : Shape) (words others : List (List rtl.Point)) → words ≡ others → (os : List Output) → AllByRecursion (λ (o : Output). o.number < length ps) os → map (output_row qs shape words) os ≡ map (output_row ps shape others) os
+  outputs-kept shape words others same [] h = refl
+  outputs-kept shape words others same (o ∷ os) h =
+      let place = place-kept o.number h.0 in
+      let rest = outputs-kept shape words others same os h.1 in
+      (λ i. record { place = place i; driver = Worked shape (same i) o.at } ∷ rest i)
+
+  outputs-within : (os : List Output) → AllByRecursion (λ (o : Output). o.number < length ps) os → AllByRecursion (λ (o : Output). o.number < length qs) os
+  outputs-within [] h = tt
+  outputs-within (o ∷ os) h = (number-kept o.number h.0, outputs-within os h.1)
+
+  bits-kept : (shape : Shape) (bs : List StoreBit) → AllByRecursion (IsStoreWithin (length ps)) bs → map (store_row qs shape) bs ≡ map (store_row ps shape) bs
+  bits-kept shape [] h = refl
+  bits-kept shape (b ∷ bs) h =
+      let place = place-kept b.number h.0.0 in
+      let pins = pins-kept b.pins h.0.1 in
+      let rest = bits-kept shape bs h.1 in
+      (λ i. record { place = place i; driver = Stored b.start shape b.at (pins i) (place i) } ∷ rest i)
+
+  bits-within : (bs : List StoreBit) → AllByRecursion (IsStoreWithin (length ps)) bs → AllByRecursion (IsStoreWithin (length qs)) bs
+  bits-within [] h = tt
+  bits-within (b ∷ bs) h = ((number-kept b.number h.0.0, pins-within b.pins h.0.1), bits-within bs h.1)
+
+  part-kept : (x : Part) → IsPartWithin (length ps) x → part_rows qs x ≡ part_rows ps x
+  part-kept (part.Given o) h = let place = place-kept o.number h in (λ i. record { place = place i; driver = Given o.at } ∷ [])
+  part-kept (part.Joined j) h =
+      let place = place-kept j.to h.0 in
+      let from = point-kept j.from h.1 in
+      (λ i. record { place = place i; driver = Joined (from i) } ∷ [])
+  part-kept (part.Logic c) h =
+      let a = points-kept c.value.a h.a in
+      let b = points-kept c.value.b h.b in
+      let s = points-kept c.value.s h.s in
+      let inputs : inputs_of qs c.value ≡ inputs_of ps c.value = (λ i. a i ∷ b i ∷ s i ∷ []) in
+      outputs-kept c.value.shape (inputs_of qs c.value) (inputs_of ps c.value) inputs c.value.outputs h.outputs
+  part-kept (part.Storage c) h = bits-kept c.value.shape c.value.bits h
+
+  part-within : (x : Part) → IsPartWithin (length ps) x → IsPartWithin (length qs) x
+  part-within (part.Given o) h = number-kept o.number h
+  part-within (part.Joined j) h = (number-kept j.to h.0, point-within j.from h.1)
+  part-within (part.Logic c) h = record {
+    a = points-within c.value.a h.a;
+    b = points-within c.value.b h.b;
+    s = points-within c.value.s h.s;
+    outputs = outputs-within c.value.outputs h.outputs;
+  }
+  part-within (part.Storage c) h = bits-within c.value.bits h
+
+  parts-kept : (xs : List Part) → ArePartsWithin (length ps) xs → parts_rows qs xs ≡ parts_rows ps xs
+  parts-kept [] h = refl
+  parts-kept (x ∷ xs) h = (λ i. part-kept x h.0 i ++ parts-kept xs h.1 i)
+
+  parts-within : (xs : List Part) → ArePartsWithin (length ps) xs → ArePartsWithin (length qs) xs
+  parts-within [] h = tt
+  parts-within (x ∷ xs) h = (part-within x h.0, parts-within xs h.1)
+
+  pub AreParts-kept : (xs : List Part) (rows : List Driven) → AreParts ps xs rows → AreParts qs xs rows
+  AreParts-kept xs rows h = record { are = parts-kept xs h.within ∙ h.are; within = parts-within xs h.within }
+
+-- one more at the end
+
+all_end : {A : Type 0} (P : A → Type 0) (xs : List A) (y : A) → AllByRecursion P xs → P y → AllByRecursion P (xs ++ y ∷ [])
+all_end P [] y h p = (p, tt)
+all_end P (x ∷ xs) y h p = (h.0, all_end P xs y h.1 p)
+
+pub ArePoints-none : (ps : List Place) → ArePoints ps [] []
+ArePoints-none ps = record { are = refl; within = tt }
+
+pub ArePoints-end : (ps : List Place) (xs : List Point) (they : List rtl.Point) (x : Point) (it : rtl.Point) → ArePoints ps xs they → IsPoint ps x it → ArePoints ps (xs ++ x ∷ []) (they ++ it ∷ [])
+ArePoints-end ps xs they x it h k = record {
+  are = map-append (point_of ps) xs (x ∷ []) ∙ (λ i. h.are i ++ k.is i ∷ []);
+  within = all_end (IsPointWithin (length ps)) xs x h.within k.within;
+}
+
+-- the next point is read, over more bits
+pub ArePoints-next : (ps qs : List Place) (xs ys : List Point) (they all : List rtl.Point) (x : Point) (it : rtl.Point) → Keeps ps qs → ArePoints ps xs they → IsPoint qs x it
+    → ys ≡ xs ++ x ∷ [] → all ≡ they ++ it ∷ [] → ArePoints qs ys all
+ArePoints-next ps qs xs ys they all x it keeps h k e f = rw (e, f) (ArePoints-end qs xs they x it (ArePoints-kept ps qs keeps xs they h) k)
+
+pub AreParts-end : (ps : List Place) (xs : List Part) (rows : List Driven) (x : Part) (more : List Driven) → AreParts ps xs rows → part_rows ps x ≡ more → IsPartWithin (length ps) x → AreParts ps (xs ++ x ∷ []) (rows ++ more)
+AreParts-end ps xs rows x more h e w = record {
+  are = flat_map-append (part_rows ps) xs (x ∷ []) ∙ (λ i. h.are i ++ (append-nil (part_rows ps x) ∙ e) i);
+  within = all_end (IsPartWithin (length ps)) xs x h.within w;
+}
+
+-- the definitions, one more at the end
+
+points-append : (p : Path) (wires : List Wire) (xs ys : List SigBit) → points p wires (xs ++ ys) ≡ points p wires xs ++ points p wires ys
+points-append p wires [] ys = refl
+points-append p wires (x ∷ xs) ys = ap (λ qs. point p wires x ∷ qs) (points-append p wires xs ys)
+
+pub points-more : (p : Path) (wires : List Wire) (signal : List SigBit) (i : ℕ) (d : SigBit) → i < length signal
+    → points p wires (take (i + 1) signal) ≡ points p wires (take i signal) ++ point p wires (get_or signal i d) ∷ []
+points-more p wires signal i d h = ap (points p wires) (take_more signal i d h) ∙ points-append p wires (take i signal) (get_or signal i d ∷ [])
+
+pub wire_points-more : (p : Path) (name : List ℕ) (at n : ℕ) → wire_points p name at (n + 1) ≡ wire_points p name at n ++ rtl.At (wire_place p name (at + n)) ∷ []
+wire_points-more p name at zero = let e : at + 0 ≡ at = omega arith in rw e refl
+wire_points-more p name at (suc n) =
+    let next : suc at + n ≡ at + suc n = omega arith in
+    let step : suc n + 1 ≡ suc (n + 1) = omega arith in
+    rw step (ap (λ qs. rtl.At (wire_place p name at) ∷ qs) (wire_points-more p name (suc at) n ∙ ap (λ k. wire_points p name (suc at) n ++ rtl.At (wire_place p name k) ∷ []) next))
+
+pub wire_points-next : (p : Path) (name : List ℕ) (n : ℕ) → wire_points p name 0 (n + 1) ≡ wire_points p name 0 n ++ rtl.At (wire_place p name n) ∷ []
+wire_points-next p name n =
+    let here : 0 + n ≡ n = omega arith in
+    subst (λ k. wire_points p name 0 (n + 1) ≡ wire_points p name 0 n ++ rtl.At (wire_place p name k) ∷ []) here (wire_points-more p name 0 n)

@@ -1,0 +1,25 @@
+-- Numbers that all stand for something.
+use Rattle.std.specs.Prelude.{◌≡◌, List, length}
+use Rattle.rtl_ir.specs.Flat.Driver.{Driven}
+use Rattle.rtl_ir.specs.Flat.Place.{Place}
+use Rattle.rtl_ir.specs.Flat.Point as rtl
+use Rattle.flat_net.specs.declared.net.Part.{Part}
+use Rattle.flat_net.specs.declared.net.Point.{Point}
+use Rattle.flat_net.specs.Parts.{parts_rows}
+use Rattle.flat_net.specs.Points.{point_of, points_of}
+use Rattle.flat_net.specs.Within.{IsPointWithin, ArePointsWithin, ArePartsWithin}
+
+-- what is read is this constant or numbered bit
+pub record IsPoint (ps : List Place) (point : Point) (it : rtl.Point) : Type 0 where
+  pub is : point_of ps point ≡ it
+  pub within : IsPointWithin (length ps) point
+
+-- the same of several
+pub record ArePoints (ps : List Place) (points : List Point) (they : List rtl.Point) : Type 0 where
+  pub are : points_of ps points ≡ they
+  pub within : ArePointsWithin (length ps) points
+
+-- the parts are these rows of numbered bits
+pub record AreParts (ps : List Place) (parts : List Part) (rows : List Driven) : Type 0 where
+  pub are : parts_rows ps parts ≡ rows
+  pub within : ArePartsWithin (length ps) parts
