@@ -73,24 +73,23 @@ joins-take (suc n) (x ∷ xs) [] h = refl
 joins-take (suc n) (rtl.At q ∷ xs) (y ∷ ys) h = ap (λ rows. record { place = q; driver = Joined y } ∷ rows) (joins-take n xs ys (omega arith))
 joins-take (suc n) (rtl.Constant b ∷ xs) (y ∷ ys) h = joins-take n xs ys (omega arith)
 
-points_of-take : (ps : List Place) (n : ℕ) (xs : List Point) → points_of ps (take n xs) ≡ take n (points_of ps xs)
+pub points_of-take : (ps : List Place) (n : ℕ) (xs : List Point) → points_of ps (take n xs) ≡ take n (points_of ps xs)
 points_of-take ps zero xs = refl
 points_of-take ps (suc n) [] = refl
 points_of-take ps (suc n) (x ∷ xs) = ap (λ qs. point_of ps x ∷ qs) (points_of-take ps n xs)
 
-within-take : (count n : ℕ) (xs : List Point) → ArePointsWithin count xs → ArePointsWithin count (take n xs)
+pub within-take : (count n : ℕ) (xs : List Point) → ArePointsWithin count xs → ArePointsWithin count (take n xs)
 within-take count zero xs h = tt
 within-take count (suc n) [] h = tt
 within-take count (suc n) (x ∷ xs) h = (h.0, within-take count n xs h.1)
 
-within-before : (count : ℕ) (xs ys : List Point) → ArePointsWithin count (xs ++ ys) → ArePointsWithin count xs
+pub within-before : (count : ℕ) (xs ys : List Point) → ArePointsWithin count (xs ++ ys) → ArePointsWithin count xs
 within-before count [] ys h = tt
 within-before count (x ∷ xs) ys h = (h.0, within-before count xs ys h.1)
 
-within-behind : (count : ℕ) (xs ys : List Point) → ArePointsWithin count (xs ++ ys) → ArePointsWithin count ys
+pub within-behind : (count : ℕ) (xs ys : List Point) → ArePointsWithin count (xs ++ ys) → ArePointsWithin count ys
 within-behind count [] ys h = h
 within-behind count (x ∷ xs) ys h = within-behind count xs ys h.1
-
 
 pub Joins-none : (old : List Part) → Joins old old [] []
 Joins-none old = record { rows = λ ps. sym (append-nil (parts_rows ps old)); within = λ count l r h. h }
@@ -147,3 +146,10 @@ module _ {X : Type 0} (f : List X → List Driven) (here : X → List Driven) (e
   Leads-last b i h l =
       let left : drop i xs ≡ [] = drop_of_length-le xs h in
       Leads-end a b all (subst (Leads a b all) (ap f left ∙ none) l)
+
+-- a part more, over more bits
+pub Adds-part : (a b : Builder) (x : Part) (rows : List Driven) → Extends a.places b.places → b.parts.items ≡ a.parts.items ++ x ∷ [] → part_rows b.places.places x ≡ rows → IsPartWithin (length b.places.places) x → Adds a b rows
+Adds-part a b x rows e put are within = record {
+  numbers = e;
+  parts = λ before h. rw put (AreParts-end b.places.places a.parts.items before x rows (AreParts-kept a.places.places b.places.places e.places a.parts.items before h) are within);
+}

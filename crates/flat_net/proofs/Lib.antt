@@ -4,3 +4,5 @@ pub mod Apart
 pub mod Results
 pub mod Reading
 pub mod Adding
+pub mod Chars
+pub mod Celling

@@ -8,7 +8,7 @@ use Rattle.rtl_sig.specs.declared.sig.SigBit.{SigBit}
 use Rattle.rtl_ir.specs.declared.wire.Wire.{Wire}
 use Rattle.rtl_ir.specs.Flat.Driver.{Driven, StorePoints, Given, Joined, Worked, Stored}
 use Rattle.rtl_ir.specs.Flat.Place.{Path, Place, wire_place}
-use Rattle.rtl_ir.specs.Flat.Point.{point, points, wire_points}
+use Rattle.rtl_ir.specs.Flat.Point.{point, points, point_at, wire_points}
 use Rattle.rtl_ir.specs.Flat.Point as rtl
 use Rattle.flat_net.specs.declared.net.Output.{Output}
 use Rattle.flat_net.specs.declared.net.Part.{Part}
@@ -18,6 +18,7 @@ use Rattle.flat_net.specs.declared.net.Point.TheVariants.{Constant, At}
 use Rattle.flat_net.specs.declared.net.StoreBit.{StoreBit}
 use Rattle.flat_net.specs.declared.net.StorePins.{StorePins}
 use Rattle.cell_types.specs.declared.shape.Shape.{Shape}
+use Rattle.flat_net.specs.Cells.{listed_point}
 use Rattle.flat_net.specs.Known.{Known, Keeps, Extends}
 use Rattle.flat_net.specs.Parts.{part_rows, parts_rows, output_row, store_row, inputs_of}
 use Rattle.flat_net.specs.Points.{place_at, point_of, points_of, pins_of}
@@ -66,7 +67,7 @@ module _ (ps qs : List Place) (keeps : Keeps ps qs) where
   pub ArePoints-kept : (xs : List Point) (they : List rtl.Point) → ArePoints ps xs they → ArePoints qs xs they
   ArePoints-kept xs they h = record { are = points-kept xs h.within ∙ h.are; within = points-within xs h.within }
 
-  pins-kept : (x : StorePins) → ArePinsWithin (length ps) x → pins_of qs x ≡ pins_of ps x
+  pub pins-kept : (x : StorePins) → ArePinsWithin (length ps) x → pins_of qs x ≡ pins_of ps x
   pins-kept x h = (λ i. record {
     clk = point-kept x.clk h.clk i;
     en = point-kept x.en h.en i;
@@ -79,7 +80,7 @@ module _ (ps qs : List Place) (keeps : Keeps ps qs) where
     d = point-kept x.d h.d i;
   })
 
-  pins-within : (x : StorePins) → ArePinsWithin (length ps) x → ArePinsWithin (length qs) x
+  pub pins-within : (x : StorePins) → ArePinsWithin (length ps) x → ArePinsWithin (length qs) x
   pins-within x h = record {
     clk = point-within x.clk h.clk;
     en = point-within x.en h.en;
@@ -198,3 +199,12 @@ pub wire_points-next : (p : Path) (name : List ℕ) (n : ℕ) → wire_points p 
 wire_points-next p name n =
     let here : 0 + n ≡ n = omega arith in
     subst (λ k. wire_points p name 0 (n + 1) ≡ wire_points p name 0 n ++ rtl.At (wire_place p name k) ∷ []) here (wire_points-more p name 0 n)
+
+-- a point of a list is read
+pub listed_read : (ps : List Place) (xs : List Point) (they : List rtl.Point) (at : ℕ) → ArePoints ps xs they → IsPoint ps (listed_point xs at) (point_at they at)
+listed_read ps xs they at h = subst (λ qs. IsPoint ps (listed_point xs at) (point_at qs at)) h.are (each xs at h.within)
+  where
+    each : (xs : List Point) (at : ℕ) → ArePointsWithin (length ps) xs → IsPoint ps (listed_point xs at) (point_at (points_of ps xs) at)
+    each [] at w = record { is = refl; within = tt }
+    each (x ∷ xs) zero w = record { is = refl; within = w.0 }
+    each (x ∷ xs) (suc at) w = each xs at w.1

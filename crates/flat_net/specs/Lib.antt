@@ -4,5 +4,6 @@ pub mod Points
 pub mod Parts
 pub mod Within
 pub mod Reads
+pub mod Cells
 pub mod Adds
 pub mod Net

@@ -48,8 +48,12 @@ impl Builder {
         ensures rows { (p : Path) → slice_get self.old.places.paths path ≡ Some p →
             OnOk result (Adds self.old self.new (joins (points p wires.now link.now.left) (points p wires.now link.now.right))) }
     {
-        let left = self.places.points(alloc, path, wires, link.left.as_slice())?;
-        let right = self.places.points(alloc, path, wires, link.right.as_slice())?;
+        let left = self
+            .places
+            .points(alloc, path, wires, link.left.as_slice())?;
+        let right = self
+            .places
+            .points(alloc, path, wires, link.right.as_slice())?;
         self.join(left.as_slice(), right.as_slice())
     }
 

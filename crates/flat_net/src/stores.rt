@@ -1,0 +1,95 @@
+//! The parts of storage cells.
+
+ghost use Rattle.std.specs.Prelude.{◌≡◌, ◌<◌, ℕ, List, [], ◌∷◌, Some, IfOk, OnOk, length, slice_get};
+ghost use Rattle.rtl_bits.specs.declared.bit.Bit.{Bit};
+ghost use Rattle.rtl_sig.specs.declared.sig.SigBit.{SigBit};
+ghost use Rattle.rtl_ir.specs.declared.wire.Wire.{Wire};
+ghost use Rattle.rtl_ir.specs.Flat.Cell.{cell_shape, stored_rows};
+ghost use Rattle.rtl_ir.specs.Flat.Driver.{StorePoints};
+ghost use Rattle.rtl_ir.specs.Flat.Place.{Path};
+ghost use Rattle.rtl_ir.specs.Flat.Start.{start_of};
+ghost use Rattle.flat_net.specs.Adds.{Adds};
+ghost use Rattle.flat_net.specs.Cells.{AreReads, PutsStores, starts_of};
+ghost use Rattle.flat_net.specs.Known.{Extends};
+
+use crate::builder::Builder;
+use crate::net::{Part, Point, Storage, StoreBit};
+use crate::reads::Reads;
+use crate::shapes::shape;
+use crate::signals::signal_at;
+use crate::starts::start;
+use cell_types::{CellKind, PinName};
+use rtl_bits::{Bit, Bits, Memory, Seq};
+use rtl_ir::{Cell, Wire};
+use rtl_sig::SigBit;
+use std::alloc::Global;
+
+impl Builder {
+    /// A storage cell of this kind, of which the bits read this.
+    pub(crate) fn add_store(
+        &mut self,
+        alloc: Global,
+        path: u32,
+        wires: &[Wire],
+        starts: &[Bits],
+        cell: &Cell,
+        kind: CellKind,
+        reads: &Reads,
+    ) -> Result<(), Memory>
+        requires in_range { path < length self.old.places.paths }
+        ensures grows { OnOk result (Extends self.old.places self.new.places) }
+        ensures rows { (p : Path) → slice_get self.old.places.paths path ≡ Some p → starts.now ≡ starts_of wires.now →
+            (they : ℕ → StorePoints) → AreReads self.old.places.places reads.now they →
+            OnOk result (Adds self.old self.new (stored_rows (start_of wires.now []) p wires.now cell.now.pins (cell_shape kind cell.now.params) they)) }
+    {
+        let signal = signal_at(cell.pins.as_slice(), PinName::Q.text());
+        let points = self.places.points(alloc, path, wires, signal)?;
+        let storage = Storage {
+            shape: shape(alloc, cell, kind)?,
+            bits: store_bits(alloc, starts, signal, points.as_slice(), reads)?,
+        };
+        self.parts.push(Part::Storage(Box::new(alloc, storage)?))?;
+        Ok(())
+    }
+}
+
+/// The bits that a storage cell keeps. More than 2^32 are taken for want of memory.
+fn store_bits(
+    alloc: Global,
+    starts: &[Bits],
+    signal: &[SigBit],
+    points: &[Point],
+    reads: &Reads,
+) -> Result<Seq<StoreBit>, Memory>
+    ensures value { (wires : List Wire) → starts.now ≡ starts_of wires →
+        IfOk result (λ bits. PutsStores (start_of wires []) reads.now 0 [] bits signal.now points.now) }
+{
+    let mut bits = Vec::with_capacity(alloc, signal.len())?;
+    for at in 0..signal.len().min(points.len()) {
+        let start = start(starts, signal[at]);
+        put_store(&mut bits, start, points[at], at, reads)?;
+    }
+    Ok(Seq::from_vec(bits))
+}
+
+/// The bit at a place of a storage cell, where it is no constant.
+fn put_store(
+    bits: &mut Vec<StoreBit>,
+    start: Bit,
+    point: Point,
+    at: usize,
+    reads: &Reads,
+) -> Result<(), Memory>
+    ensures value { (begins : SigBit → Bit) (bit : SigBit) → start ≡ begins bit →
+        OnOk result (PutsStores begins reads.now at bits.old.items bits.new.items (bit ∷ []) (point ∷ [])) }
+{
+    if let Point::At(number) = point {
+        bits.push(StoreBit {
+            number,
+            at: u32::try_from(at).ok().ok_or(Memory)?,
+            start,
+            pins: reads.at(at),
+        })?;
+    }
+    Ok(())
+}
