@@ -126,13 +126,18 @@ Adds-joins a b left right n places end j lefts rights l r =
     }
 
 -- what is read at two moments is joined
-pub joined : (a b : Builder) (one two : Known) (left right ls rs : List Point) (lefts rights : List rtl.Point) → Extends a.places one → Extends one two → ArePoints one.places left lefts → ArePoints two.places right rights
-    → ls ≡ left → rs ≡ right → {E : Type 0} (r : Result (Unit {0}) E)
-    → ((ms ns : List rtl.Point) → ArePoints two.places ls ms → ArePoints two.places rs ns → OnOk r (Adds (record { places = two; parts = a.parts }) b (joins ms ns))) → OnOk r (Adds a b (joins lefts rights))
-joined a b one two left right ls rs lefts rights f g l k e h r call =
-    let here : ArePoints two.places ls lefts = subst (λ xs. ArePoints two.places xs lefts) (sym e) (ArePoints-kept one.places two.places g.places left lefts l) in
+pub joined : (f : List rtl.Point → List rtl.Point → List Driven) (a b : Builder) (one two : Known) (left right ls rs : List Point) (lefts rights : List rtl.Point) → Extends a.places one → Extends one two
+    → ArePoints one.places left lefts → ArePoints two.places right rights → ls ≡ left → rs ≡ right → {E : Type 0} (r : Result (Unit {0}) E)
+    → ((ms ns : List rtl.Point) → ArePoints two.places ls ms → ArePoints two.places rs ns → OnOk r (Adds (record { places = two; parts = a.parts }) b (f ms ns))) → OnOk r (Adds a b (f lefts rights))
+joined f a b one two left right ls rs lefts rights g g' l k e h r call =
+    let here : ArePoints two.places ls lefts = subst (λ xs. ArePoints two.places xs lefts) (sym e) (ArePoints-kept one.places two.places g'.places left lefts l) in
     let there : ArePoints two.places rs rights = subst (λ xs. ArePoints two.places xs rights) (sym h) k in
-    if_ok r (call lefts rights here there) (λ _ added. Adds-then a (record { places = two; parts = a.parts }) b [] (joins lefts rights) (Adds-numbers a _ (Extends-then _ _ _ f g) refl) added)
+    if_ok r (call lefts rights here there) (λ _ added. Adds-then a (record { places = two; parts = a.parts }) b [] (f lefts rights) (Adds-numbers a _ (Extends-then _ _ _ g g') refl) added)
+
+any_default : {X : Type 0} (xs : List X) (i : ℕ) (d e : X) → i < length xs → get_or xs i d ≡ get_or xs i e
+any_default [] i d e h = absurd (omega arith)
+any_default (x ∷ xs) zero d e h = refl
+any_default (x ∷ xs) (suc i) d e h = any_default xs i d e (omega arith)
 
 -- rows of a list, item by item
 module _ {X : Type 0} (f : List X → List Driven) (here : X → List Driven) (each : (x : X) (xs : List X) → f (x ∷ xs) ≡ here x ++ f xs) (none : f [] ≡ []) (xs : List X) (a : Builder) (all : List Driven) where
@@ -141,6 +146,10 @@ module _ {X : Type 0} (f : List X → List Driven) (here : X → List Driven) (e
       let left : drop i xs ≡ x ∷ drop (i + 1) xs = drop-cons xs i x h ∙ (λ j. sym is j ∷ drop (sym (add-one i) j) xs) in
       let whole : f (drop i xs) ≡ here x ++ f (drop (i + 1) xs) = ap f left ∙ each x (drop (i + 1) xs) in
       Leads-next a b c all (here x) (f (drop (i + 1) xs)) (subst (Leads a b all) whole l) k
+
+  -- the same of an item that is read by any default
+  pub Leads-read : (b c : Builder) (i : ℕ) (d : X) → i < length xs → Leads a b all (f (drop i xs)) → Adds b c (here (get_or xs i d)) → Leads a c all (f (drop (i + 1) xs))
+  Leads-read b c i d h l k = Leads-item b c i (get_or xs i d) h (any_default xs i d (get_or xs i d) h) l k
 
   pub Leads-last : (b : Builder) (i : ℕ) → length xs ≤ i → Leads a b all (f (drop i xs)) → Adds a b all
   Leads-last b i h l =

@@ -172,10 +172,12 @@ pub storage_part : (ps : List Place) (box : Box Storage) (c : Storage) (shape : 
     → box.value ≡ c → c.shape ≡ shape → AreReads ps reads they → PutsStores start reads 0 [] c.bits signal points → signal ≡ bits → points ≡ read → ArePoints ps read qs
     → (part_rows ps (part.Storage box) ≡ stores start shape they bits qs 0) × IsPartWithin (length ps) (part.Storage box)
 storage_part ps box c shape start reads they signal bits points read qs e f r put same same' h =
-    let within = put.within (length ps) r.within (subst (ArePointsWithin (length ps)) (sym same') h.within) tt in
-    (ap (λ (c : Storage). map (store_row ps c.shape) c.bits) e
-    ∙ put.rows ps c.shape
-    ∙ (λ i. stores start (f i) (λ at. r.are at i) (same i) ((ap (points_of ps) same' ∙ h.are) i) 0), subst (λ (c : Storage). AllByRecursion (IsStoreWithin (length ps)) c.bits) (sym e) within)
+    let within = put.within (length ps) r.within (subst (ArePointsWithin (length ps)) (sym same') h.within) tt in (
+      ap (λ (c : Storage). map (store_row ps c.shape) c.bits) e
+          ∙ put.rows ps c.shape
+          ∙ (λ i. stores start (f i) (λ at. r.are at i) (same i) ((ap (points_of ps) same' ∙ h.are) i) 0),
+      subst (λ (c : Storage). AllByRecursion (IsStoreWithin (length ps)) c.bits) (sym e) within,
+    )
 
 pub AreReads-kept : (ps qs : List Place) (reads : Reads) (they : ℕ → StorePoints) → Keeps ps qs → AreReads ps reads they → AreReads qs reads they
 AreReads-kept ps qs reads they keeps h = record {

@@ -6,3 +6,5 @@ pub mod Reading
 pub mod Adding
 pub mod Chars
 pub mod Celling
+pub mod Tabling
+pub mod Moduling

@@ -6,4 +6,5 @@ pub mod Within
 pub mod Reads
 pub mod Cells
 pub mod Adds
+pub mod Tables
 pub mod Net

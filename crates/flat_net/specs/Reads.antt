@@ -1,12 +1,13 @@
 -- Numbers that all stand for something.
-use Rattle.std.specs.Prelude.{◌≡◌, List, length}
+use Rattle.std.specs.Prelude.{◌≡◌, ◌<◌, ℕ, List, length, map}
+use Rattle.std.specs.List.{AllByRecursion}
 use Rattle.rtl_ir.specs.Flat.Driver.{Driven}
 use Rattle.rtl_ir.specs.Flat.Place.{Place}
 use Rattle.rtl_ir.specs.Flat.Point as rtl
 use Rattle.flat_net.specs.declared.net.Part.{Part}
 use Rattle.flat_net.specs.declared.net.Point.{Point}
 use Rattle.flat_net.specs.Parts.{parts_rows}
-use Rattle.flat_net.specs.Points.{point_of, points_of}
+use Rattle.flat_net.specs.Points.{place_at, point_of, points_of}
 use Rattle.flat_net.specs.Within.{IsPointWithin, ArePointsWithin, ArePartsWithin}
 
 -- what is read is this constant or numbered bit
@@ -23,3 +24,8 @@ pub record ArePoints (ps : List Place) (points : List Point) (they : List rtl.Po
 pub record AreParts (ps : List Place) (parts : List Part) (rows : List Driven) : Type 0 where
   pub are : parts_rows ps parts ≡ rows
   pub within : ArePartsWithin (length ps) parts
+
+-- the numbers are those of these bits
+pub record AreNumbers (ps : List Place) (numbers : List ℕ) (they : List Place) : Type 0 where
+  pub are : map (place_at ps) numbers ≡ they
+  pub within : AllByRecursion (λ number. number < length ps) numbers

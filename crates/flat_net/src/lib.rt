@@ -2,12 +2,16 @@
 #![tactic(auto)]
 
 mod builder;
+mod cells;
 mod flat;
+mod inputs;
 mod links;
 mod logic;
+mod modules;
 mod net;
 mod params;
 mod places;
+mod ports;
 mod reads;
 mod shapes;
 mod signals;

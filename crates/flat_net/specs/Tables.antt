@@ -1,0 +1,55 @@
+-- The modules of a design by their names, and the rows of one without processes and memories.
+use Rattle.std.specs.Prelude.{◌≡◌, ℕ, List, [], ◌++◌, map, filter, Option, Some, None}
+use Rattle.std.specs.Str.{bytes_eq}
+use Rattle.std.specs.HashMap.{HashMap, get_by}
+use Rattle.std.specs.declared.hash.FoldHasher.{FoldHasher}
+use Rattle.std.specs.declared.hash.BuildHasherDefault.{BuildHasherDefault}
+use Rattle.std.proofs.Common.{Bor}
+use Rattle.rtl_ir.specs.declared.module.Design.{Design}
+use Rattle.rtl_ir.specs.declared.module.Module.{Module}
+use Rattle.rtl_ir.specs.declared.wire.Wire.{Wire}
+use Rattle.rtl_ir.specs.Flat.Cell.{cells_rows}
+use Rattle.rtl_ir.specs.Flat.Driver.{Driven}
+use Rattle.rtl_ir.specs.Flat.Link.{link_rows}
+use Rattle.rtl_ir.specs.Flat.Place.{Path}
+use Rattle.rtl_ir.specs.Flat.Start.{start_of}
+use Rattle.rtl_ir.specs.Flat.Tree.{design_ports, named}
+use Rattle.rtl_ir.specs.Ports.{is_port, in_number_order}
+use Rattle.flat_net.specs.declared.modules.Entry.{Entry}
+use Rattle.flat_net.specs.declared.modules.Table.{Table}
+
+-- a table with names as its keys
+abbrev pub Named : Type 0 → Type 0
+Named A = HashMap (Bor (List ℕ)) A (BuildHasherDefault FoldHasher)
+
+-- what a table has at a name
+abbrev pub at_name : {A : Type 0} → Named A → List ℕ → Option A
+at_name table name = get_by (λ (k : Bor (List ℕ)). bytes_eq name k.now) table
+
+-- the wires that are ports, in order of their numbers
+abbrev pub ports_in : List Wire → List Wire
+ports_in wires = in_number_order (filter (λ w. is_port w.role) wires)
+
+-- what references point to
+abbrev pub all_now : List (Bor Wire) → List Wire
+all_now wires = map (λ (w : Bor Wire). w.now) wires
+
+-- an entry is a module with its ports in order of their numbers
+pub record IsEntry (e : Entry) (m : Module) : Type 0 where
+  pub body : e.body.now ≡ m
+  pub ports : all_now e.ports.items ≡ ports_in m.wires
+
+-- an entry stands for a module that may be there
+abbrev pub Stands : Option Entry → Option Module → Type 0
+Stands None None = Unit {0}
+Stands (Some e) (Some m) = IsEntry e m
+Stands None (Some m) = ⊥
+Stands (Some e) None = ⊥
+
+-- the table has these modules, each by its name
+abbrev pub IsTable : Table → List Module → Type 0
+IsTable table modules = (name : List ℕ) → Stands (at_name table.modules name) (named modules name)
+
+-- what the cells and the connections of a module drive, where no process gives a start value
+abbrev pub own_rows : Design → Path → Module → List Driven
+own_rows d p m = cells_rows (start_of m.wires []) (design_ports d) p m.wires m.cells ++ link_rows p m.wires m.links

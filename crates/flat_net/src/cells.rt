@@ -1,0 +1,206 @@
+//! The parts of the cells of a module.
+
+ghost use Rattle.std.specs.Prelude.{◌≡◌, ◌<◌, List, [], ◌∷◌, Option, Some, OnOk, length, map, slice_get};
+ghost use Rattle.cell_types.specs.declared.kind.CellKind.{CellKind};
+ghost use Rattle.rtl_ir.specs.declared.module.Design.{Design};
+ghost use Rattle.rtl_ir.specs.Flat.Cell.{cell_kind, cell_rows, cells_rows, instance_rows, kind_rows, port_joins};
+ghost use Rattle.rtl_ir.specs.Flat.Place.{Frame, Path, frame};
+ghost use Rattle.rtl_ir.specs.Flat.Point as rtl;
+ghost use Rattle.rtl_ir.specs.Flat.Point.{points, wire_points};
+ghost use Rattle.rtl_ir.specs.Flat.Start.{start_of};
+ghost use Rattle.rtl_ir.specs.Flat.Tree.{design_ports};
+ghost use Rattle.rtl_ir.specs.Parameters.{signal_at};
+ghost use Rattle.rtl_ir.specs.Ports.{line_of};
+ghost use Rattle.flat_net.specs.Adds.{Adds};
+ghost use Rattle.flat_net.specs.Cells.{starts_of};
+ghost use Rattle.flat_net.specs.Known.{Extends};
+ghost use Rattle.flat_net.specs.Reads.{ArePoints};
+ghost use Rattle.flat_net.specs.Tables.{IsTable, all_now, own_rows};
+
+use crate::builder::Builder;
+use crate::modules::Table;
+use crate::net::Point;
+use crate::signals::signal_at;
+use crate::starts::starts;
+use cell_types::{CellKind, kind_of};
+use rtl_bits::{Bits, Memory};
+use rtl_ir::{Cell, Module, Pin, Role, Wire};
+use std::alloc::Global;
+
+impl Builder {
+    /// The cells and connections of a module in this path.
+    pub(crate) fn add_module(
+        &mut self,
+        alloc: Global,
+        table: &Table,
+        path: u32,
+        body: &Module,
+    ) -> Result<(), Memory>
+        requires in_range { path < length self.old.places.paths }
+        ensures grows { OnOk result (Extends self.old.places self.new.places) }
+        ensures rows { (p : Path) → slice_get self.old.places.paths path ≡ Some p → (d : Design) → IsTable table.now d.modules →
+            OnOk result (Adds self.old self.new (own_rows d p body.now)) }
+    {
+        let wires = body.wires.as_slice();
+        let starts = starts(alloc, wires)?;
+        let cells = body.cells.as_slice();
+        self.add_cells(alloc, table, path, wires, starts.as_slice(), cells)?;
+        self.add_links(alloc, path, wires, body.links.as_slice())
+    }
+
+    /// The cells of a module with these wires and start values in this path.
+    fn add_cells(
+        &mut self,
+        alloc: Global,
+        table: &Table,
+        path: u32,
+        wires: &[Wire],
+        starts: &[Bits],
+        cells: &[Cell],
+    ) -> Result<(), Memory>
+        requires in_range { path < length self.old.places.paths }
+        ensures grows { OnOk result (Extends self.old.places self.new.places) }
+        ensures rows { (p : Path) → slice_get self.old.places.paths path ≡ Some p → (d : Design) → IsTable table.now d.modules →
+            starts.now ≡ starts_of wires.now →
+            OnOk result (Adds self.old self.new (cells_rows (start_of wires.now []) (design_ports d) p wires.now cells.now)) }
+    {
+        for cell in cells {
+            self.add_cell(alloc, table, path, wires, starts, cell)?;
+        }
+        Ok(())
+    }
+
+    /// A cell: of the library, or an instance.
+    fn add_cell(
+        &mut self,
+        alloc: Global,
+        table: &Table,
+        path: u32,
+        wires: &[Wire],
+        starts: &[Bits],
+        cell: &Cell,
+    ) -> Result<(), Memory>
+        requires in_range { path < length self.old.places.paths }
+        ensures grows { OnOk result (Extends self.old.places self.new.places) }
+        ensures rows { (p : Path) → slice_get self.old.places.paths path ≡ Some p → (d : Design) → IsTable table.now d.modules →
+            starts.now ≡ starts_of wires.now →
+            OnOk result (Adds self.old self.new (cell_rows (start_of wires.now []) (design_ports d) p wires.now cell.now (cell_kind cell.now))) }
+    {
+        match kind_of(cell.kind_name.as_slice()) {
+            Some(kind) => self.add_library_cell(alloc, path, wires, starts, cell, kind),
+            None => self.add_instance(alloc, table, path, wires, cell),
+        }
+    }
+
+    /// A cell of the library. The cells of memories drive nothing by themselves.
+    fn add_library_cell(
+        &mut self,
+        alloc: Global,
+        path: u32,
+        wires: &[Wire],
+        starts: &[Bits],
+        cell: &Cell,
+        kind: CellKind,
+    ) -> Result<(), Memory>
+        requires in_range { path < length self.old.places.paths }
+        ensures grows { OnOk result (Extends self.old.places self.new.places) }
+        ensures rows { (p : Path) → slice_get self.old.places.paths path ≡ Some p → starts.now ≡ starts_of wires.now →
+            OnOk result (Adds self.old self.new (kind_rows (start_of wires.now []) p wires.now cell.now kind)) }
+    {
+        let pins = cell.pins.as_slice();
+        match kind {
+            CellKind::Word(_) | CellKind::Gate(_) => self.add_logic(alloc, path, wires, cell, kind),
+            CellKind::Storage(_) => {
+                let reads = self.places.word_reads(alloc, path, wires, pins)?;
+                self.add_store(alloc, path, wires, starts, cell, kind, &reads)
+            }
+            CellKind::StorageGate(_) => {
+                let reads = self.places.gate_reads(path, wires, pins)?;
+                self.add_store(alloc, path, wires, starts, cell, kind, &reads)
+            }
+            CellKind::Memory(_) => Ok(()),
+        }
+    }
+
+    /// The ports of an instance, where the design has its module.
+    fn add_instance(
+        &mut self,
+        alloc: Global,
+        table: &Table,
+        path: u32,
+        wires: &[Wire],
+        cell: &Cell,
+    ) -> Result<(), Memory>
+        requires in_range { path < length self.old.places.paths }
+        ensures grows { OnOk result (Extends self.old.places self.new.places) }
+        ensures rows { (p : Path) → slice_get self.old.places.paths path ≡ Some p → (d : Design) → IsTable table.now d.modules →
+            OnOk result (Adds self.old self.new (instance_rows p wires.now cell.now.pins (frame cell.now.name cell.now.kind_name) (design_ports d cell.now.kind_name))) }
+    {
+        let id = cell.kind_name.as_slice();
+        let Some(entry) = table.find(id) else {
+            return Ok(());
+        };
+        let inner = self.places.enter(path, cell.name.as_slice(), id)?;
+        let ports = entry.ports.as_slice();
+        self.add_ports(alloc, path, wires, cell.pins.as_slice(), inner, ports)
+    }
+
+    /// The ports of an instance, whose module is in the inner path.
+    fn add_ports(
+        &mut self,
+        alloc: Global,
+        path: u32,
+        wires: &[Wire],
+        pins: &[Pin],
+        inner: u32,
+        ports: &[&Wire],
+    ) -> Result<(), Memory>
+        requires in_range { path < length self.old.places.paths }
+        requires inner_in_range { inner < length self.old.places.paths }
+        ensures grows { OnOk result (Extends self.old.places self.new.places) }
+        ensures rows { (p : Path) → slice_get self.old.places.paths path ≡ Some p → (f : Frame) → slice_get self.old.places.paths inner ≡ Some (f ∷ p) →
+            OnOk result (Adds self.old self.new (instance_rows p wires.now pins.now f (map line_of (all_now ports.now)))) }
+    {
+        for port in ports {
+            self.add_port(alloc, path, wires, pins, inner, port)?;
+        }
+        Ok(())
+    }
+
+    /// A port of an instance.
+    fn add_port(
+        &mut self,
+        alloc: Global,
+        path: u32,
+        wires: &[Wire],
+        pins: &[Pin],
+        inner: u32,
+        port: &Wire,
+    ) -> Result<(), Memory>
+        requires in_range { path < length self.old.places.paths }
+        requires inner_in_range { inner < length self.old.places.paths }
+        ensures grows { OnOk result (Extends self.old.places self.new.places) }
+        ensures rows { (p : Path) → slice_get self.old.places.paths path ≡ Some p → (q : Path) → slice_get self.old.places.paths inner ≡ Some q →
+            OnOk result (Adds self.old self.new (port_joins port.now.role (points p wires.now (signal_at pins.now port.now.name)) (wire_points q port.now.name 0 port.now.width))) }
+    {
+        let name = port.name.as_slice();
+        let outside = self
+            .places
+            .points(alloc, path, wires, signal_at(pins, name))?;
+        let inside = self.places.wire_points(alloc, inner, name, port.width)?;
+        self.join_port(port.role, outside.as_slice(), inside.as_slice())
+    }
+
+    /// A port of this role: an input is driven from outside, an output drives it.
+    fn join_port(&mut self, role: Role, outside: &[Point], inside: &[Point]) -> Result<(), Memory>
+        ensures places { self.new.places ≡ self.old.places }
+        ensures rows { (outer inner : List rtl.Point) → ArePoints self.old.places.places outside.now outer → ArePoints self.old.places.places inside.now inner →
+            OnOk result (Adds self.old self.new (port_joins role outer inner)) }
+    {
+        match role {
+            Role::Input => self.join(inside, outside),
+            Role::Output => self.join(outside, inside),
+            Role::Inner | Role::Inout => Ok(()),
+        }
+    }
+}
