@@ -8,3 +8,4 @@ pub mod Chars
 pub mod Celling
 pub mod Tabling
 pub mod Moduling
+pub mod Giving

@@ -154,7 +154,7 @@ module _ (ps qs : List Place) (keeps : Keeps ps qs) where
 
 -- one more at the end
 
-all_end : {A : Type 0} (P : A → Type 0) (xs : List A) (y : A) → AllByRecursion P xs → P y → AllByRecursion P (xs ++ y ∷ [])
+pub all_end : {A : Type 0} (P : A → Type 0) (xs : List A) (y : A) → AllByRecursion P xs → P y → AllByRecursion P (xs ++ y ∷ [])
 all_end P [] y h p = (p, tt)
 all_end P (x ∷ xs) y h p = (h.0, all_end P xs y h.1 p)
 

@@ -13,7 +13,7 @@ ghost use Rattle.flat_net.specs.Tables.{all_now};
 
 use crate::builder::Builder;
 use crate::net::{Output, Part, Point};
-use crate::places::Places;
+use crate::places::{Places, number_at};
 use rtl_bits::{Memory, Seq};
 use rtl_ir::{Role, Wire};
 use std::alloc::Global;
@@ -25,10 +25,10 @@ impl Builder {
         ensures rows { (qs : List Place) → AreNumbers self.old.places.places numbers.now qs → OnOk result (Adds self.old self.new (given_rows qs 0)) }
     {
         for at in 0..numbers.len() {
-            let at_input = u32::try_from(at).ok().ok_or(Memory)?;
+            let place = number_at(at)?;
             self.parts.push(Part::Given(Output {
                 number: numbers[at],
-                at: at_input,
+                at: place,
             }))?;
         }
         Ok(())

@@ -28,7 +28,7 @@ pub(crate) struct SpotKey {
 }
 
 /// The number of this place. More than 2^32 are taken for want of memory.
-fn number_at(at: usize) -> Result<u32, Memory>
+pub(crate) fn number_at(at: usize) -> Result<u32, Memory>
     ensures value { IfOk result (λ number. number ≡ at) }
 {
     u32::try_from(at).ok().ok_or(Memory)
