@@ -9,3 +9,5 @@ pub mod Celling
 pub mod Tabling
 pub mod Moduling
 pub mod Giving
+pub mod Treeing
+pub mod Faultless

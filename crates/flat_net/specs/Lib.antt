@@ -7,4 +7,6 @@ pub mod Reads
 pub mod Cells
 pub mod Adds
 pub mod Tables
+pub mod Visits
+pub mod Ends
 pub mod Net

@@ -7,6 +7,8 @@ ghost use Rattle.rtl_ir.specs.Flat.Place.{Place};
 ghost use Rattle.rtl_ir.specs.Scope.{cells_alone};
 ghost use Rattle.flat_net.specs.Net.{IsNetOf};
 
+use crate::builder::Builder;
+use crate::modules::Table;
 use crate::net::Net;
 use rtl_bits::Memory;
 use rtl_ir::Design;
@@ -19,5 +21,9 @@ pub fn flatten(alloc: Global, design: &Design, at: u32) -> Result<Net, Memory>
     requires faultless { faults_within cells_alone design.now.modules ≡ [] }
     ensures value { (m : Module) → slice_get design.now.modules at ≡ Some m → IfOk result (λ net. (ps : List Place) × IsNetOf net design.now m ps) }
 {
-    Err(Memory)
+    let modules = design.modules.as_slice();
+    let table = Table::of(alloc, modules)?;
+    let mut builder = Builder::make(alloc);
+    let outputs = builder.add_all(alloc, &table, &modules[at as usize], modules.len() - 1)?;
+    builder.finish(outputs)
 }

@@ -3,6 +3,7 @@
 
 mod builder;
 mod cells;
+mod ends;
 mod flat;
 mod inputs;
 mod links;
@@ -17,6 +18,7 @@ mod shapes;
 mod signals;
 mod starts;
 mod stores;
+mod tree;
 
 pub use flat::flatten;
 pub use net::{Join, Logic, Net, Output, Part, Point, Storage, StoreBit, StorePins};

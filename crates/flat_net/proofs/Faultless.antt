@@ -1,0 +1,100 @@
+-- A design without faults has no processes and no memories, so its modules drive what their cells and connections drive.
+use Rattle.std.proofs.Common.{◌≡◌, ℕ, zero, suc, Bool, true, false, List, [], ◌∷◌, ◌++◌, length, Option, Some, None, slice_get, refl, sym, ◌∙◌, ap, subst, arith, cond}
+use Rattle.std.specs.Prelude.{flat_map}
+use Rattle.std.specs.Str.{bytes_eq}
+use Rattle.std.proofs.lemmas.List.{append-nil}
+use Rattle.rtl_ir.specs.declared.module.Design.{Design}
+use Rattle.rtl_ir.specs.declared.module.Module.{Module}
+use Rattle.rtl_ir.specs.declared.process.Process.{Process}
+use Rattle.rtl_ir.specs.declared.store.Store.{Store}
+use Rattle.rtl_ir.specs.Fault.{Fault}
+use Rattle.rtl_ir.specs.Faults.{faults_within, module_faults}
+use Rattle.rtl_ir.specs.Faults.Cells.{cell_faults}
+use Rattle.rtl_ir.specs.Faults.Processes.{process_faults}
+use Rattle.rtl_ir.specs.Faults.Recursion.{recursion_faults}
+use Rattle.rtl_ir.specs.Faults.Stores.{store_faults}
+use Rattle.rtl_ir.specs.Faults.Wires.{wire_faults}
+use Rattle.rtl_ir.specs.Flat.Cell.{cells_rows, instances}
+use Rattle.rtl_ir.specs.Flat.Driver.{Driven}
+use Rattle.rtl_ir.specs.Flat.Link.{link_rows}
+use Rattle.rtl_ir.specs.Flat.Memory.{memories_rows}
+use Rattle.rtl_ir.specs.Flat.Place.{Frame, Path}
+use Rattle.rtl_ir.specs.Flat.Process.{processes_rows}
+use Rattle.rtl_ir.specs.Flat.Rows.{rows_of}
+use Rattle.rtl_ir.specs.Flat.Start.{start_of}
+use Rattle.rtl_ir.specs.Flat.Tree.{design_ports, in_instances, in_module, in_tree, named, root, tree_rows}
+use Rattle.rtl_ir.specs.Scope.{cells_alone}
+use Rattle.rtl_ir.specs.Types as rtl
+use Rattle.flat_net.specs.Tables.{own_rows}
+
+-- there are neither processes nor memories
+record IsPlain (m : Module) : Type 0 where
+  processes : m.processes ≡ []
+  memories : m.memories ≡ []
+
+nothing_before : {A : Type 0} (xs ys : List A) → xs ++ ys ≡ [] → xs ≡ []
+nothing_before [] ys h = refl
+nothing_before (x ∷ xs) ys h = absurd (cc)
+
+nothing_behind : {A : Type 0} (xs ys : List A) → xs ++ ys ≡ [] → ys ≡ []
+nothing_behind [] ys h = h
+nothing_behind (x ∷ xs) ys h = absurd (cc)
+
+no_memories : (id : List ℕ) (stores : List Store) → flat_map (store_faults cells_alone id) stores ≡ [] → stores ≡ []
+no_memories id [] h = refl
+no_memories id (s ∷ stores) h = absurd (let some = nothing_before (store_faults cells_alone id s) (flat_map (store_faults cells_alone id) stores) h in cc)
+
+no_processes : (ports : rtl.Ports) (m : Module) (earlier ps : List Process) → process_faults cells_alone ports m earlier ps ≡ [] → ps ≡ []
+no_processes ports m earlier [] h = refl
+no_processes ports m earlier (p ∷ ps) h = absurd ?
+
+module_plain : (ports : rtl.Ports) (m : Module) → module_faults cells_alone ports m ≡ [] → IsPlain m
+module_plain ports m h =
+    let behind_wires = nothing_behind (wire_faults m.id [] m.wires) _ h in
+    let behind_stores = nothing_behind (flat_map (store_faults cells_alone m.id) m.memories) _ behind_wires in
+    let behind_cells = nothing_behind (cell_faults cells_alone ports m [] m.cells) _ behind_stores in
+    record {
+      processes = no_processes ports m [] m.processes (nothing_before (process_faults cells_alone ports m [] m.processes) _ behind_cells);
+      memories = no_memories m.id m.memories (nothing_before (flat_map (store_faults cells_alone m.id) m.memories) _ behind_wires);
+    }
+
+named_plain : (ports : rtl.Ports) (ms : List Module) → flat_map (module_faults cells_alone ports) ms ≡ [] → (id : List ℕ) (m : Module) → named ms id ≡ Some m → IsPlain m
+named_plain ports [] h id m is = absurd (let none : None ≡ Some m = is in cc)
+named_plain ports (n ∷ ms) h id m is = by (bytes_eq n.id id) is (named_plain ports ms (nothing_behind (module_faults cells_alone ports n) _ h) id m)
+  where
+    by : (b : Bool) → cond b (Some n) (named ms id) ≡ Some m → (named ms id ≡ Some m → IsPlain m) → IsPlain m
+    by true e ih = let same : n ≡ m = cc in subst IsPlain same (module_plain ports n (nothing_before (module_faults cells_alone ports n) _ h))
+    by false e ih = ih e
+
+placed_plain : (ports : rtl.Ports) (ms : List Module) → flat_map (module_faults cells_alone ports) ms ≡ [] → (at : ℕ) (m : Module) → slice_get ms at ≡ Some m → IsPlain m
+placed_plain ports [] h at m is = absurd (let none : None ≡ Some m = is in cc)
+placed_plain ports (n ∷ ms) h zero m is = let same : n ≡ m = cc in subst IsPlain same (module_plain ports n (nothing_before (module_faults cells_alone ports n) _ h))
+placed_plain ports (n ∷ ms) h (suc at) m is = placed_plain ports ms (nothing_behind (module_faults cells_alone ports n) _ h) at m is
+
+plain_own : (d : Design) (p : Path) (m : Module) → IsPlain m → own_rows d p m ≡ rows_of (design_ports d) p m
+plain_own d p m h =
+    let ports = design_ports d in
+    ap (λ rows. cells_rows (start_of m.wires []) ports p m.wires m.cells ++ rows) (sym (append-nil (link_rows p m.wires m.links)))
+    ∙ (λ i. cells_rows (start_of m.wires (sym h.processes i)) ports p m.wires m.cells
+    ++ (link_rows p m.wires m.links ++ (processes_rows (start_of m.wires (sym h.processes i)) p m.wires m (sym h.processes i) ++ memories_rows p m.wires m.cells (sym h.processes i) (sym h.memories i))))
+
+module _ (d : Design) (plain : (id : List ℕ) (m : Module) → named d.modules id ≡ Some m → IsPlain m) where
+  own_tree : (depth : ℕ) (p : Path) (m : Module) → IsPlain m → in_tree d (own_rows d) depth p m ≡ in_tree d (rows_of (design_ports d)) depth p m
+  own_tree zero p m h = refl
+  own_tree (suc depth) p m h = (λ i. plain_own d p m h i ++ each (instances m.cells) i)
+    where
+      in_one : (q : Path) (id : List ℕ) (o : Option Module) → named d.modules id ≡ o → in_module (in_tree d (own_rows d) depth) q o ≡ in_module (in_tree d (rows_of (design_ports d)) depth) q o
+      in_one q id None e = refl
+      in_one q id (Some n) e = own_tree depth q n (plain id n e)
+
+      each : (fs : List Frame) → in_instances d (in_tree d (own_rows d) depth) p fs ≡ in_instances d (in_tree d (rows_of (design_ports d)) depth) p fs
+      each [] = refl
+      each (f ∷ fs) = (λ i. in_one (f ∷ p) f.module_name (named d.modules f.module_name) refl i ++ each fs i)
+
+pub faultless_tree : (d : Design) → faults_within cells_alone d.modules ≡ [] → (at : ℕ) (m : Module) → slice_get d.modules at ≡ Some m → (below : ℕ) → suc below ≡ length d.modules
+    → in_tree d (own_rows d) (suc below) (root m) m ≡ tree_rows d (root m) m
+faultless_tree d h at m is below levels =
+    let ports = rtl.design_ports d.modules in
+    let clean : flat_map (module_faults cells_alone ports) d.modules ≡ [] = nothing_before (flat_map (module_faults cells_alone ports) d.modules) (recursion_faults d.modules) h in
+    own_tree d (named_plain ports d.modules clean) (suc below) (root m) m (placed_plain ports d.modules clean at m is)
+    ∙ ap (λ n. in_tree d (rows_of (design_ports d)) n (root m) m) levels
