@@ -1,27 +1,21 @@
 -- Rows that are added one after another.
-use Rattle.std.proofs.Common.{◌≡◌, ℕ, zero, suc, ◌+◌, ◌<◌, ◌≤◌, List, [], ◌∷◌, ◌++◌, length, get_or, take, drop, min, Option, Some, None, slice_get, refl, sym, ◌∙◌, ap, subst, arith, map, append_assoc, Result, OnOk, add-one}
+use Rattle.std.proofs.Common.{◌≡◌, ℕ, zero, suc, ◌+◌, ◌<◌, ◌≤◌, List, [], ◌∷◌, ◌++◌, length, get_or, take, drop, min, refl, sym, ◌∙◌, ap, subst, arith, append_assoc, Result, OnOk, add-one}
 use Rattle.std.proofs.Math.Seq.{drop-cons}
 use Rattle.std.proofs.Math.ListN.{drop_of_length-le}
-use Rattle.std.specs.List.{AllByRecursion}
-use Rattle.std.proofs.lemmas.Grind.{flat_map-append}
-use Rattle.std.proofs.lemmas.List.{map-append, take_more, take_all, append-nil, length-map, length-take}
-use Rattle.rtl_ir.specs.declared.wire.Wire.{Wire}
+use Rattle.std.proofs.lemmas.List.{map-append, take_more, append-nil, length-map, length-take}
 use Rattle.rtl_ir.specs.Flat.Driver.{Driven, Joined}
 use Rattle.rtl_ir.specs.Flat.Link.{joins}
-use Rattle.rtl_ir.specs.Flat.Place.{Path, Place}
+use Rattle.rtl_ir.specs.Flat.Place.{Place}
 use Rattle.rtl_ir.specs.Flat.Point as rtl
 use Rattle.flat_net.specs.declared.builder.Builder.{Builder}
-use Rattle.flat_net.specs.declared.net.Join.{Join}
 use Rattle.flat_net.specs.declared.net.Part.{Part}
-use Rattle.flat_net.specs.declared.net.Part.TheVariants as part
 use Rattle.flat_net.specs.declared.net.Point.{Point}
-use Rattle.flat_net.specs.declared.net.Point.TheVariants.{Constant, At}
 use Rattle.flat_net.specs.Adds.{Adds, Joins}
-use Rattle.flat_net.specs.Known.{Known, Keeps, Extends}
+use Rattle.flat_net.specs.Known.{Known, Extends}
 use Rattle.flat_net.specs.Parts.{part_rows, parts_rows}
-use Rattle.flat_net.specs.Points.{place_at, point_of, points_of}
-use Rattle.flat_net.specs.Reads.{IsPoint, ArePoints, AreParts}
-use Rattle.flat_net.specs.Within.{IsPointWithin, ArePointsWithin, IsPartWithin, ArePartsWithin}
+use Rattle.flat_net.specs.Points.{point_of, points_of}
+use Rattle.flat_net.specs.Reads.{ArePoints, AreParts}
+use Rattle.flat_net.specs.Within.{ArePointsWithin, IsPartWithin}
 use Rattle.flat_net.proofs.Reading.{Extends-refl, Extends-then, ArePoints-kept, AreParts-kept, AreParts-end}
 use Rattle.flat_net.proofs.Results.{if_ok}
 

@@ -1,5 +1,5 @@
 -- No path and no bit has two numbers.
-use Rattle.std.proofs.Common.{◌≡◌, ℕ, zero, suc, ◌+◌, ◌<◌, ◌≤◌, Bool, true, false, ◌&&◌, List, [], ◌∷◌, ◌++◌, length, get_or, Option, Some, None, slice_get, refl, sym, ◌∙◌, ap, subst, arith, map, eqb, true≢false, option_map}
+use Rattle.std.proofs.Common.{◌≡◌, ℕ, zero, suc, ◌+◌, ◌<◌, Bool, true, false, List, [], ◌∷◌, length, Some, None, slice_get, refl, sym, ◌∙◌, ap, subst, arith, map, eqb, true≢false, option_map}
 use Rattle.std.proofs.lemmas.List.{length-map}
 use Rattle.std.specs.List.{AllByRecursion, IsDistinct}
 use Rattle.std.specs.Str.{bytes_eq}
@@ -7,10 +7,10 @@ use Rattle.std.proofs.lemmas.Slice.Eq.{bytes_eq-Decides}
 use Rattle.std.proofs.lemmas.Bool.{eq-eqb}
 use Rattle.std.proofs.lemmas.Option.{slice_get-get_or, get_or_from_slice_get, slice_get-map}
 use Rattle.rtl_sig.specs.Names.{AreDistinct}
-use Rattle.rtl_ir.specs.Flat.Place.{Path, Place, Spot, OfWire, OfWord, Frame, frame, wire_place}
+use Rattle.rtl_ir.specs.Flat.Place.{Path, Place, Spot, OfWire, OfWord, Frame, frame}
 use Rattle.flat_net.specs.declared.places.FrameKey.{FrameKey}
 use Rattle.flat_net.specs.declared.places.SpotKey.{SpotKey}
-use Rattle.flat_net.specs.Keys.{name_at, path_at, path_of, paths_of, place_of, known_of, AreFrames, AreSpots, Fits, frame_eq}
+use Rattle.flat_net.specs.Keys.{name_at, path_at, path_of, paths_of, place_of, AreFrames, AreSpots, Fits, frame_eq}
 use Rattle.flat_net.specs.Points.{place_at, AreApart}
 use Rattle.flat_net.proofs.Keys.{spot_eq, path-at, Keeps-paths_from}
 

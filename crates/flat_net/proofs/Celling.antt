@@ -3,7 +3,7 @@ use Rattle.std.proofs.Common.{◌≡◌, ℕ, zero, suc, ◌+◌, ◌<◌, ◌�
 use Rattle.std.specs.List.{AllByRecursion}
 use Rattle.std.specs.Option.{ok_or}
 use Rattle.std.specs.Result.{result_ok}
-use Rattle.std.proofs.lemmas.List.{map-append, take_more, take_all, append-nil, length-map, length-take, length-take-le}
+use Rattle.std.proofs.lemmas.List.{map-append, take_more, take_all, length-map, length-take-le}
 use Rattle.rtl_bits.specs.declared.bit.Bit.{Bit}
 use Rattle.rtl_bits.specs.declared.memory.Memory.{Memory}
 use Rattle.rtl_sig.specs.declared.sig.SigBit.{SigBit}
@@ -15,7 +15,7 @@ use Rattle.cell_types.specs.declared.shape.Shape.{Shape}
 use Rattle.cell_types.specs.Fault.{fault_of}
 use Rattle.cell_types.specs.Shape.{made_shape, shape_of, unless}
 use Rattle.rtl_ir.specs.declared.cell.CellParam.{CellParam}
-use Rattle.rtl_ir.specs.Flat.Cell.{cell_shape, outputs, stores, worked_rows, stored_rows}
+use Rattle.rtl_ir.specs.Flat.Cell.{cell_shape, outputs, stores, worked_rows}
 use Rattle.rtl_ir.specs.Flat.Driver.{Driven, StorePoints, Worked, Stored}
 use Rattle.cell_types.specs.declared.pin_name.PinName.TheVariants.{A, B, S, Y}
 use Rattle.rtl_ir.specs.declared.cell.Pin.{Pin}
@@ -30,7 +30,6 @@ use Rattle.flat_net.specs.declared.net.Output.{Output}
 use Rattle.flat_net.specs.declared.net.Part.TheVariants as part
 use Rattle.flat_net.specs.declared.net.Storage.{Storage}
 use Rattle.flat_net.specs.declared.net.Point.{Point}
-use Rattle.flat_net.specs.declared.net.Point.TheVariants.{Constant, At}
 use Rattle.flat_net.specs.declared.net.StoreBit.{StoreBit}
 use Rattle.flat_net.specs.declared.reads.Reads.{Reads}
 use Rattle.flat_net.specs.Cells.{PutsOutputs, PutsStores, IsLogic, AreReads, reads_at}
@@ -38,7 +37,7 @@ use Rattle.flat_net.specs.Known.{Keeps}
 use Rattle.flat_net.specs.Parts.{output_row, store_row, inputs_of, part_rows}
 use Rattle.flat_net.specs.Points.{point_of, points_of, pins_of}
 use Rattle.flat_net.specs.Reads.{ArePoints}
-use Rattle.flat_net.specs.Within.{ArePointsWithin, ArePinsWithin, IsStoreWithin, IsLogicWithin, IsPartWithin}
+use Rattle.flat_net.specs.Within.{ArePointsWithin, IsStoreWithin, IsLogicWithin, IsPartWithin}
 use Rattle.flat_net.proofs.Reading.{pins-kept, pins-within}
 use Rattle.flat_net.proofs.Adding.{points_of-take, within-before, within-behind, within-take}
 

@@ -1,5 +1,5 @@
 -- A design without faults has no processes and no memories, so its modules drive what their cells and connections drive.
-use Rattle.std.proofs.Common.{◌≡◌, ℕ, zero, suc, Bool, true, false, List, [], ◌∷◌, ◌++◌, length, Option, Some, None, slice_get, refl, sym, ◌∙◌, ap, subst, arith, cond}
+use Rattle.std.proofs.Common.{◌≡◌, ℕ, zero, suc, Bool, true, false, List, [], ◌∷◌, ◌++◌, length, Option, Some, None, slice_get, refl, sym, ◌∙◌, ap, subst, cond}
 use Rattle.std.specs.Prelude.{flat_map}
 use Rattle.std.specs.Str.{bytes_eq}
 use Rattle.std.proofs.lemmas.List.{append-nil}
@@ -7,10 +7,12 @@ use Rattle.rtl_ir.specs.declared.module.Design.{Design}
 use Rattle.rtl_ir.specs.declared.module.Module.{Module}
 use Rattle.rtl_ir.specs.declared.process.Process.{Process}
 use Rattle.rtl_ir.specs.declared.store.Store.{Store}
-use Rattle.rtl_ir.specs.Fault.{Fault}
 use Rattle.rtl_ir.specs.Faults.{faults_within, module_faults}
 use Rattle.rtl_ir.specs.Faults.Cells.{cell_faults}
-use Rattle.rtl_ir.specs.Faults.Processes.{process_faults}
+use Rattle.rtl_ir.specs.Drivers.{drives_of}
+use Rattle.rtl_ir.specs.Faults.Bits.{bits_faults}
+use Rattle.rtl_ir.specs.Faults.Links.{link_faults}
+use Rattle.rtl_ir.specs.Faults.Processes.{faults_of_process, process_faults}
 use Rattle.rtl_ir.specs.Faults.Recursion.{recursion_faults}
 use Rattle.rtl_ir.specs.Faults.Stores.{store_faults}
 use Rattle.rtl_ir.specs.Faults.Wires.{wire_faults}
@@ -46,16 +48,22 @@ no_memories id (s ∷ stores) h = absurd (let some = nothing_before (store_fault
 
 no_processes : (ports : rtl.Ports) (m : Module) (earlier ps : List Process) → process_faults cells_alone ports m earlier ps ≡ [] → ps ≡ []
 no_processes ports m earlier [] h = refl
-no_processes ports m earlier (p ∷ ps) h = absurd ?
+no_processes ports m earlier (p ∷ ps) h = absurd (let some = nothing_before (faults_of_process cells_alone ports m earlier p) (process_faults cells_alone ports m (earlier ++ p ∷ []) ps) h in cc)
 
 module_plain : (ports : rtl.Ports) (m : Module) → module_faults cells_alone ports m ≡ [] → IsPlain m
 module_plain ports m h =
-    let behind_wires = nothing_behind (wire_faults m.id [] m.wires) _ h in
-    let behind_stores = nothing_behind (flat_map (store_faults cells_alone m.id) m.memories) _ behind_wires in
-    let behind_cells = nothing_behind (cell_faults cells_alone ports m [] m.cells) _ behind_stores in
+    let wires = wire_faults m.id [] m.wires in
+    let stores = flat_map (store_faults cells_alone m.id) m.memories in
+    let cells = cell_faults cells_alone ports m [] m.cells in
+    let processes = process_faults cells_alone ports m [] m.processes in
+    let links = link_faults m.id 1 m.links in
+    let to_links : ((wires ++ stores) ++ cells) ++ processes ++ links ≡ [] = nothing_before (((wires ++ stores) ++ cells) ++ processes ++ links) (bits_faults m.id (drives_of ports m) 0 m.wires) h in
+    let to_processes : ((wires ++ stores) ++ cells) ++ processes ≡ [] = nothing_before (((wires ++ stores) ++ cells) ++ processes) links to_links in
+    let to_cells : (wires ++ stores) ++ cells ≡ [] = nothing_before ((wires ++ stores) ++ cells) processes to_processes in
+    let to_stores : wires ++ stores ≡ [] = nothing_before (wires ++ stores) cells to_cells in
     record {
-      processes = no_processes ports m [] m.processes (nothing_before (process_faults cells_alone ports m [] m.processes) _ behind_cells);
-      memories = no_memories m.id m.memories (nothing_before (flat_map (store_faults cells_alone m.id) m.memories) _ behind_wires);
+      processes = no_processes ports m [] m.processes (nothing_behind ((wires ++ stores) ++ cells) processes to_processes);
+      memories = no_memories m.id m.memories (nothing_behind wires stores to_stores);
     }
 
 named_plain : (ports : rtl.Ports) (ms : List Module) → flat_map (module_faults cells_alone ports) ms ≡ [] → (id : List ℕ) (m : Module) → named ms id ≡ Some m → IsPlain m
@@ -79,17 +87,17 @@ plain_own d p m h =
     ++ (link_rows p m.wires m.links ++ (processes_rows (start_of m.wires (sym h.processes i)) p m.wires m (sym h.processes i) ++ memories_rows p m.wires m.cells (sym h.processes i) (sym h.memories i))))
 
 module _ (d : Design) (plain : (id : List ℕ) (m : Module) → named d.modules id ≡ Some m → IsPlain m) where
+  in_each : (f g : Path → Module → List Driven) → ((q : Path) (n : Module) → IsPlain n → f q n ≡ g q n) → (p : Path) (fs : List Frame) → in_instances d f p fs ≡ in_instances d g p fs
+  in_each f g same p [] = refl
+  in_each f g same p (x ∷ fs) = (λ i. in_one (named d.modules x.module_name) refl i ++ in_each f g same p fs i)
+    where
+      in_one : (o : Option Module) → named d.modules x.module_name ≡ o → in_module f (x ∷ p) o ≡ in_module g (x ∷ p) o
+      in_one None e = refl
+      in_one (Some n) e = same (x ∷ p) n (plain x.module_name n e)
+
   own_tree : (depth : ℕ) (p : Path) (m : Module) → IsPlain m → in_tree d (own_rows d) depth p m ≡ in_tree d (rows_of (design_ports d)) depth p m
   own_tree zero p m h = refl
-  own_tree (suc depth) p m h = (λ i. plain_own d p m h i ++ each (instances m.cells) i)
-    where
-      in_one : (q : Path) (id : List ℕ) (o : Option Module) → named d.modules id ≡ o → in_module (in_tree d (own_rows d) depth) q o ≡ in_module (in_tree d (rows_of (design_ports d)) depth) q o
-      in_one q id None e = refl
-      in_one q id (Some n) e = own_tree depth q n (plain id n e)
-
-      each : (fs : List Frame) → in_instances d (in_tree d (own_rows d) depth) p fs ≡ in_instances d (in_tree d (rows_of (design_ports d)) depth) p fs
-      each [] = refl
-      each (f ∷ fs) = (λ i. in_one (f ∷ p) f.module_name (named d.modules f.module_name) refl i ++ each fs i)
+  own_tree (suc depth) p m h = (λ i. plain_own d p m h i ++ in_each (in_tree d (own_rows d) depth) (in_tree d (rows_of (design_ports d)) depth) (own_tree depth) p (instances m.cells) i)
 
 pub faultless_tree : (d : Design) → faults_within cells_alone d.modules ≡ [] → (at : ℕ) (m : Module) → slice_get d.modules at ≡ Some m → (below : ℕ) → suc below ≡ length d.modules
     → in_tree d (own_rows d) (suc below) (root m) m ≡ tree_rows d (root m) m

@@ -1,12 +1,12 @@
 -- The bits of ports, and the parts of inputs.
-use Rattle.std.proofs.Common.{◌≡◌, ℕ, zero, suc, ◌+◌, ◌<◌, ◌≤◌, List, [], ◌∷◌, ◌++◌, length, get_or, take, Bor, refl, sym, ◌∙◌, ap, subst, arith, map, append_assoc}
+use Rattle.std.proofs.Common.{◌≡◌, ℕ, suc, ◌+◌, ◌<◌, ◌≤◌, List, [], ◌∷◌, ◌++◌, length, get_or, take, Bor, refl, sym, ◌∙◌, ap, subst, arith, map, append_assoc}
 use Rattle.std.specs.List.{AllByRecursion}
 use Rattle.std.proofs.lemmas.Grind.{flat_map-append}
 use Rattle.std.proofs.lemmas.List.{map-append, take_more, take_all, append-nil, length-map, length-take-le}
 use Rattle.rtl_ir.specs.declared.ports.PortLine.{PortLine}
 use Rattle.rtl_ir.specs.declared.wire.Role.{Role}
 use Rattle.rtl_ir.specs.declared.wire.Wire.{Wire}
-use Rattle.rtl_ir.specs.Flat.Driver.{Driven, Given}
+use Rattle.rtl_ir.specs.Flat.Driver.{Given}
 use Rattle.rtl_ir.specs.Flat.Place.{Path, Place}
 use Rattle.rtl_ir.specs.Flat.Point as rtl
 use Rattle.rtl_ir.specs.Flat.Point.{wire_points}
@@ -22,7 +22,7 @@ use Rattle.flat_net.specs.Parts.{part_rows, parts_rows}
 use Rattle.flat_net.specs.Points.{place_at, point_of, points_of}
 use Rattle.flat_net.specs.Reads.{AreNumbers, ArePoints}
 use Rattle.flat_net.specs.Tables.{all_now}
-use Rattle.flat_net.specs.Within.{IsPointWithin, ArePointsWithin, IsPartWithin, ArePartsWithin}
+use Rattle.flat_net.specs.Within.{ArePointsWithin, IsPartWithin}
 use Rattle.flat_net.proofs.Adding.{within-before, within-behind}
 use Rattle.flat_net.proofs.Reading.{Extends-refl, ArePoints-kept, all_end}
 

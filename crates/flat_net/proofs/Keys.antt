@@ -1,17 +1,17 @@
 -- What keys stand for stays so with more names and keys.
-use Rattle.std.proofs.Common.{◌≡◌, ℕ, zero, suc, ◌+◌, ◌<◌, ◌≤◌, Bool, true, false, ◌&&◌, List, [], ◌∷◌, ◌++◌, length, get_or, Option, Some, None, slice_get, slice_index_or, refl, sym, ◌∙◌, ap, subst, arith, map, eqb, length-append, option_map, true≢false}
-use Rattle.std.specs.List.{list_any, AllByRecursion, IsDistinct}
+use Rattle.std.proofs.Common.{◌≡◌, ℕ, zero, suc, ◌+◌, ◌<◌, ◌≤◌, Bool, true, false, ◌&&◌, List, [], ◌∷◌, ◌++◌, length, Some, None, slice_get, refl, sym, ◌∙◌, ap, subst, arith, map, eqb, length-append, option_map, true≢false}
+use Rattle.std.specs.List.{list_any, IsDistinct}
 use Rattle.std.proofs.lemmas.List.{map-append}
 use Rattle.std.proofs.lemmas.Option.{get_or_from_slice_get, slice_get-map}
 use Rattle.std.proofs.lemmas.Bool.{eqb-true}
 use Rattle.indexmap.specs.IndexSet.{insert_key}
 use Rattle.rtl_sig.specs.Names.{AreDistinct}
-use Rattle.rtl_ir.specs.Flat.Place.{Path, Place, frame, wire_place}
+use Rattle.rtl_ir.specs.Flat.Place.{Path, frame, wire_place}
 use Rattle.flat_net.specs.declared.places.FrameKey.{FrameKey}
 use Rattle.flat_net.specs.declared.places.SpotKey.{SpotKey}
 use Rattle.flat_net.specs.Keys.{name_at, path_at, path_of, paths_from, paths_of, place_of, known_of, AreFrames, AreSpots, Fits, frame_eq}
 use Rattle.flat_net.specs.Known.{Known, Keeps, Extends}
-use Rattle.flat_net.proofs.Kept.{Keeps-refl, Keeps-append, Keeps-insert_key, get_or-Keeps, length-Keeps}
+use Rattle.flat_net.proofs.Kept.{Keeps-refl, Keeps-append, get_or-Keeps, length-Keeps}
 
 and_parts : (a b : Bool) → (a && b) ≡ true → (a ≡ true) × (b ≡ true)
 and_parts true b h = (refl, h)

@@ -11,3 +11,4 @@ pub mod Moduling
 pub mod Giving
 pub mod Treeing
 pub mod Faultless
+pub mod Ending

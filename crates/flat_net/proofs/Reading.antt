@@ -1,12 +1,12 @@
 -- Numbers that stand for something go on to stand for it.
-use Rattle.std.proofs.Common.{◌≡◌, ℕ, zero, suc, ◌+◌, ◌<◌, ◌≤◌, List, [], ◌∷◌, ◌++◌, length, get_or, take, Option, Some, None, slice_get, refl, sym, ◌∙◌, ap, subst, arith, map, append_assoc}
+use Rattle.std.proofs.Common.{◌≡◌, ℕ, zero, suc, ◌+◌, ◌<◌, List, [], ◌∷◌, ◌++◌, length, get_or, take, Some, slice_get, refl, ◌∙◌, ap, subst, arith, map}
 use Rattle.std.specs.List.{AllByRecursion}
 use Rattle.std.proofs.lemmas.Grind.{flat_map-append}
-use Rattle.std.proofs.lemmas.List.{map-append, take_more, take_all, append-nil}
+use Rattle.std.proofs.lemmas.List.{map-append, take_more, append-nil}
 use Rattle.std.proofs.lemmas.Option.{slice_get_within, get_or_from_slice_get}
 use Rattle.rtl_sig.specs.declared.sig.SigBit.{SigBit}
 use Rattle.rtl_ir.specs.declared.wire.Wire.{Wire}
-use Rattle.rtl_ir.specs.Flat.Driver.{Driven, StorePoints, Given, Joined, Worked, Stored}
+use Rattle.rtl_ir.specs.Flat.Driver.{Driven, Given, Joined, Worked, Stored}
 use Rattle.rtl_ir.specs.Flat.Place.{Path, Place, wire_place}
 use Rattle.rtl_ir.specs.Flat.Point.{point, points, point_at, wire_points}
 use Rattle.rtl_ir.specs.Flat.Point as rtl
@@ -39,7 +39,7 @@ number_read ps n q h = record { is = ap rtl.At (get_or_from_slice_get ps n q _ h
 -- more bits have a number
 
 module _ (ps qs : List Place) (keeps : Keeps ps qs) where
-  place-kept : (n : ℕ) → n < length ps → place_at qs n ≡ place_at ps n
+  pub place-kept : (n : ℕ) → n < length ps → place_at qs n ≡ place_at ps n
   place-kept n h = get_or-Keeps ps qs _ n keeps h
 
   number-kept : (n : ℕ) → n < length ps → n < length qs

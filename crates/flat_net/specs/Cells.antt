@@ -15,13 +15,13 @@ use Rattle.std.specs.Prelude.{Some}
 use Rattle.flat_net.specs.declared.net.Logic.{Logic}
 use Rattle.flat_net.specs.declared.net.Output.{Output}
 use Rattle.flat_net.specs.declared.net.Point.{Point}
-use Rattle.flat_net.specs.declared.net.Point.TheVariants.{Constant, At}
+use Rattle.flat_net.specs.declared.net.Point.TheVariants.{Constant}
 use Rattle.flat_net.specs.declared.net.StoreBit.{StoreBit}
 use Rattle.flat_net.specs.declared.net.StorePins.{StorePins}
 use Rattle.flat_net.specs.declared.reads.Reads.{Reads}
 use Rattle.flat_net.specs.declared.reads.Reads.TheVariants.{Word, Gate}
 use Rattle.flat_net.specs.Parts.{output_row, inputs_of, store_row}
-use Rattle.flat_net.specs.Points.{point_of, points_of, pins_of}
+use Rattle.flat_net.specs.Points.{points_of, pins_of}
 use Rattle.flat_net.specs.Within.{ArePointsWithin, ArePinsWithin, IsLogicWithin, IsStoreWithin}
 
 -- the combinational cell is these rows of numbered bits

@@ -1,8 +1,8 @@
 -- What the keys of paths and bits stand for.
-use Rattle.std.specs.Prelude.{◌≡◌, ◌<◌, ℕ, suc, List, [], ◌∷◌, ◌++◌, length, map, slice_index_or, Bool, ◌&&◌, nat_eq}
+use Rattle.std.specs.Prelude.{◌<◌, ℕ, suc, List, [], ◌∷◌, ◌++◌, length, map, slice_index_or, Bool, ◌&&◌, nat_eq}
 use Rattle.std.specs.List.{AllByRecursion, IsDistinct}
 use Rattle.rtl_sig.specs.Names.{AreDistinct}
-use Rattle.rtl_ir.specs.Flat.Place.{Frame, Path, Place, frame, wire_place}
+use Rattle.rtl_ir.specs.Flat.Place.{Path, Place, frame, wire_place}
 use Rattle.flat_net.specs.declared.places.FrameKey.{FrameKey}
 use Rattle.flat_net.specs.declared.places.SpotKey.{SpotKey}
 use Rattle.flat_net.specs.Known.{Known}

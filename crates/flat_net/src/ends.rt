@@ -25,8 +25,8 @@ impl Places {
         ensures grows { OnOk result (Extends self.old self.new) }
         ensures value { IfOk result (λ ends. IsEnds self.new ends body.now) }
     {
-        let ports = port_wires(alloc, body.wires.as_slice())?;
-        let ports = ports.as_slice();
+        let found = port_wires(alloc, body.wires.as_slice())?;
+        let ports = found.as_slice();
         let root = self.enter(0, &[], body.id.as_slice())?;
         let inputs = self.role_numbers(alloc, root, ports, Role::Input)?;
         let outputs = self.role_numbers(alloc, root, ports, Role::Output)?;

@@ -1,6 +1,4 @@
-use Rattle.std.proofs.Common.{◌≡◌, [], subst}
-use Rattle.flat_net.specs.Cells.{PutsOutputs}
-use Rattle.flat_net.proofs.Celling.{PutsOutputs-none, PutsOutputs-next, PutsOutputs-all}
+use Rattle.flat_net.proofs.Celling.{PutsOutputs-next, PutsOutputs-all}
 use Rattle.flat_net.proofs.logic.outputs.Goals as goal
 
 pub loop-at-preserved : goal.loop-at-preserved

@@ -1,4 +1,4 @@
-use Rattle.std.proofs.Common.{◌≡◌, ◌∙◌, ap}
+use Rattle.std.proofs.Common.{◌∙◌, ap}
 use Rattle.std.specs.Option.{ok_or}
 use Rattle.rtl_ir.specs.Parameters.{given_params}
 use Rattle.flat_net.proofs.Celling.{shaped}

@@ -1,4 +1,4 @@
-use Rattle.std.proofs.Common.{◌≡◌, ◌<◌, length, [], subst, arith}
+use Rattle.std.proofs.Common.{[], arith}
 use Rattle.rtl_ir.specs.Flat.Start.{start_of}
 use Rattle.flat_net.proofs.Celling.{PutsStores-next, PutsStores-all}
 use Rattle.flat_net.proofs.stores.store_bits.Goals as goal

@@ -1,4 +1,4 @@
-use Rattle.std.proofs.Common.{◌≡◌, List, [], refl}
+use Rattle.std.proofs.Common.{[], refl}
 use Rattle.rtl_ir.specs.declared.cell.Cell.{Cell}
 use Rattle.rtl_ir.specs.Flat.Cell.{cell_kind, cell_rows, cells_rows}
 use Rattle.rtl_ir.specs.Flat.Start.{start_of}

@@ -1,4 +1,4 @@
-use Rattle.std.proofs.Common.{◌≡◌, ◌∙◌, [], map, ap}
+use Rattle.std.proofs.Common.{◌∙◌, [], map, ap}
 use Rattle.std.proofs.lemmas.Option.{slice_get_within, slice_get-get_or}
 use Rattle.rtl_ir.specs.Flat.Cell.{instance_rows}
 use Rattle.rtl_ir.specs.Flat.Place.{frame}

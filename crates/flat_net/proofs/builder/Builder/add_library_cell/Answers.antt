@@ -1,4 +1,4 @@
-use Rattle.std.proofs.Common.{◌≡◌, []}
+use Rattle.std.proofs.Common.{[]}
 use Rattle.rtl_ir.specs.Flat.Cell.{word_store, gate_store}
 use Rattle.rtl_ir.specs.Flat.Start.{start_of}
 use Rattle.flat_net.proofs.Kept.{within-Keeps}

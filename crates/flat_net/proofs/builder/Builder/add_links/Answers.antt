@@ -1,4 +1,4 @@
-use Rattle.std.proofs.Common.{◌≡◌, List, ◌++◌, refl}
+use Rattle.std.proofs.Common.{refl}
 use Rattle.rtl_ir.specs.declared.module.Link.{Link}
 use Rattle.rtl_ir.specs.Flat.Link.{joins, link_rows}
 use Rattle.rtl_ir.specs.Flat.Point.{points}

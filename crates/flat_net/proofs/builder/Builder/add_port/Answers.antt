@@ -1,4 +1,4 @@
-use Rattle.std.proofs.Common.{◌≡◌, ◌∙◌, ap, subst}
+use Rattle.std.proofs.Common.{◌∙◌, ap, subst}
 use Rattle.rtl_ir.specs.Flat.Cell.{port_joins}
 use Rattle.rtl_ir.specs.Flat.Point.{points, wire_points}
 use Rattle.rtl_ir.specs.Parameters.{signal_at}

@@ -1,4 +1,4 @@
-use Rattle.std.proofs.Common.{◌≡◌, ◌∷◌, List, Bor, map, refl}
+use Rattle.std.proofs.Common.{◌∷◌, List, Bor, map, refl}
 use Rattle.rtl_ir.specs.declared.wire.Wire.{Wire}
 use Rattle.rtl_ir.specs.Flat.Cell.{instance_rows, port_joins}
 use Rattle.rtl_ir.specs.Flat.Point.{points, wire_points}

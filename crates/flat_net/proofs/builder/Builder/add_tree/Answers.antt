@@ -1,7 +1,7 @@
-use Rattle.std.proofs.Common.{◌≡◌, ◌∙◌, ◌++◌, ◌∷◌, [], List, ap, subst, sym, length, arith}
+use Rattle.std.proofs.Common.{◌≡◌, ◌∙◌, ◌++◌, ◌∷◌, [], List, ap, subst, length, arith}
 use Rattle.flat_net.specs.declared.tree.Visit.{Visit}
 use Rattle.flat_net.specs.Keys.{path_at}
-use Rattle.flat_net.specs.Visits.{ArePathed, Opens}
+use Rattle.flat_net.specs.Visits.{Opens}
 use Rattle.flat_net.proofs.Kept.{within-Keeps}
 use Rattle.flat_net.proofs.Reading.{Extends-refl, Extends-then}
 use Rattle.flat_net.proofs.Treeing.{Leads-first, Leads-done, last_pathed, left_pathed, visit_path, step_leads}

@@ -1,4 +1,4 @@
-use Rattle.std.proofs.Common.{◌≡◌, ◌∙◌, ◌<◌, length, arith}
+use Rattle.std.proofs.Common.{◌∙◌, arith}
 use Rattle.flat_net.proofs.Adding.{Joins-next, Adds-joins}
 use Rattle.flat_net.proofs.builder.Builder.join.Goals as goal
 

@@ -1,8 +1,5 @@
 -- The parts so far are those before and the joins of the bits so far.
-use Rattle.std.proofs.Common.{◌≡◌, List, take}
-use Rattle.rtl_ir.specs.Flat.Link.{joins}
-use Rattle.rtl_ir.specs.Flat.Place.{Place}
-use Rattle.flat_net.specs.Points.{points_of}
+use Rattle.std.proofs.Common.{◌≡◌, take}
 use Rattle.flat_net.specs.Adds.{Joins}
 use Rattle.flat_net.proofs.builder.Builder.join.Given as goal
 

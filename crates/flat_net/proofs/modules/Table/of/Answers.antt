@@ -1,4 +1,4 @@
-use Rattle.std.proofs.Common.{◌≡◌, ◌∙◌, ap, refl}
+use Rattle.std.proofs.Common.{◌∙◌, ap, refl}
 use Rattle.flat_net.specs.Tables.{ports_in}
 use Rattle.flat_net.proofs.Tabling.{entry_put}
 use Rattle.flat_net.proofs.modules.Table.of.Goals as goal

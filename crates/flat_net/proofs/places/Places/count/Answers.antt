@@ -1,4 +1,4 @@
-use Rattle.std.proofs.Common.{◌≡◌, sym, subst}
+use Rattle.std.proofs.Common.{subst}
 use Rattle.flat_net.specs.Known.{Known}
 use Rattle.flat_net.specs.Points.{AreApart}
 use Rattle.flat_net.proofs.Apart.{spots_apart}

@@ -2,7 +2,6 @@ use Rattle.std.proofs.Common.{◌≡◌, ◌+◌, suc, sym, subst, ◌∙◌, �
 use Rattle.rtl_ir.specs.Flat.Place.{frame}
 use Rattle.flat_net.specs.Keys.{Fits, known_of}
 use Rattle.flat_net.specs.declared.places.FrameKey.{FrameKey}
-use Rattle.flat_net.specs.Known.{Keeps}
 use Rattle.flat_net.proofs.Keys.{Fits-names, frame_extends, frame_fits, frame_stands, frame_there}
 use Rattle.flat_net.proofs.Kept.{Keeps-named, Keeps-twice, distinct-named, within-Keeps}
 use Rattle.flat_net.proofs.Results.{on_ok, if_ok}

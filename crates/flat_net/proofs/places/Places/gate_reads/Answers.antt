@@ -1,6 +1,5 @@
-use Rattle.std.proofs.Common.{◌≡◌, refl}
 use Rattle.flat_net.proofs.Kept.{within-Keeps}
-use Rattle.flat_net.proofs.Reading.{Extends-refl, Extends-then, IsPoint-kept, ArePoints-kept, listed_read}
+use Rattle.flat_net.proofs.Reading.{Extends-refl, Extends-then, IsPoint-kept}
 use Rattle.flat_net.proofs.places.Places.gate_reads.Goals as goal
 
 pub pin_point-requires-2 : goal.pin_point-requires-2

@@ -1,7 +1,3 @@
-use Rattle.std.proofs.Common.{◌≡◌, ◌∙◌, sym, subst}
-use Rattle.rtl_ir.specs.Flat.Cell.{cell_shape, worked_rows}
-use Rattle.flat_net.specs.Cells.{IsLogic}
-use Rattle.flat_net.specs.Reads.{ArePoints}
 use Rattle.flat_net.proofs.Kept.{within-Keeps}
 use Rattle.flat_net.proofs.Reading.{Extends-then, ArePoints-kept}
 use Rattle.flat_net.proofs.Celling.{logic_is}

@@ -2,7 +2,6 @@ use Rattle.std.proofs.Common.{◌≡◌, sym, subst, Some, slice_get}
 use Rattle.flat_net.specs.Keys.{Fits}
 use Rattle.flat_net.proofs.Results.{on_ok, if_ok}
 use Rattle.flat_net.specs.declared.places.SpotKey.{SpotKey}
-use Rattle.flat_net.specs.Known.{Keeps}
 use Rattle.flat_net.proofs.Keys.{Fits-names, spot_extends, spot_fits, spot_stands, spot_there}
 use Rattle.flat_net.proofs.Kept.{Keeps-named, distinct-named}
 use Rattle.flat_net.proofs.places.Places.number.Goals as goal

@@ -1,4 +1,4 @@
-use Rattle.std.proofs.Common.{◌≡◌, ◌-◌, suc, ◌∙◌, sym, refl, [], arith}
+use Rattle.std.proofs.Common.{◌≡◌, ◌-◌, suc, refl, [], arith}
 use Rattle.flat_net.proofs.Treeing.{Opens-no_level, Opens-library, Opens-missing, Opens-found, one_pathed}
 use Rattle.std.proofs.lemmas.Option.{slice_get-get_or}
 use Rattle.flat_net.proofs.places.Places.open_instance.Goals as goal

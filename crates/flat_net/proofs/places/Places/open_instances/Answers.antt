@@ -1,4 +1,3 @@
-use Rattle.std.proofs.Common.{◌≡◌, arith}
 use Rattle.flat_net.proofs.Kept.{within-Keeps}
 use Rattle.flat_net.proofs.Reading.{Extends-then}
 use Rattle.flat_net.proofs.Treeing.{Opens-next, Opens-all}

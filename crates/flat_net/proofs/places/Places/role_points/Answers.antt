@@ -1,4 +1,4 @@
-use Rattle.std.proofs.Common.{◌≡◌, subst, map}
+use Rattle.std.proofs.Common.{subst, map}
 use Rattle.std.proofs.lemmas.List.{take_all}
 use Rattle.rtl_ir.specs.Flat.Tree.{role_points}
 use Rattle.rtl_ir.specs.Ports.{line_of}

@@ -1,5 +1,4 @@
-use Rattle.std.proofs.Common.{◌≡◌, ◌+◌, sym, ◌∙◌, subst, ap, arith}
-use Rattle.rtl_ir.specs.Flat.Place.{wire_place}
+use Rattle.std.proofs.Common.{◌≡◌, subst, arith}
 use Rattle.rtl_ir.specs.Flat.Point.{wire_points}
 use Rattle.flat_net.specs.Reads.{ArePoints}
 use Rattle.flat_net.proofs.Kept.{within-Keeps}

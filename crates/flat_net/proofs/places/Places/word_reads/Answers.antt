@@ -1,4 +1,3 @@
-use Rattle.std.proofs.Common.{◌≡◌, refl}
 use Rattle.flat_net.proofs.Kept.{within-Keeps}
 use Rattle.flat_net.proofs.Reading.{Extends-refl, Extends-then, IsPoint-kept, ArePoints-kept, listed_read}
 use Rattle.flat_net.proofs.places.Places.word_reads.Goals as goal
