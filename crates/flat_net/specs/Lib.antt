@@ -1,0 +1,4 @@
+pub mod Points
+pub mod Parts
+pub mod Within
+pub mod Net

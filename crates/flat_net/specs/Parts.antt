@@ -1,0 +1,47 @@
+-- The rows that the parts of a flat netlist are, over the list of the numbered bits.
+use Rattle.std.specs.Prelude.{List, [], ◌∷◌, flat_map, map}
+use Rattle.cell_types.specs.declared.shape.Shape.{Shape}
+use Rattle.rtl_ir.specs.Flat.Driver.{Driven, Given, Joined, Worked, Stored}
+use Rattle.rtl_ir.specs.Flat.Place.{Place}
+use Rattle.rtl_ir.specs.Flat.Point as rtl
+use Rattle.flat_net.specs.declared.net.Join.{Join}
+use Rattle.flat_net.specs.declared.net.Logic.{Logic}
+use Rattle.flat_net.specs.declared.net.Output.{Output}
+use Rattle.flat_net.specs.declared.net.Part.{Part}
+use Rattle.flat_net.specs.declared.net.Part.TheVariants as part
+use Rattle.flat_net.specs.declared.net.StoreBit.{StoreBit}
+use Rattle.flat_net.specs.Points.{place_at, point_of, points_of, pins_of}
+
+-- a bit that the input vector drives
+abbrev pub given_row : List Place → Output → Driven
+given_row ps o = record { place = place_at ps o.number; driver = Given o.at }
+
+-- a bit that a connection drives
+abbrev pub join_row : List Place → Join → Driven
+join_row ps j = record { place = place_at ps j.to; driver = Joined (point_of ps j.from) }
+
+-- a bit of the output of a combinational cell with these inputs
+abbrev pub output_row : List Place → Shape → List (List rtl.Point) → Output → Driven
+output_row ps shape inputs o = record { place = place_at ps o.number; driver = Worked shape inputs o.at }
+
+-- the words at the inputs of a combinational cell
+abbrev pub inputs_of : List Place → Logic → List (List rtl.Point)
+inputs_of ps c = points_of ps c.a ∷ points_of ps c.b ∷ points_of ps c.s ∷ []
+
+-- a bit that a storage cell keeps
+abbrev pub store_row : List Place → Shape → StoreBit → Driven
+store_row ps shape b = record {
+  place = place_at ps b.number;
+  driver = Stored b.start shape b.at (pins_of ps b.pins) (place_at ps b.number);
+}
+
+-- the rows that a part is
+abbrev pub part_rows : List Place → Part → List Driven
+part_rows ps (part.Given o) = given_row ps o ∷ []
+part_rows ps (part.Joined j) = join_row ps j ∷ []
+part_rows ps (part.Logic c) = map (output_row ps c.value.shape (inputs_of ps c.value)) c.value.outputs
+part_rows ps (part.Storage c) = map (store_row ps c.value.shape) c.value.bits
+
+-- the rows of several parts, in order
+abbrev pub parts_rows : List Place → List Part → List Driven
+parts_rows ps parts = flat_map (part_rows ps) parts

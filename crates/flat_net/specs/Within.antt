@@ -1,0 +1,54 @@
+-- Parts whose numbers are all below a count.
+use Rattle.std.specs.Prelude.{◌<◌, ℕ, List}
+use Rattle.std.specs.List.{AllByRecursion}
+use Rattle.flat_net.specs.declared.net.Logic.{Logic}
+use Rattle.flat_net.specs.declared.net.Output.{Output}
+use Rattle.flat_net.specs.declared.net.Part.{Part}
+use Rattle.flat_net.specs.declared.net.Part.TheVariants as part
+use Rattle.flat_net.specs.declared.net.Point.{Point}
+use Rattle.flat_net.specs.declared.net.Point.TheVariants.{Constant, At}
+use Rattle.flat_net.specs.declared.net.StoreBit.{StoreBit}
+use Rattle.flat_net.specs.declared.net.StorePins.{StorePins}
+
+-- the number of what is read is below the count; a constant has none
+abbrev pub IsPointWithin : ℕ → Point → Type 0
+IsPointWithin count (Constant b) = Unit {0}
+IsPointWithin count (At number) = number < count
+
+-- the same of several
+abbrev pub ArePointsWithin : ℕ → List Point → Type 0
+ArePointsWithin count points = AllByRecursion (IsPointWithin count) points
+
+-- the numbers of what a bit of a storage cell reads are below the count
+pub record ArePinsWithin (count : ℕ) (pins : StorePins) : Type 0 where
+  pub clk : IsPointWithin count pins.clk
+  pub en : IsPointWithin count pins.en
+  pub arst : IsPointWithin count pins.arst
+  pub srst : IsPointWithin count pins.srst
+  pub aload : IsPointWithin count pins.aload
+  pub ad : IsPointWithin count pins.ad
+  pub set : IsPointWithin count pins.set
+  pub clr : IsPointWithin count pins.clr
+  pub d : IsPointWithin count pins.d
+
+-- the numbers of a bit of a storage cell are below the count
+abbrev pub IsStoreWithin : ℕ → StoreBit → Type 0
+IsStoreWithin count b = (b.number < count) × ArePinsWithin count b.pins
+
+-- the numbers of a combinational cell are below the count
+pub record IsLogicWithin (count : ℕ) (c : Logic) : Type 0 where
+  pub a : ArePointsWithin count c.a
+  pub b : ArePointsWithin count c.b
+  pub s : ArePointsWithin count c.s
+  pub outputs : AllByRecursion (λ (o : Output). o.number < count) c.outputs
+
+-- the numbers of a part are below the count
+abbrev pub IsPartWithin : ℕ → Part → Type 0
+IsPartWithin count (part.Given o) = o.number < count
+IsPartWithin count (part.Joined j) = (j.to < count) × IsPointWithin count j.from
+IsPartWithin count (part.Logic c) = IsLogicWithin count c.value
+IsPartWithin count (part.Storage c) = AllByRecursion (IsStoreWithin count) c.value.bits
+
+-- the same of several parts
+abbrev pub ArePartsWithin : ℕ → List Part → Type 0
+ArePartsWithin count parts = AllByRecursion (IsPartWithin count) parts
