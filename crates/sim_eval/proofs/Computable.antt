@@ -1,0 +1,213 @@
+-- The rows of a design without faults are of cells within the limits of their kinds.
+use Rattle.std.proofs.Common.{◌≡◌, ℕ, zero, suc, Bool, true, false, cond, List, [], ◌∷◌, ◌++◌, length, map, Option, Some, None, inl, inr, ⊎_elim, refl, sym, subst}
+use Rattle.std.specs.Prelude.{flat_map}
+use Rattle.std.specs.Str.{bytes_eq}
+use Rattle.rtl_bits.specs.declared.bit.Bit.{Bit}
+use Rattle.rtl_sig.specs.declared.sig.SigBit.{SigBit}
+use Rattle.cell_types.specs.declared.fault.CellFault.{CellFault}
+use Rattle.cell_types.specs.declared.fault.CellFault.TheVariants as fault
+use Rattle.cell_types.specs.declared.kind.CellKind.{CellKind}
+use Rattle.cell_types.specs.declared.kind.CellKind.TheVariants as Cell
+use Rattle.cell_types.specs.declared.pin_name.PinName.TheVariants.{A, B, S, Y, Q}
+use Rattle.cell_types.specs.declared.shape.Shape.{Shape}
+use Rattle.cell_types.specs.PinName.{pin_text}
+use Rattle.rtl_ir.specs.declared.cell.Cell.{Cell as CellOf}
+use Rattle.rtl_ir.specs.declared.cell.Pin.{Pin}
+use Rattle.rtl_ir.specs.declared.module.Design.{Design}
+use Rattle.rtl_ir.specs.declared.module.Link.{Link}
+use Rattle.rtl_ir.specs.declared.module.Module.{Module}
+use Rattle.rtl_ir.specs.declared.ports.PortLine.{PortLine}
+use Rattle.rtl_ir.specs.declared.process.Process.{Process}
+use Rattle.rtl_ir.specs.declared.store.Store.{Store}
+use Rattle.rtl_ir.specs.declared.wire.Role.{Role}
+use Rattle.rtl_ir.specs.declared.wire.Role.TheVariants.{Inner, Input, Output, Inout}
+use Rattle.rtl_ir.specs.declared.wire.Wire.{Wire}
+use Rattle.rtl_ir.specs.Drivers.{drives_of}
+use Rattle.rtl_ir.specs.Fault.{Spot, spot}
+use Rattle.rtl_ir.specs.Faults.{faults_within, module_faults}
+use Rattle.rtl_ir.specs.Faults.Bits.{bits_faults}
+use Rattle.rtl_ir.specs.Faults.Cells.{misfit, shape_fault, output_faults, memory_faults, faults_by_type, cell_faults}
+use Rattle.rtl_ir.specs.Faults.Links.{link_faults}
+use Rattle.rtl_ir.specs.Faults.Processes.{process_faults}
+use Rattle.rtl_ir.specs.Faults.Recursion.{recursion_faults}
+use Rattle.rtl_ir.specs.Faults.Stores.{store_faults}
+use Rattle.rtl_ir.specs.Faults.Wires.{wire_faults}
+use Rattle.rtl_ir.specs.Flat.Cell as flat
+use Rattle.rtl_ir.specs.Flat.Cell.{cell_kind, cell_shape, outputs, stores, word_store, gate_store, port_joins, instance_rows, kind_rows, cell_rows, cells_rows, instances}
+use Rattle.rtl_ir.specs.Flat.Driver.{StorePoints, Driven}
+use Rattle.rtl_ir.specs.Flat.Link.{joins, link_rows}
+use Rattle.rtl_ir.specs.Flat.Memory.{memories_rows}
+use Rattle.rtl_ir.specs.Flat.Place.{Frame, frame, Path, Place}
+use Rattle.rtl_ir.specs.Flat.Point.{Point, Constant, At, pin_points, points, wire_points}
+use Rattle.rtl_ir.specs.Flat.Process.{processes_rows}
+use Rattle.rtl_ir.specs.Flat.Rows.{plain_rows, rows_of}
+use Rattle.rtl_ir.specs.Flat.Start.{start_of}
+use Rattle.rtl_ir.specs.Flat.Tree as tree
+use Rattle.rtl_ir.specs.Flat.Tree.{named, in_module, in_instances, in_tree, given_rows, driven_rows, role_points, places, root}
+use Rattle.rtl_ir.specs.Parameters.{signal_at}
+use Rattle.rtl_ir.specs.Ports.{ports_of}
+use Rattle.rtl_ir.specs.Scope.{cells_alone}
+use Rattle.rtl_ir.specs.Types.{Ports, Library, type_by, cell_type, design_ports}
+use Rattle.cell_types.specs.Unsupported.{is_unsupported}
+use Rattle.net_model.specs.Lists.{In}
+use Rattle.net_model.proofs.Instances.{instances_find}
+use Rattle.net_model.proofs.Members.{In-cases}
+use Rattle.sim_eval.specs.Limits.{is_driver_within, is_logic_within, is_storage}
+use Rattle.sim_eval.proofs.Limits.{no_memory, word_within}
+
+-- the cell of each row is within the limits of its kind
+abbrev pub AreWithin : List Driven → Type 0
+AreWithin rows = (x : Driven) → In x rows → is_driver_within x.driver ≡ true
+
+both : (rows more : List Driven) → AreWithin rows → AreWithin more → AreWithin (rows ++ more)
+both rows more h k x i = ⊎_elim (λ l. h x l) (λ r. k x r) (In-cases x rows more i)
+
+-- lists that are empty together are empty
+left_none : {A : Type 0} (xs ys : List A) → xs ++ ys ≡ [] → xs ≡ []
+left_none [] ys e = refl
+left_none (x ∷ xs) ys e = absurd (cc)
+
+right_none : {A : Type 0} (xs ys : List A) → xs ++ ys ≡ [] → ys ≡ []
+right_none [] ys e = e
+right_none (x ∷ xs) ys e = absurd (cc)
+
+outputs_within : (shape : Shape) (inputs : List (List Point)) → is_logic_within shape.kind shape (map length inputs) ≡ true → (ys : List Point) (at : ℕ) → AreWithin (outputs shape inputs ys at)
+outputs_within shape inputs h [] at x i = absurd i
+outputs_within shape inputs h (At q ∷ ys) at x (inl e) = subst (λ z. is_driver_within z.driver ≡ true) (sym e) h
+outputs_within shape inputs h (At q ∷ ys) at x (inr i) = outputs_within shape inputs h ys (suc at) x i
+outputs_within shape inputs h (Constant b ∷ ys) at x i = outputs_within shape inputs h ys (suc at) x i
+
+stores_within : (start : SigBit → Bit) (shape : Shape) (pins : ℕ → StorePoints) → is_storage shape.kind ≡ true → (signal : List SigBit) (qs : List Point) (at : ℕ) → AreWithin (stores start shape pins signal qs at)
+stores_within start shape pins h [] qs at x i = absurd i
+stores_within start shape pins h (s ∷ signal) [] at x i = absurd i
+stores_within start shape pins h (s ∷ signal) (At q ∷ qs) at x (inl e) = subst (λ z. is_driver_within z.driver ≡ true) (sym e) h
+stores_within start shape pins h (s ∷ signal) (At q ∷ qs) at x (inr i) = stores_within start shape pins h signal qs (suc at) x i
+stores_within start shape pins h (s ∷ signal) (Constant b ∷ qs) at x i = stores_within start shape pins h signal qs (suc at) x i
+
+joins_within : (lefts rights : List Point) → AreWithin (joins lefts rights)
+joins_within [] rights x i = absurd i
+joins_within (l ∷ lefts) [] x i = absurd i
+joins_within (At q ∷ lefts) (r ∷ rights) x (inl e) = subst (λ z. is_driver_within z.driver ≡ true) (sym e) refl
+joins_within (At q ∷ lefts) (r ∷ rights) x (inr i) = joins_within lefts rights x i
+joins_within (Constant b ∷ lefts) (r ∷ rights) x i = joins_within lefts rights x i
+
+port_within : (role : Role) (outer inner : List Point) → AreWithin (port_joins role outer inner)
+port_within Inner outer inner x i = absurd i
+port_within Input outer inner x i = joins_within inner outer x i
+port_within Output outer inner x i = joins_within outer inner x i
+port_within Inout outer inner x i = absurd i
+
+instance_within : (p : Path) (wires : List Wire) (pins : List Pin) (f : Frame) (ports : List PortLine) → AreWithin (instance_rows p wires pins f ports)
+instance_within p wires pins f [] = λ x i. absurd i
+instance_within p wires pins f (port ∷ ports) =
+    both (port_joins port.role (points p wires (signal_at pins port.name)) (wire_points (f ∷ p) port.name 0 port.width)) (instance_rows p wires pins f ports) (port_within port.role (points p wires (signal_at pins port.name)) (wire_points (f ∷ p) port.name 0 port.width)) (instance_within p wires pins f ports)
+
+links_within : (p : Path) (wires : List Wire) (links : List Link) → AreWithin (link_rows p wires links)
+links_within p wires [] = λ x i. absurd i
+links_within p wires (l ∷ links) =
+    both (joins (points p wires l.left) (points p wires l.right)) (link_rows p wires links) (joins_within (points p wires l.left) (points p wires l.right)) (links_within p wires links)
+
+givens_within : (qs : List Place) (at : ℕ) → AreWithin (given_rows qs at)
+givens_within [] at x i = absurd i
+givens_within (q ∷ qs) at x (inl e) = subst (λ z. is_driver_within z.driver ≡ true) (sym e) refl
+givens_within (q ∷ qs) at x (inr i) = givens_within qs (suc at) x i
+
+kind_within : (start : SigBit → Bit) (p : Path) (wires : List Wire) (c : CellOf) (kind : CellKind) → misfit kind c ≡ None → AreWithin (kind_rows start p wires c kind)
+unfolding cell_shape
+kind_within start p wires c (Cell.Word kind) e =
+    outputs_within (cell_shape (Cell.Word kind) c.params) (pin_points p wires c.pins A ∷ pin_points p wires c.pins B ∷ pin_points p wires c.pins S ∷ []) (word_within p wires kind c e) (pin_points p wires c.pins Y) 0
+kind_within start p wires c (Cell.Gate kind) e =
+    outputs_within (cell_shape (Cell.Gate kind) c.params) (pin_points p wires c.pins A ∷ pin_points p wires c.pins B ∷ pin_points p wires c.pins S ∷ []) refl (pin_points p wires c.pins Y) 0
+kind_within start p wires c (Cell.Storage kind) e =
+    stores_within start (cell_shape (Cell.Storage kind) c.params) (word_store p wires c.pins) refl (signal_at c.pins (pin_text Q)) (pin_points p wires c.pins Q) 0
+kind_within start p wires c (Cell.StorageGate gate) e =
+    stores_within start (cell_shape (Cell.StorageGate gate) c.params) (gate_store p wires c.pins) refl (signal_at c.pins (pin_text Q)) (pin_points p wires c.pins Q) 0
+kind_within start p wires c (Cell.Memory kind) e = λ x i. absurd i
+
+-- a cell without a fault of its shape
+no_shape_fault : (here : Spot) (kind : CellKind) (c : CellOf) → shape_fault here (misfit kind c) ≡ [] → misfit kind c ≡ None
+no_shape_fault here kind c e =
+    by (misfit kind c) refl e
+  where
+    by : (o : Option CellFault) → misfit kind c ≡ o → shape_fault here o ≡ [] → misfit kind c ≡ None
+    by None f h = f
+    by (Some fault.Bad) f h = absurd (cc)
+    by (Some fault.Wide) f h = absurd (cc)
+    by (Some fault.Width) f h = absurd (cc)
+    by (Some fault.Memory) f h = absurd (no_memory kind c f)
+
+module _ (ports : Ports) (m : Module) where
+  library_fits : (earlier : List CellOf) (c : CellOf) (kind : CellKind) → faults_by_type cells_alone m earlier c (Library kind) ≡ [] → misfit kind c ≡ None
+  library_fits earlier c kind e =
+      let here = spot m.id c.name in
+      no_shape_fault here kind c (right_none _ (shape_fault here (misfit kind c)) (left_none _ (output_faults here (Library kind) c.pins) (left_none _ (memory_faults m earlier c kind) e)))
+
+  cell_fits : (earlier : List CellOf) (c : CellOf) (kind : CellKind) → cell_kind c ≡ Some kind → faults_by_type cells_alone m earlier c (cell_type ports c.kind_name) ≡ [] → misfit kind c ≡ None
+  unfolding cell_type cell_kind
+  cell_fits earlier c kind k e =
+      library_fits earlier c kind (subst (λ z. faults_by_type cells_alone m earlier c (type_by z (ports c.kind_name) (is_unsupported c.kind_name)) ≡ []) k e)
+
+  cells_within : (start : SigBit → Bit) (inner : flat.Ports) (p : Path) (earlier cells : List CellOf) → cell_faults cells_alone ports m earlier cells ≡ [] → AreWithin (cells_rows start inner p m.wires cells)
+  cells_within start inner p earlier [] e = λ x i. absurd i
+  cells_within start inner p earlier (c ∷ cells) e =
+      both (cell_rows start inner p m.wires c (cell_kind c)) (cells_rows start inner p m.wires cells)
+      (by (cell_kind c) refl)
+      (cells_within start inner p (earlier ++ c ∷ []) cells (right_none (faults_by_type cells_alone m earlier c (cell_type ports c.kind_name)) _ e))
+    where
+      by : (o : Option CellKind) → cell_kind c ≡ o → AreWithin (cell_rows start inner p m.wires c o)
+      by None k = instance_within p m.wires c.pins (frame c.name c.kind_name) (inner c.kind_name)
+      by (Some kind) k =
+          kind_within start p m.wires c kind (cell_fits earlier c kind k (left_none (faults_by_type cells_alone m earlier c (cell_type ports c.kind_name)) (cell_faults cells_alone ports m (earlier ++ c ∷ []) cells) e))
+
+  processes_within : (start : SigBit → Bit) (p : Path) (earlier processes : List Process) → process_faults cells_alone ports m earlier processes ≡ [] → AreWithin (processes_rows start p m.wires m processes)
+  processes_within start p earlier [] e x i = absurd i
+  processes_within start p earlier (q ∷ processes) e x i = absurd (cc)
+
+  memories_within : (p : Path) (cells : List CellOf) (processes : List Process) (memories : List Store) → flat_map (store_faults cells_alone m.id) memories ≡ [] → AreWithin (memories_rows p m.wires cells processes memories)
+  memories_within p cells processes [] e x i = absurd i
+  memories_within p cells processes (s ∷ memories) e x i = absurd (cc)
+
+  rows_within : (inner : flat.Ports) (p : Path) → module_faults cells_alone ports m ≡ [] → AreWithin (rows_of inner p m)
+  rows_within inner p e =
+      let start = start_of m.wires m.processes in
+      let e1 = left_none _ (bits_faults m.id (drives_of ports m) 0 m.wires) e in
+      let e2 = left_none _ (link_faults m.id 1 m.links) e1 in
+      let ps = right_none _ (process_faults cells_alone ports m [] m.processes) e2 in
+      let e3 = left_none _ (process_faults cells_alone ports m [] m.processes) e2 in
+      let cs = right_none _ (cell_faults cells_alone ports m [] m.cells) e3 in
+      let e4 = left_none _ (cell_faults cells_alone ports m [] m.cells) e3 in
+      let ss = right_none (wire_faults m.id [] m.wires) (flat_map (store_faults cells_alone m.id) m.memories) e4 in
+      both (cells_rows start inner p m.wires m.cells) (plain_rows p m) (cells_within start inner p [] m.cells cs)
+      (both (link_rows p m.wires m.links) _ (links_within p m.wires m.links)
+      (both (processes_rows start p m.wires m m.processes) (memories_rows p m.wires m.cells m.processes m.memories) (processes_within start p [] m.processes ps) (memories_within p m.cells m.processes m.memories ss)))
+
+-- a module of these has no faults
+module_faultless : (ports : Ports) (modules : List Module) → flat_map (module_faults cells_alone ports) modules ≡ [] → (m : Module) → In m modules → module_faults cells_alone ports m ≡ []
+module_faultless ports [] e m i = absurd i
+module_faultless ports (n ∷ modules) e m (inl f) =
+    subst (λ z. module_faults cells_alone ports z ≡ []) (sym f) (left_none (module_faults cells_alone ports n) (flat_map (module_faults cells_alone ports) modules) e)
+module_faultless ports (n ∷ modules) e m (inr i) =
+    module_faultless ports modules (right_none (module_faults cells_alone ports n) (flat_map (module_faults cells_alone ports) modules) e) m i
+
+named_in : (modules : List Module) (id : List ℕ) (m : Module) → named modules id ≡ Some m → In m modules
+named_in [] id m e = absurd (cc)
+named_in (n ∷ modules) id m e =
+    by (named_in modules id m) (bytes_eq n.id id) e
+  where
+    by : (named modules id ≡ Some m → In m modules) → (t : Bool) → cond t (Some n) (named modules id) ≡ Some m → In m (n ∷ modules)
+    by rest true f = inl (sym (cc))
+    by rest false f = inr (rest f)
+
+module _ (d : Design) (faultless : faults_within cells_alone d.modules ≡ []) where
+  tree_within : (depth : ℕ) (p : Path) (m : Module) → In m d.modules → AreWithin (in_tree d (rows_of (tree.design_ports d)) depth p m)
+  tree_within zero p m i = λ x j. absurd j
+  tree_within (suc depth) p m i =
+      both (rows_of (tree.design_ports d) p m) (in_instances d (in_tree d (rows_of (tree.design_ports d)) depth) p (instances m.cells))
+      (rows_within (design_ports d.modules) m (tree.design_ports d) p (module_faultless (design_ports d.modules) d.modules (left_none (flat_map (module_faults cells_alone (design_ports d.modules)) d.modules) (recursion_faults d.modules) faultless) m i))
+      (λ x j. let k = instances_find d (in_tree d (rows_of (tree.design_ports d)) depth) p x (instances m.cells) j in
+      tree_within depth (k.0 ∷ p) k.1 (named_in d.modules k.0.module_name k.1 k.3) x k.4)
+
+  -- the rows of a module
+  pub driven_within : (m : Module) → In m d.modules → AreWithin (driven_rows d m)
+  driven_within m i =
+      both (given_rows (places (role_points Input (root m) (ports_of m.wires))) 0) _ (givens_within _ 0) (tree_within (length d.modules) (root m) m i)

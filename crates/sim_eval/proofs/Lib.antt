@@ -1,0 +1,10 @@
+pub mod Tables
+pub mod Taking
+pub mod Bridges
+pub mod Settling
+pub mod Firsts
+pub mod Afterwards
+pub mod Simulating
+pub mod Limits
+pub mod Computable
+pub mod Kept

@@ -1,0 +1,63 @@
+use Rattle.std.proofs.Common.{◌≡◌, ◌<◌, ◌∙◌, ℕ, ap, map, refl, subst, sym}
+use Rattle.std.specs.List.{AllByRecursion}
+use Rattle.rtl_ir.specs.Flat.Driver.{Given, Joined, Worked, Stored}
+use Rattle.flat_net.specs.declared.net.Output.{Output}
+use Rattle.flat_net.specs.declared.net.StoreBit.{StoreBit}
+use Rattle.flat_net.specs.Parts.{inputs_of, output_row, part_rows, store_row}
+use Rattle.flat_net.specs.Points.{place_at, pins_of, point_of}
+use Rattle.flat_net.specs.Within.{IsLogicWithin, IsPartWithin, IsStoreWithin}
+use Rattle.sim_eval.specs.First.{IsFirstOf, marked, unmarked}
+use Rattle.sim_eval.proofs.Firsts.{first_items, first_single, stores_within, within_unmarked}
+use Rattle.sim_eval.proofs.first.first_of_part.Goals as goal
+
+pub returns-in-Given : goal.returns-in-Given
+returns-in-Given c = record {
+  first = subst (λ z. IsFirstOf c.args.seen.now c.mark.new.seen z c.then_some.result) (sym c.in-Given.is)
+      (first_single c.in-Given.output.number (λ ps. Given c.in-Given.output.at) _ _ _ _ _ (λ ps. refl) (λ count h. h) c.mark.ensures.was c.then_some.ensures c.mark.ensures.value);
+}
+
+pub returns-in-Joined : goal.returns-in-Joined
+returns-in-Joined c = record {
+  first = subst (λ z. IsFirstOf c.args.seen.now c.mark-in-Joined.new.seen z c.then_some-in-Joined.result) (sym c.in-Joined.is)
+      (first_single c.in-Joined.join.to (λ ps. Joined (point_of ps c.in-Joined.join.from)) _ _ _ _ _ (λ ps. refl) (λ count h. h.0) c.mark-in-Joined.ensures.was c.then_some-in-Joined.ensures c.mark-in-Joined.ensures.value);
+}
+
+pub returns-in_ok-cell-in-Logic : goal.returns-in_ok-cell-in-Logic
+returns-in_ok-cell-in-Logic c =
+    let seen = c.args.seen.now in
+    let cell = c.in-Logic.cell.value in
+    let outs = c.in_ok-cell-in-Logic.field-0 in
+    let number : Output → ℕ = λ o. o.number in
+    let were : c.as_slice.result.now ≡ cell.outputs = c.as_slice.ensures.value ∙ ap (λ z. z.outputs) c.deref.ensures in
+    let is : outs ≡ unmarked number seen cell.outputs = c.in_ok-cell-in-Logic.ensures.value ∙ ap (unmarked number seen) were in
+    let marks : c.first_outputs.new.seen ≡ marked number seen cell.outputs = c.in_ok-cell-in-Logic.ensures.seen ∙ ap (marked number seen) were in
+    record {
+      first = first_items number (λ ps (o : Output). Worked cell.shape (inputs_of ps cell) o.at) seen c.first_outputs.new.seen c.args.part _ cell.outputs outs
+          (λ ps. ap (part_rows ps) c.in-Logic.is)
+          (λ ps. ap (λ z. map (output_row ps z.shape (inputs_of ps z)) outs) c.deref_mut.ensures.value)
+          (λ count h. let k : IsLogicWithin count cell = subst (IsPartWithin count) c.in-Logic.is h in k.outputs)
+          (λ count h.
+          let k : IsLogicWithin count cell = subst (IsPartWithin count) c.in-Logic.is h in
+          let there : IsLogicWithin count (record cell { outputs = outs }) =
+          record { a = k.a; b = k.b; s = k.s; outputs = subst (AllByRecursion (λ (o : Output). o.number < count)) (sym is) (within_unmarked number (λ (o : Output). o.number < count) seen cell.outputs k.outputs) } in
+          subst (λ z. IsLogicWithin count (record z { outputs = outs })) (sym c.deref_mut.ensures.value) there)
+          is marks;
+    }
+
+pub returns-in_ok-cell-in-Storage : goal.returns-in_ok-cell-in-Storage
+returns-in_ok-cell-in-Storage c =
+    let seen = c.args.seen.now in
+    let cell = c.in-Storage.cell.value in
+    let outs = c.in_ok-cell-in-Storage.field-0 in
+    let number : StoreBit → ℕ = λ b. b.number in
+    let were : c.as_slice-in-Storage.result.now ≡ cell.bits = c.as_slice-in-Storage.ensures.value ∙ ap (λ z. z.bits) c.deref-in-Storage.ensures in
+    let is : outs ≡ unmarked number seen cell.bits = c.in_ok-cell-in-Storage.ensures.value ∙ ap (unmarked number seen) were in
+    let marks : c.first_bits.new.seen ≡ marked number seen cell.bits = c.in_ok-cell-in-Storage.ensures.seen ∙ ap (marked number seen) were in
+    record {
+      first = first_items number (λ ps (b : StoreBit). Stored b.start cell.shape b.at (pins_of ps b.pins) (place_at ps b.number)) seen c.first_bits.new.seen c.args.part _ cell.bits outs
+          (λ ps. ap (part_rows ps) c.in-Storage.is)
+          (λ ps. ap (λ z. map (store_row ps z.shape) outs) c.deref_mut-in-Storage.ensures.value)
+          (λ count h. stores_within count cell.bits (subst (IsPartWithin count) c.in-Storage.is h))
+          (λ count h. subst (AllByRecursion (IsStoreWithin count)) (sym is) (within_unmarked number (IsStoreWithin count) seen cell.bits (subst (IsPartWithin count) c.in-Storage.is h)))
+          is marks;
+    }

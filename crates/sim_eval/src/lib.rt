@@ -1,0 +1,13 @@
+//! The evaluator: the outputs of a module of a design for one input vector after another.
+#![tactic(auto)]
+
+mod cell;
+mod first;
+pub mod laws;
+mod moment;
+mod sim;
+mod store;
+mod sweep;
+mod values;
+
+pub use sim::Sim;

@@ -1,0 +1,96 @@
+//! A simulation of a module.
+
+ghost use Rattle.std.specs.Prelude.{IsTrue};
+ghost use Rattle.sim_eval.specs.Limits.{are_computable};
+
+use crate::first::first_drivers;
+use crate::moment::Moment;
+use crate::sweep::settle;
+use crate::values::bits_of;
+use flat_net::{Net, Part, flatten};
+use rtl_bits::{Bit, Bits, Memory, Seq};
+use rtl_check::Checked;
+use std::alloc::Global;
+
+/// A module of a design with all its instances, after some steps.
+#[derive(Drop)]
+pub struct Sim {
+    parts: Seq<Part>,
+    outputs: Seq<u32>,
+    values: Vec<Bit>,
+    started: bool,
+    ghost computable: { IsTrue (are_computable parts) },
+}
+
+impl Sim {
+    ghost use Rattle.std.specs.Prelude.{◌≡◌, ◌<◌, ◌∷◌, ◌++◌, List, [], IfOk, OnErr, OnOk, Some, length, slice_get};
+    ghost use Rattle.rtl_bits.specs.declared.bit.Bit.{Bit};
+    ghost use Rattle.rtl_ir.specs.declared.module.Design.{Design};
+    ghost use Rattle.rtl_ir.specs.declared.module.Module.{Module};
+    ghost use Rattle.rtl_ir.specs.Flat.Place.{Place};
+    ghost use Rattle.flat_net.specs.Net.{IsNetOf};
+    ghost use Rattle.sim_eval.specs.After.{outputs_after, valuation_after};
+    ghost use Rattle.sim_eval.specs.Sim.{AreAt, IsAt, IsFaultlessNet, IsSimOf};
+
+    /// The module at a place of the design, before the first step: every storage bit has its start value, all inputs
+    /// are x, and all other bits are settled.
+    pub fn start(alloc: Global, design: &Checked, at: u32) -> Result<Sim, Memory>
+        requires in_range { at < length design.now.design.modules }
+        ensures settled { (m : Module) → slice_get design.now.design.modules at ≡ Some m →
+            IfOk result (λ sim. IsSimOf sim design.now.design m []) }
+    {
+        let net = flatten(alloc, design.design(), at)?;
+        Sim::of(alloc, net)
+    }
+
+    /// The netlist, before the first step.
+    fn of(alloc: Global, net: Net) -> Result<Sim, Memory>
+        requires faultless { IsFaultlessNet net }
+        ensures settled { (d : Design) (m : Module) (ps : List Place) → IsNetOf net d m ps → IfOk result (λ sim. IsSimOf sim d m []) }
+    {
+        let Net {
+            parts,
+            count,
+            outputs,
+        } = net;
+        let parts = first_drivers(alloc, parts, count as usize)?;
+        let values = settle(alloc, &Moment::Start, parts.as_slice(), count as usize)?;
+        Ok(Sim {
+            parts,
+            outputs,
+            values,
+            started: false,
+        })
+    }
+
+    /// One step with an input vector: all input ports in order of port number, each port's bits from its bit 0 on. The
+    /// answer is all output ports in that way. After an error the simulation is as before.
+    pub fn step(&mut self, inputs: &Bits) -> Result<Bits, Memory>
+        ensures settled { (d : Design) (m : Module) (stimulus : List (List Bit)) → IsSimOf self.old d m stimulus →
+            OnOk result (IsSimOf self.new d m (stimulus ++ inputs.now ∷ [])) }
+        ensures outputs { (d : Design) (m : Module) (stimulus : List (List Bit)) → IsSimOf self.old d m stimulus →
+            IfOk result (λ bits. bits ≡ outputs_after d m (stimulus ++ inputs.now ∷ [])) }
+        ensures err { OnErr result (self.new ≡ self.old) }
+    {
+        let alloc = *self.values.allocator();
+        let now = self.next(alloc, inputs)?;
+        let outputs = bits_of(alloc, now.as_slice(), self.outputs.as_slice())?;
+        self.values = now;
+        self.started = true;
+        Ok(outputs)
+    }
+
+    /// What all bits have in the next step.
+    fn next(&self, alloc: Global, inputs: &Bits) -> Result<Vec<Bit>, Memory>
+        ensures settled { (d : Design) (m : Module) (stimulus : List (List Bit)) (ps : List Place) → IsAt self.now d m stimulus ps →
+            IfOk result (λ now. AreAt ps now.items (valuation_after d m (stimulus ++ inputs.now ∷ []))) }
+    {
+        let before = self.values.as_slice();
+        let moment = Moment::Step {
+            before,
+            inputs: inputs.as_slice(),
+            first: !self.started,
+        };
+        settle(alloc, &moment, self.parts.as_slice(), before.len())
+    }
+}
