@@ -1,5 +1,5 @@
 -- What a build reads of a key.
-use Rattle.std.proofs.Common.{◌≡◌, ℕ, suc, zero, ◌<◌, List, [], ◌∷◌, length, Option, Some, None, Result, Ok, Err, inl, inr, refl, sym, ap, subst, ◌∙◌, arith}
+use Rattle.std.proofs.Common.{◌≡◌, ℕ, suc, zero, ◌<◌, List, [], ◌∷◌, length, Bool, true, false, cond, Option, Some, None, Result, Ok, Err, inl, inr, refl, sym, ap, subst, ◌∙◌, arith}
 use Rattle.std.specs.Prelude.{slice_get, IfOk, unwrap_or, map}
 use Rattle.std.specs.List.{All}
 use Rattle.std.specs.Option.{option_map}
@@ -16,23 +16,39 @@ use Rattle.rtl_trip.specs.PortTables.{ArePorts}
 use Rattle.rtl_trip.proofs.PortTableLemmas.{readable_table}
 use Rattle.rtl_write.specs.Text.{body_text}
 use Rattle.rtl_write.specs.Ports.{ports_text}
+use Rattle.rtl_ir.specs.Types.{table_ports}
 use Rattle.net_model.specs.Lists.{In}
+use Rattle.tech_map.specs.Techmap.{beside, techmap_of}
+use Rattle.tech_map.proofs.Faultless.{plain}
+use Rattle.tech_map.proofs.Forming.{techmap_faultless}
 use Rattle.script_core.specs.declared.key.Key.{Key}
 use Rattle.script_core.specs.declared.outcome.Outcome.{Outcome}
 use Rattle.script_core.specs.declared.word.Word.{Word}
+use Rattle.script_core.specs.declared.word.Word.TheVariants.{Proc, OptExpr, OptMerge, OptClean, Opt, Fsm, Memory, Techmap}
 use Rattle.script_core.specs.Built.{body_name, unnamed, IsValueOf, IsAcceptedKey}
 use Rattle.script_core.specs.Cold.{table_of}
-use Rattle.script_core.specs.Fold.{fold_script, techmap_within, AfterWord, AreApplicable, IsFaultless, IsStageScript}
+use Rattle.script_core.specs.Fold.{fold_script, is_within, AfterWord, AreApplicable, IsFaultless, IsStageScript}
 use Rattle.script_core.specs.Keys.{body_text_at, key_of}
 use Rattle.script_core.proofs.Faultless.{faultless_alone}
 
--- the script of this stage may be applied to a module without faults
-no_more : (table : PortTable) (o : Option Module) → AfterWord (AreApplicable [] table) o
-no_more table None = tt
-no_more table (Some m) = tt
-
+-- a script of this stage may be applied to a module without faults, since each pass leaves none
 pub stage_applicable : (script : List Word) (table : PortTable) (m : Module) → IsStageScript script → IsFaultless table m → AreApplicable script table m
-stage_applicable script table m is h = subst (λ (s : List Word). AreApplicable s table m) (sym is) (h, (h, no_more table (techmap_within m)))
+stage_applicable [] table m is h = tt
+stage_applicable (Proc ∷ ws) table m is h = (h, stage_applicable ws table m is.1 h)
+stage_applicable (Techmap ∷ ws) table m is h =
+    let fine = plain (table_ports table.modules) m h in
+    let more = stage_applicable ws table (techmap_of m) is.1 (techmap_faultless m fine cells_alone (table_ports table.modules) h) in
+    (h, by (is_within (beside m)) more)
+  where
+    by : (t : Bool) → AreApplicable ws table (techmap_of m) → AfterWord (AreApplicable ws table) (cond t (Some (techmap_of m)) None)
+    by true more = more
+    by false more = tt
+stage_applicable (OptExpr ∷ ws) table m is h = absurd is.0
+stage_applicable (OptMerge ∷ ws) table m is h = absurd is.0
+stage_applicable (OptClean ∷ ws) table m is h = absurd is.0
+stage_applicable (Opt ∷ ws) table m is h = absurd is.0
+stage_applicable (Fsm ∷ ws) table m is h = absurd is.0
+stage_applicable (Memory ∷ ws) table m is h = absurd is.0
 
 -- the module at a place of a design, with its table
 pub record IsAt (modules : List Module) (at : ℕ) : Type 0 where

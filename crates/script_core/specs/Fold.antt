@@ -22,7 +22,7 @@ abbrev pub techmap_within : Module → Option Module
 techmap_within m = if is_within (beside m) then Some (techmap_of m) else None
 
 -- what the pass of a word makes of a module, None where that passes a limit. A module without processes is what `proc`
--- gives; the passes of the words between are not there yet
+-- gives; the passes of the words between are not there yet: no script of this stage has them
 abbrev pub pass_of : Word → Module → Option Module
 pass_of Proc m = Some m
 pass_of OptExpr m = Some m
@@ -57,6 +57,18 @@ abbrev pub AreApplicable : List Word → PortTable → Module → Type 0
 AreApplicable [] table m = Unit {0}
 AreApplicable (word ∷ words) table m = IsFaultless table m × AfterWord (AreApplicable words table) (pass_of word m)
 
--- the script of this stage: each cell of a module without processes is mapped
+-- the words whose passes are there
+abbrev pub HasPass : Word → Type 0
+HasPass Proc = Unit {0}
+HasPass OptExpr = ⊥
+HasPass OptMerge = ⊥
+HasPass OptClean = ⊥
+HasPass Opt = ⊥
+HasPass Fsm = ⊥
+HasPass Memory = ⊥
+HasPass Techmap = Unit {0}
+
+-- a script of such words alone
 abbrev pub IsStageScript : List Word → Type 0
-IsStageScript script = script ≡ Proc ∷ Techmap ∷ []
+IsStageScript [] = Unit {0}
+IsStageScript (word ∷ words) = HasPass word × IsStageScript words

@@ -1,4 +1,4 @@
-//! Scripts of passes, and the keys under which their results are kept.
+//! Scripts of passes, the keys under which their results are kept, and builds.
 #![tactic(auto)]
 
 mod building;
