@@ -1,5 +1,5 @@
 -- The bits that cells drive, one after another.
-use Rattle.std.proofs.Common.{◌≡◌, ℕ, zero, suc, ◌+◌, ◌<◌, ◌≤◌, List, [], ◌∷◌, ◌++◌, length, get_or, take, min, Option, Some, None, Result, Ok, Err, IfOk, refl, sym, ◌∙◌, ap, subst, arith, map, append_assoc}
+use Rattle.std.proofs.Common.{◌≡◌, ℕ, zero, suc, ◌+◌, ◌<◌, ◌≤◌, List, [], ◌∷◌, ◌++◌, length, get_or, take, min, None, Result, Ok, Err, IfOk, refl, sym, ◌∙◌, ap, subst, arith, map, append_assoc}
 use Rattle.std.specs.List.{AllByRecursion}
 use Rattle.std.specs.Option.{ok_or}
 use Rattle.std.specs.Result.{result_ok}
@@ -8,13 +8,10 @@ use Rattle.rtl_bits.specs.declared.bit.Bit.{Bit}
 use Rattle.rtl_bits.specs.declared.memory.Memory.{Memory}
 use Rattle.rtl_sig.specs.declared.sig.SigBit.{SigBit}
 use Rattle.cell_types.specs.declared.fault.CellFault.{CellFault}
-use Rattle.cell_types.specs.declared.given.Param.{Param}
-use Rattle.cell_types.specs.declared.given.PinWidth.{PinWidth}
 use Rattle.cell_types.specs.declared.kind.CellKind.{CellKind}
 use Rattle.cell_types.specs.declared.shape.Shape.{Shape}
-use Rattle.cell_types.specs.Fault.{fault_of}
-use Rattle.cell_types.specs.Shape.{made_shape, shape_of, unless}
-use Rattle.rtl_ir.specs.declared.cell.CellParam.{CellParam}
+use Rattle.rtl_ir.specs.declared.cell.Cell.{Cell}
+use Rattle.rtl_ir.specs.Faults.Cells.{misfit}
 use Rattle.rtl_ir.specs.Flat.Cell.{cell_shape, outputs, stores, worked_rows}
 use Rattle.rtl_ir.specs.Flat.Driver.{Driven, StorePoints, Worked, Stored}
 use Rattle.cell_types.specs.declared.pin_name.PinName.TheVariants.{A, B, S, Y}
@@ -23,7 +20,6 @@ use Rattle.rtl_ir.specs.declared.wire.Wire.{Wire}
 use Rattle.rtl_ir.specs.Flat.Place.{Path, Place}
 use Rattle.rtl_ir.specs.Flat.Point.{pin_points}
 use Rattle.rtl_ir.specs.Flat.Point as rtl
-use Rattle.rtl_ir.specs.Parameters.{given_params}
 use Rattle.std.specs.Global.{Box}
 use Rattle.flat_net.specs.declared.net.Logic.{Logic}
 use Rattle.flat_net.specs.declared.net.Output.{Output}
@@ -42,15 +38,10 @@ use Rattle.flat_net.proofs.Reading.{pins-kept, pins-within}
 use Rattle.flat_net.proofs.Adding.{points_of-take, within-before, within-behind, within-take}
 
 -- a cell without fault has its shape
-made : (fault : Option CellFault) (made shape : Shape) → unless fault made ≡ Ok shape → shape ≡ made
-made (Some fault) m shape h = absurd (let wrong : ◌≡◌ {A = Result Shape CellFault} (Err fault) (Ok shape) = h in cc)
-made None m shape h = let same : ◌≡◌ {A = Result Shape CellFault} (Ok m) (Ok shape) = h in cc
-
-pub shaped : (kind : CellKind) (cell_params : List CellParam) (params : List Param) (pins : List PinWidth) → params ≡ given_params cell_params → (r : Result Shape CellFault)
-    → IfOk r (λ shape. shape_of kind params pins ≡ Ok shape) → (s : Result Shape Memory) (m : Memory) → s ≡ ok_or (result_ok r) m → IfOk s (λ shape. shape ≡ cell_shape kind cell_params)
-unfolding cell_shape
-shaped kind cell_params params pins given (Ok shape) h s m e = rw e (made (fault_of kind params pins) (made_shape kind params) shape h ∙ ap (made_shape kind) given)
-shaped kind cell_params params pins given (Err fault) h s m e = rw e tt
+pub shaped : (kind : CellKind) (c : Cell) (r : Result Shape CellFault) → IfOk r (λ shape. (misfit kind c ≡ None) × (shape ≡ cell_shape kind c.params)) → (s : Result Shape Memory) (m : Memory) → s ≡ ok_or (result_ok r) m
+    → IfOk s (λ shape. shape ≡ cell_shape kind c.params)
+shaped kind c (Ok shape) h s m e = rw e h.1
+shaped kind c (Err fault) h s m e = rw e tt
 
 -- outputs
 

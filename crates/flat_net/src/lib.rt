@@ -10,7 +10,6 @@ mod links;
 mod logic;
 mod modules;
 mod net;
-mod params;
 mod places;
 mod ports;
 mod reads;
@@ -19,6 +18,7 @@ mod signals;
 mod starts;
 mod stores;
 mod tree;
+mod values;
 
 pub use flat::flatten;
 pub use net::{Join, Logic, Net, Output, Part, Point, Storage, StoreBit, StorePins};

@@ -6,7 +6,7 @@ ghost use Rattle.rtl_ir.specs.declared.wire.Wire.{Wire};
 ghost use Rattle.rtl_ir.specs.Flat.Start.{attribute_bits, start_of};
 ghost use Rattle.flat_net.specs.Cells.{starts_of};
 
-use crate::params::value_bits;
+use crate::values::value_bits;
 use rtl_bits::{Bit, Bits, Memory};
 use rtl_ir::{Attribute, Wire};
 use rtl_sig::SigBit;

@@ -1,28 +1,12 @@
-//! What the parameters of a cell say.
+//! The bits of constants.
 
 ghost use Rattle.std.specs.Prelude.{◌≡◌, IfOk, reverse};
 ghost use Rattle.std.specs.List.{flat_map};
 ghost use Rattle.rtl_ir.specs.Constants.{low_bits, unsigned_of, value_bits};
-ghost use Rattle.rtl_ir.specs.Parameters.{given_params};
 
-use cell_types::Param;
 use rtl_bits::{Bits, Copied, Memory};
-use rtl_ir::{CellParam, Value};
+use rtl_ir::Value;
 use std::alloc::Global;
-
-/// The parameters with the bits of their values.
-pub(crate) fn given_params(alloc: Global, params: &[CellParam]) -> Result<Vec<Param>, Memory>
-    ensures value { IfOk result (λ given. given.items ≡ given_params params.now) }
-{
-    let mut given = Vec::with_capacity(alloc, params.len())?;
-    for param in params {
-        given.push(Param {
-            name: param.name.copy()?,
-            value: value_bits(alloc, &param.value)?,
-        })?;
-    }
-    Ok(given)
-}
 
 /// The bits of a constant.
 pub(crate) fn value_bits(alloc: Global, value: &Value) -> Result<Bits, Memory>
