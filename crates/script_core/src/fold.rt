@@ -1,7 +1,7 @@
 //! The passes of a script, in order.
 
 ghost use Rattle.std.specs.Prelude.{◌≡◌, Err, IfOk, None, Some};
-ghost use Rattle.script_core.specs.Fold.{AreApplicable, IsFaultless, fold_script, pass_of};
+ghost use Rattle.script_core.specs.Fold.{AreApplicable, IsFaultless, fold_script, pass_of, techmap_within};
 
 use crate::outcome::Outcome;
 use crate::word::Word;
@@ -10,6 +10,15 @@ use rtl_bits::Memory;
 use rtl_ir::{Module, PortTable};
 use std::alloc::Global;
 
+/// The module with its cells mapped. `Over` where the gates would pass a limit.
+fn mapped(alloc: Global, module: &Module, ports: &PortTable) -> Result<Module, PassFault>
+    requires faultless { IsFaultless ports.now «module».now }
+    ensures exact { IfOk result (λ after. techmap_within «module».now ≡ Some after) }
+    ensures over { result ≡ Err PassFault.Over → techmap_within «module».now ≡ None }
+{
+    tech_map::apply(alloc, module, ports)
+}
+
 /// What the pass of a word makes of the module. `Over` where that would pass a limit.
 fn pass(alloc: Global, word: Word, module: Module, ports: &PortTable) -> Result<Module, PassFault>
     requires faultless { IsFaultless ports.now «module» }
@@ -17,7 +26,7 @@ fn pass(alloc: Global, word: Word, module: Module, ports: &PortTable) -> Result<
     ensures over { result ≡ Err PassFault.Over → pass_of word «module» ≡ None }
 {
     match word {
-        Word::Techmap => tech_map::apply(alloc, &module, ports),
+        Word::Techmap => mapped(alloc, &module, ports),
         _ => Ok(module),
     }
 }
