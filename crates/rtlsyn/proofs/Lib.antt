@@ -1,3 +1,6 @@
-pub mod GateLemmas
-pub mod NumberLemmas
+pub mod ColdLemmas
+pub mod OverLemmas
+pub mod Counting
+pub mod Rising
 pub mod Replying
+pub mod Refined

@@ -14,7 +14,6 @@ use Rattle.rtl_check.specs.declared.fault.CheckFault.{CheckFault}
 use Rattle.rtl_check.specs.declared.fault.CheckFault.TheVariants as check
 use Rattle.rtl_check.specs.Finds.{IsFirst, first_answer}
 use Rattle.rtl_check.specs.Words.{fault_number, fault_words}
-use Rattle.rtl_write.specs.Text.{text_of}
 use Rattle.rtl_read.specs.declared.read_fault.ReadFault.{ReadFault}
 use Rattle.rtl_read.specs.declared.read_fault.ReadFault.TheVariants as faults
 use Rattle.rtl_read.specs.Reads.{Reads, IsFirstFault, OnFault}
@@ -23,8 +22,7 @@ use Rattle.rtlsyn.specs.declared.program.Mode.{Mode}
 use Rattle.rtlsyn.specs.declared.program.Mode.TheVariants.{Synth}
 use Rattle.rtlsyn.specs.declared.reply.Reply.{Reply}
 use Rattle.rtlsyn.specs.Said.{said_of}
-use Rattle.rtlsyn.specs.Gates.{netlist_of}
-use Rattle.rtlsyn.specs.Replies.{Said, checked_reply, error_line, design_reply, fault_reply, IsTextReply, IsInputReply, IsReply, HasBegun, HasAnswered}
+use Rattle.rtlsyn.specs.Replies.{Said, checked_reply, cold_reply, error_line, design_reply, fault_reply, IsTextReply, IsInputReply, IsReply, HasBegun, HasAnswered}
 
 -- ---- there is one
 
@@ -63,9 +61,9 @@ pub of_design : (text : List ℕ) (design : Design) (r : Result Reply Memory) �
 of_design text design (Ok reply) reads is = inl (design, reads, is)
 of_design text design (Err memory) reads is = tt
 
--- a design without faults has the reply with its netlist
+-- a design without faults has the reply to its cold run
 pub of_accepted : (design given : Design) (r : Result Reply Memory) → given ≡ design → faults_within cells_alone design.modules ≡ []
-    → IfOk r (λ reply. said_of reply ≡ record { text = text_of (netlist_of given); error = false }) → IfOk r (λ reply. said_of reply ≡ design_reply design)
+    → IfOk r (λ reply. said_of reply ≡ cold_reply given) → IfOk r (λ reply. said_of reply ≡ design_reply design)
 unfolding design_reply
 of_accepted design given (Ok reply) same fine is =
     is ∙ ap (λ (d : Design). checked_reply d None) same ∙ sym (ap (λ fs. checked_reply design (first_answer fs)) fine)

@@ -1,5 +1,4 @@
-pub mod Fresh
-pub mod Gates
-pub mod Numbers
+pub mod Cold
+pub mod Builds
 pub mod Replies
 pub mod Said

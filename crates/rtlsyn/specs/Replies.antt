@@ -1,5 +1,6 @@
 -- What the program writes, and what a call owes.
-use Rattle.std.specs.Prelude.{◌≡◌, ℕ, ◌<◌, nat_lt, List, [], ◌∷◌, ◌++◌, Bool, true, false, Option, Some, None, IfSome, length, take, codes, ◌⊎◌}
+use Rattle.std.specs.Prelude.{◌≡◌, ℕ, ◌-◌, ◌<◌, nat_lt, List, [], ◌∷◌, ◌++◌, Bool, true, false, Option, Some, None, IfSome, length, take, codes, ◌⊎◌}
+use Rattle.std.specs.Fmt.{decimal}
 use Rattle.std.specs.Io.KnownBytes.{Appends, Consumes, IsAtEnd}
 use Rattle.synth_io.specs.declared.input.TheConstants.{LIMIT}
 use Rattle.rtl_ir.specs.declared.module.Design.{Design}
@@ -13,11 +14,17 @@ use Rattle.rtl_check.specs.declared.fault.CheckFault.{CheckFault}
 use Rattle.rtl_check.specs.Finds.{first_answer}
 use Rattle.rtl_check.specs.Words.{fault_number, fault_words}
 use Rattle.rtl_write.specs.Text.{text_of}
+use Rattle.net_model.specs.Refine.{Refines}
+use Rattle.script_core.specs.declared.outcome.Outcome.{Outcome}
+use Rattle.script_core.specs.declared.word.Word.{Word}
+use Rattle.script_core.specs.declared.word.Word.TheVariants as scripts
+use Rattle.script_core.specs.Cold.{cold}
 use Rattle.rtlsyn.specs.declared.program.Mode.{Mode}
 use Rattle.rtlsyn.specs.declared.program.Mode.TheVariants.{Synth}
 use Rattle.rtlsyn.specs.declared.program.Status.{Status}
 use Rattle.rtlsyn.specs.declared.program.Status.TheVariants as statuses
-use Rattle.rtlsyn.specs.Gates.{netlist_of}
+use Rattle.rtlsyn.specs.declared.over.Overrun.{Overrun}
+use Rattle.rtlsyn.specs.Cold.{done_modules, first_over, key_count, stage_script}
 
 -- a reply, and whether it is an error
 pub record Said : Type 0 where
@@ -44,9 +51,36 @@ fault_reply (faults.Range place) = error_line (codes "6") (place_text place)
 fault_reply (faults.Limit place) = error_line (codes "17") (place_text place)
 fault_reply faults.Memory = error_line [] []
 
--- the reply to a design: its netlist, or its first fault
+-- how a word is written in scripts
+abbrev pub word_name : Word → List ℕ
+word_name scripts.Proc = codes "proc"
+word_name scripts.OptExpr = codes "opt_expr"
+word_name scripts.OptMerge = codes "opt_merge"
+word_name scripts.OptClean = codes "opt_clean"
+word_name scripts.Opt = codes "opt"
+word_name scripts.Fsm = codes "fsm"
+word_name scripts.Memory = codes "memory"
+word_name scripts.Techmap = codes "techmap"
+
+-- what is told of a module that passes a limit: its name, the word of the script, how many keys were built, and for how many of
+-- the modules that was reused
+abbrev pub over_words : Overrun → ℕ → ℕ → List ℕ
+over_words over built modules =
+    over.id ++ codes " " ++ word_name over.word ++ codes " built " ++ decimal built ++ codes " reused " ++ decimal (modules - built)
+
+-- the reply to outcomes: the text of the netlist, or the line of the first module that passes a limit
+abbrev pub outcomes_reply : Design → List Outcome → Option Overrun → Said
+outcomes_reply design outcomes None = record { text = text_of (record { modules = done_modules outcomes }); error = false }
+outcomes_reply design outcomes (Some over) =
+    error_line (codes "20") (over_words over (key_count stage_script design) (length design.modules))
+
+-- the reply to a design without faults: that to its cold run
+unfoldable pub cold_reply : Design → Said
+cold_reply design = outcomes_reply design (cold stage_script design) (first_over design.modules (cold stage_script design))
+
+-- the reply to a design: that to its cold run, or its first fault
 abbrev pub checked_reply : Design → Option CheckFault → Said
-checked_reply design None = record { text = text_of (netlist_of design); error = false }
+checked_reply design None = cold_reply design
 checked_reply design (Some fault) = error_line (fault_number fault) (fault_words fault)
 
 unfoldable pub design_reply : Design → Said
@@ -81,6 +115,15 @@ HasAnswered mode error before had has =
 abbrev pub HasBegun : Mode → Option (List ℕ) → Option (List ℕ) → Option (List ℕ) → Type 0
 HasBegun mode before had has =
     IfSome before (λ input. (said : Said) × IsReply mode input said × ((n : ℕ) × Appends had has (take n said.text)))
+
+-- the netlist of the accepted design that an input is was written, and it refines the design
+pub record IsRefinedBy (input : List ℕ) (had has : Option (List ℕ)) : Type 0 where
+  pub design : Design
+  pub netlist : Design
+  pub reads : Reads input design
+  pub faultless : faults_within cells_alone design.modules ≡ []
+  pub written : Appends had has (text_of netlist)
+  pub refines : Refines design netlist
 
 -- the whole reply was written, or memory was wanting
 abbrev pub IsCompleted : Status → Type 0

@@ -1,16 +1,16 @@
 //! The program: reads a design from standard input, and writes its netlist to standard output.
 #![tactic(auto)]
 
-mod fresh;
-mod gates;
+mod cold;
 mod laws;
-mod number;
+mod over;
 mod program;
 mod reply;
 #[cfg(test)]
 mod tests;
 
 use program::{Status, run};
+use rtl_bits::Steps;
 use std::alloc::Global;
 use std::io::ErrorKind;
 use std::process::ExitCode;
@@ -31,16 +31,22 @@ fn words_of(rt: &(impl Env + AllocGlobal)) -> Result<Vec<String>, Status> {
     Ok(words)
 }
 
+/// The name of the counter of builds.
+struct Builds;
+
 /// Runs over standard input and output, and gives the exit status.
 fn main(rt: HostRuntime) -> ExitCode {
+    let mut meter = Steps::make(&Builds);
     let status = match words_of(&rt) {
         Ok(words) => run(
             rt.alloc(),
             words.as_slice(),
             &mut StdSource::make(rt.reader()),
             &mut StdSink::make(io::writer(&rt)),
+            &mut meter,
         ),
         Err(status) => status,
     };
+    meter.end(&Builds);
     ExitCode::from(status.code())
 }

@@ -5,11 +5,12 @@ ghost use Rattle.std.specs.Io.KnownBytes.{Keeps};
 ghost use Rattle.synth_io.specs.Counts.{HasRisen};
 ghost use Rattle.synth_io.specs.Taking.{TakesAtMost};
 ghost use Rattle.synth_io.specs.declared.input.TheConstants.{LIMIT};
-ghost use Rattle.rtlsyn.specs.Replies.{meaning_of, IsReadThrough, HasAnswered, HasBegun, IsCompleted, IsReply, IsTextReply, exit_code};
+ghost use Rattle.rtlsyn.specs.Builds.{CountsBuilds};
+ghost use Rattle.rtlsyn.specs.Replies.{meaning_of, IsReadThrough, IsRefinedBy, HasAnswered, HasBegun, IsCompleted, IsReply, IsTextReply, exit_code};
 ghost use Rattle.rtlsyn.specs.Said.{said_of};
 
 use crate::reply::{Reply, text_reply, too_long};
-use rtl_bits::{Memory, Text};
+use rtl_bits::{Memory, Steps, Text};
 use std::alloc::Global;
 use synth_io::{InputError, Sink, Source, read_input, write_reply};
 
@@ -64,19 +65,27 @@ fn meaning_of(words: &[String]) -> Option<Mode>
 }
 
 /// The reply to an input that was read to its end.
-fn whole_reply(alloc: Global, bytes: &Text) -> Result<Reply, InputError>
+fn whole_reply<L>(alloc: Global, bytes: &Text, meter: &mut Steps<L>) -> Result<Reply, InputError>
     ensures reply { IfOk result (λ reply. IsTextReply bytes.now (said_of reply)) }
+    ensures builds { CountsBuilds bytes.now meter.old meter.new }
     ensures cause { OnErr result (result ≡ Err InputError.Memory) }
 {
-    match text_reply(alloc, bytes.as_slice()) {
+    match text_reply(alloc, bytes.as_slice(), meter) {
         Ok(reply) => Ok(reply),
         Err(Memory) => Err(InputError::Memory),
     }
 }
 
 /// Reads the input, and makes the reply.
-fn reply_to<S: Source>(alloc: Global, mode: Mode, source: &mut S) -> Result<Reply, InputError>
+#[tactic(auto, using(crate::proofs::Rising::idle))]
+fn reply_to<S: Source, L>(
+    alloc: Global,
+    mode: Mode,
+    source: &mut S,
+    meter: &mut Steps<L>,
+) -> Result<Reply, InputError>
     ensures reply { IfOk result (λ reply. IfSome (S.left source.old) (λ input. IsReply mode input (said_of reply))) }
+    ensures builds { IfSome (S.left source.old) (λ input. CountsBuilds input meter.old meter.new) }
     ensures through { OnOk result (IsReadThrough (S.left source.old) (S.left source.new)) }
     ensures taken { TakesAtMost (LIMIT + 1) (S.left source.old) (S.left source.new) }
     ensures long { result ≡ Err InputError.TooLong → ⊥ }
@@ -85,7 +94,7 @@ fn reply_to<S: Source>(alloc: Global, mode: Mode, source: &mut S) -> Result<Repl
 {
     let Mode::Synth = mode;
     match read_input(alloc, source) {
-        Ok(bytes) => whole_reply(alloc, &bytes),
+        Ok(bytes) => whole_reply(alloc, &bytes, meter),
         Err(InputError::TooLong) => match too_long(alloc) {
             Ok(reply) => Ok(reply),
             Err(Memory) => Err(InputError::Memory),
@@ -99,12 +108,14 @@ fn reply_to<S: Source>(alloc: Global, mode: Mode, source: &mut S) -> Result<Repl
 ///
 /// At most 67,108,865 bytes are taken, in pieces of at most 65,536; each read but the last takes
 /// at least one. The reply is written in pieces of 4,096 bytes, of which the last may be shorter.
-#[tactic(auto, using(crate::proofs::Replying::begun_none))]
-pub fn run<S: Source, K: Sink>(
+/// Each build of a module is a step of the meter.
+#[tactic(auto, using(crate::proofs::Replying::begun_none, crate::proofs::Rising::idle))]
+pub fn run<S: Source, K: Sink, L: Send>(
     alloc: Global,
     words: &[String],
     source: &mut S,
     sink: &mut K,
+    meter: &mut Steps<L>,
 ) -> Status
     // The whole reply was written, and it is no error; the input was read through.
     ensures done { result ≡ Status.Done → IfSome (meaning_of (map string_bytes words.now)) (λ mode.
@@ -131,11 +142,17 @@ pub fn run<S: Source, K: Sink>(
     ensures complete { OnSome (meaning_of (map string_bytes words.now))
         ((HasRisen (S.faults source.old) (S.faults source.new) → ⊥)
         → (HasRisen (K.faults sink.old) (K.faults sink.new) → ⊥) → IsCompleted result) }
+
+    // No known output bit of any module is lost in the netlist, whatever the stimulus.
+    ensures refines { result ≡ Status.Done → IfSome (S.left source.old) (λ input. IsRefinedBy input (K.held sink.old) (K.held sink.new)) }
+    // The meter rises by at most one for each module of an accepted design, and for no other input.
+    ensures builds { IfSome (S.left source.old) (λ input. CountsBuilds input meter.old meter.new) }
+    ensures idle { result ≡ Status.Usage → meter.new ≡ meter.old }
 {
     let Some(mode) = meaning_of(words) else {
         return Status::Usage;
     };
-    let reply = match reply_to(alloc, mode, source) {
+    let reply = match reply_to(alloc, mode, source, meter) {
         Ok(reply) => reply,
         Err(InputError::Failed) => return Status::ReadFault,
         Err(_) => return Status::Memory,

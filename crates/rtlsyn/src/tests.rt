@@ -1,19 +1,30 @@
 //! The top call over memory.
 
 mod faults;
+mod limits;
 mod whole_text;
 
 ghost use Rattle.std.specs.Prelude.{◌≡◌};
 ghost use Rattle.rtlsyn.specs.Replies.{IsCompleted};
 
 use super::program::{Status, run};
-use rtl_bits::Text;
+use rtl_bits::{Steps, Text};
 use std::alloc::{AllocError, Global};
 use std::fmt::Write;
 use std::process::Abort;
 use std::test::Fail;
-use synth_io::{MemSink, MemSource, StdSink, StdSource, SureSink, SureSource};
+use synth_io::{MemSink, MemSource, Sink, Source, StdSink, StdSource, SureSink, SureSource};
 use whole_text::{FIFTH_ROWS, FIRST_ROWS, FOURTH_ROWS, SECOND_ROWS, THIRD_ROWS};
+
+/// The name of the counter of builds.
+struct Builds;
+
+/// A call without words, and how many builds it counts.
+fn count_builds<S: Source, K: Sink>(alloc: Global, source: &mut S, sink: &mut K) -> (Status, u64) {
+    let mut meter = Steps::make(&Builds);
+    let status = run(alloc, &[], source, sink, &mut meter);
+    (status, meter.end(&Builds))
+}
 
 /// A call without words over memory whose reads and writes with these numbers fail.
 fn call(
@@ -25,7 +36,7 @@ fn call(
     let text = Text::from_slice(alloc, input)?;
     let mut source = MemSource::make(text, Vec::from_slice(alloc, reads)?);
     let mut sink = MemSink::make(alloc, 2_000_000, Vec::from_slice(alloc, writes)?)?;
-    let status = run(alloc, &[], &mut source, &mut sink);
+    let (status, _builds) = count_builds(alloc, &mut source, &mut sink);
     Ok((status, sink))
 }
 
@@ -212,7 +223,6 @@ fn operands_netlist(alloc: Global, wire: &str, names: [&str; 3]) -> Result<Strin
 fn operands_and_numbers(rt: HostRuntime) -> Result<(), Fail> {
     let alloc = rt.alloc();
     let plain = ["$syn$1", "$syn$2", "$syn$3"];
-    let ten = ["$syn$1000000000", "$syn$1000000001", "$syn$1000000002"];
     for (row, wire, names) in [
         ("numbers go on", "", plain),
         (
@@ -220,7 +230,6 @@ fn operands_and_numbers(rt: HostRuntime) -> Result<(), Fail> {
             "  wire $syn$7\n",
             ["$syn$8", "$syn$9", "$syn$10"],
         ),
-        ("from nine digits", "  wire $syn$999999999\n", ten),
         ("ten digits do not count", "  wire $syn$1234567890\n", plain),
         ("a leading zero does not count", "  wire $syn$07\n", plain),
     ] {
@@ -312,7 +321,9 @@ fn words_have_no_meaning(rt: HostRuntime) -> Result<(), Fail> {
         Vec::from_slice(alloc, &[1])?,
     );
     let mut sink = MemSink::make(alloc, 100, Vec::from_slice(alloc, &[1])?)?;
-    let status = run(alloc, words.as_slice(), &mut source, &mut sink);
+    let mut meter = Steps::make(&Builds);
+    let status = run(alloc, words.as_slice(), &mut source, &mut sink, &mut meter);
+    assert_eq!(rt; meter.end(&Builds), 0);
     assert_eq!(rt; status, Status::Usage);
     assert_eq!(rt; status.code(), 2);
     assert_eq!(rt; sink.bytes(), [].as_slice());
@@ -333,7 +344,7 @@ fn input_is_too_long(rt: HostRuntime) -> Result<(), Fail> {
     ] {
         let mut source = SureSource::make(Text::from_vec(spaces(alloc, count)?));
         let mut sink = MemSink::make(alloc, 100, Vec::new(alloc))?;
-        let status = run(alloc, &[], &mut source, &mut sink);
+        let (status, _builds) = count_builds(alloc, &mut source, &mut sink);
         assert_eq!(rt; status == Status::Done, output.is_empty(), "{row}");
         assert_eq!(rt; sink.bytes(), output.as_bytes(), "{row}");
     }
@@ -344,7 +355,10 @@ fn input_is_too_long(rt: HostRuntime) -> Result<(), Fail> {
 fn over_sure(alloc: Global, source: &mut SureSource, sink: &mut SureSink) -> Status
     ensures complete { IsCompleted result }
 {
-    run(alloc, &[], source, sink)
+    let mut meter = Steps::make(&Builds);
+    let status = run(alloc, &[], source, sink, &mut meter);
+    meter.end(&Builds);
+    status
 }
 
 #[test]
@@ -358,6 +372,9 @@ fn sure_and_standard_objects(rt: HostRuntime) -> Result<(), Fail> {
     );
     let mut source = StdSource::make(text.as_slice());
     let mut sink = StdSink::make(Vec::new(alloc));
-    assert_eq!(rt; run(alloc, &[], &mut source, &mut sink), Status::Done);
+    assert_eq!(rt;
+        count_builds(alloc, &mut source, &mut sink),
+        (Status::Done, 1)
+    );
     Ok(())
 }

@@ -1,7 +1,0 @@
-use Rattle.std.proofs.Common.{◌≡◌, drop}
-use Rattle.rtl_ir.specs.Parameters.{signal_at}
-use Rattle.rtlsyn.proofs.gates.find_pin.Given as goal
-
--- none of the pins so far has the name
-abbrev pub invariant-loop-pin : goal.invariant-loop-pin
-invariant-loop-pin l = signal_at l.pins l.name ≡ signal_at (drop l.pin-index l.pins) l.name
