@@ -4,8 +4,6 @@
 #[cfg(test)]
 mod bits;
 #[cfg(test)]
-mod index;
-#[cfg(test)]
 mod lists;
 #[cfg(test)]
 mod names;
