@@ -1,0 +1,175 @@
+//! Asks an index of modules of a table what drives bits, and where connections lead from them.
+#![tactic(auto)]
+
+use net_index::{CellPin, Driver, Index};
+use rtl_bits::{Bit, Memory, Text};
+use rtl_ir::{Design, Module, port_table};
+use rtl_read::{ReadFault, read};
+use rtl_sig::{SigBit, WireBit};
+use std::alloc::Global;
+use std::process::ExitCode;
+use synth_io::{StdSource, read_input};
+
+/// The byte between two rows, and that between two fields of a row.
+const BETWEEN_ROWS: u8 = 254;
+
+const BETWEEN_FIELDS: u8 = 255;
+
+/// What the rows come to.
+#[derive(Drop)]
+struct Tally {
+    rows: u32,
+    /// How many rows do not hold.
+    bad: u32,
+}
+
+/// The design of the text, where it is one.
+fn design_of(alloc: Global, text: &[u8]) -> Result<Option<Design>, Memory> {
+    match read(alloc, text) {
+        Ok(design) => Ok(Some(design)),
+        Err(ReadFault::Memory) => Err(Memory),
+        Err(_) => Ok(None),
+    }
+}
+
+/// The letter of a constant.
+fn letter(bit: Bit) -> u8 {
+    match bit {
+        Bit::S0 => b'0',
+        Bit::S1 => b'1',
+        Bit::X => b'x',
+        Bit::Z => b'z',
+        Bit::M => b'm',
+        Bit::Dash => b'-',
+    }
+}
+
+/// A bit as the rows write it: a wire's name and a place, or a constant.
+fn bit_text(alloc: Global, module: &Module, bit: SigBit) -> Result<Text, Memory> {
+    let mut text = Text::make(alloc);
+    match bit {
+        SigBit::Fixed(constant) => {
+            text.extend(b"1'".as_slice())?;
+            text.push(letter(constant))?;
+        }
+        SigBit::Wire(bit) => {
+            if let Some(wire) = module.wires.as_slice().get(bit.wire as usize) {
+                text.extend(wire.name.as_slice())?;
+            }
+            let place = format!(in alloc; " [{}]", bit.at)?;
+            text.extend(place.as_bytes())?;
+        }
+    }
+    Ok(text)
+}
+
+/// A driver as the rows write it.
+fn driver_text(alloc: Global, module: &Module, driver: Driver) -> Result<Text, Memory> {
+    let words = match driver {
+        Driver::Nothing => format!(in alloc; "nothing")?,
+        Driver::Port => format!(in alloc; "port")?,
+        Driver::Cell(CellPin { cell, pin, at }) => format!(in alloc; "cell {cell} {pin} {at}")?,
+        Driver::Link(_) => format!(in alloc; "link ")?,
+        Driver::Tree(process) => format!(in alloc; "tree {process}")?,
+        Driver::Sync(process) => format!(in alloc; "sync {process}")?,
+    };
+    let mut text = Text::from_slice(alloc, words.as_bytes())?;
+    if let Driver::Link(bit) = driver {
+        text.extend(bit_text(alloc, module, bit)?.as_slice())?;
+    }
+    Ok(text)
+}
+
+/// What the index of the module says of a bit: what drives it, and where connections lead from it.
+fn answers(
+    alloc: Global,
+    module: &Module,
+    index: &Index,
+    bit: SigBit,
+) -> Result<(Text, Text), Memory> {
+    let driver = match bit {
+        SigBit::Wire(bit) => driver_text(alloc, module, index.driver(bit))?,
+        SigBit::Fixed(_) => Text::make(alloc),
+    };
+    let mut leads = Text::from_slice(alloc, b"leads ".as_slice())?;
+    leads.extend(bit_text(alloc, module, index.follow(bit))?.as_slice())?;
+    Ok((driver, leads))
+}
+
+/// The bit of the module that is written so.
+fn bit_of(alloc: Global, module: &Module, asked: &[u8]) -> Result<Option<SigBit>, Memory> {
+    for wire in 0..4u32 {
+        for at in 0..10u32 {
+            let bit = SigBit::Wire(WireBit { wire, at });
+            if bit_text(alloc, module, bit)?.as_slice() == asked {
+                return Ok(Some(bit));
+            }
+        }
+    }
+    for constant in [Bit::S0, Bit::S1, Bit::M, Bit::Dash] {
+        let bit = SigBit::Fixed(constant);
+        if bit_text(alloc, module, bit)?.as_slice() == asked {
+            return Ok(Some(bit));
+        }
+    }
+    Ok(None)
+}
+
+/// Whether the bit that is written so has this answer.
+fn is_answered(
+    alloc: Global,
+    module: &Module,
+    index: &Index,
+    asked: &[u8],
+    wanted: &[u8],
+) -> Result<bool, Memory> {
+    let Some(bit) = bit_of(alloc, module, asked)? else {
+        return Ok(false);
+    };
+    let (driver, leads) = answers(alloc, module, index, bit)?;
+    Ok(driver.as_slice() == wanted || leads.as_slice() == wanted)
+}
+
+/// Whether a row holds: its name, a design whose second module is asked, a bit, and its answer.
+fn holds(alloc: Global, row: &[u8]) -> Result<bool, Memory> {
+    let fields: Vec<&[u8]> = row.split(|byte| *byte == BETWEEN_FIELDS).collect(alloc)?;
+    let [_, text, asked, wanted] = fields.as_slice() else {
+        return Ok(false);
+    };
+    let Some(design) = design_of(alloc, text)? else {
+        return Ok(false);
+    };
+    if design.modules.as_slice().len() < 2 {
+        return Ok(false);
+    }
+    let ports = port_table(alloc, &design, 1)?;
+    let module = &design.modules.as_slice()[1];
+    let index = Index::of(alloc, module, &ports)?;
+    is_answered(alloc, module, &index, asked, wanted)
+}
+
+/// The rows of the table.
+fn tally_of(alloc: Global, table: &[u8]) -> Result<Tally, Memory> {
+    let mut tally = Tally { rows: 0, bad: 0 };
+    for row in table.split(|byte| *byte == BETWEEN_ROWS) {
+        let bad = !holds(alloc, row)?;
+        tally.rows = tally.rows.saturating_add(1);
+        tally.bad = tally.bad.saturating_add(u32::from(bad));
+    }
+    Ok(tally)
+}
+
+/// Runs over the table at standard input, and says what it came to.
+fn main(rt: HostRuntime) -> ExitCode {
+    let Ok(table) = read_input(rt.alloc(), &mut StdSource::make(rt.reader())) else {
+        return ExitCode::FAILURE;
+    };
+    let Ok(tally) = tally_of(rt.alloc(), table.as_slice()) else {
+        return ExitCode::FAILURE;
+    };
+    let Tally { rows, bad } = tally;
+    match println!(rt; "{rows} bits of modules, {bad} of them otherwise than told") {
+        Ok(()) => ExitCode::SUCCESS,
+        Err(_) => ExitCode::FAILURE,
+    }
+}
