@@ -7,6 +7,7 @@ use rtl_read::read;
 use rtl_trip::read_body;
 use rtl_write::{body_text, module_text, write};
 use std::alloc::Global;
+use std::fs;
 use std::process::ExitCode;
 use synth_io::{StdSource, read_input};
 
@@ -14,6 +15,9 @@ use synth_io::{StdSource, read_input};
 const BETWEEN_ROWS: u8 = 254;
 
 const BETWEEN_FIELDS: u8 = 255;
+
+/// The files of the table.
+const FILES: [&str; 2] = ["first.rows", "second.rows"];
 
 /// What the rows come to.
 #[derive(Drop)]
@@ -64,13 +68,8 @@ fn holds(alloc: Global, text: &[u8], told: Option<&[u8]>) -> Result<bool, Memory
     Ok(same && as_told && has_bodies(alloc, &design)?)
 }
 
-/// The rows of the table.
-fn tally_of(alloc: Global, table: &[u8]) -> Result<Tally, Memory> {
-    let mut tally = Tally {
-        rows: 0,
-        told: 0,
-        bad: 0,
-    };
+/// Adds the rows of a file of the table.
+fn count_rows(alloc: Global, table: &[u8], tally: &mut Tally) -> Result<(), Memory> {
     for row in table.split(|byte| *byte == BETWEEN_ROWS) {
         let mut fields = row.split(|byte| *byte == BETWEEN_FIELDS);
         let text = fields.next().unwrap_or(row);
@@ -80,19 +79,34 @@ fn tally_of(alloc: Global, table: &[u8]) -> Result<Tally, Memory> {
         let bad = !holds(alloc, text, told)?;
         tally.bad = tally.bad.saturating_add(u32::from(bad));
     }
-    Ok(tally)
+    Ok(())
 }
 
-/// Runs over the table at standard input, and says what it came to.
-fn main(rt: HostRuntime) -> ExitCode {
-    let table: Text = match read_input(rt.alloc(), &mut StdSource::make(rt.reader())) {
-        Ok(table) => table,
-        Err(_) => return ExitCode::FAILURE,
+/// The bytes of a file, where it can be read.
+fn file_of(rt: &HostRuntime, name: &str) -> Option<Text> {
+    let file = fs::open(rt, name).ok()?;
+    read_input(rt.alloc(), &mut StdSource::make(file)).ok()
+}
+
+/// What the files of the table come to, where they can be read.
+fn tally_of(rt: &HostRuntime) -> Option<Tally> {
+    let mut tally = Tally {
+        rows: 0,
+        told: 0,
+        bad: 0,
     };
-    let Ok(tally) = tally_of(rt.alloc(), table.as_slice()) else {
+    for name in FILES {
+        let table = file_of(rt, name)?;
+        count_rows(rt.alloc(), table.as_slice(), &mut tally).ok()?;
+    }
+    Some(tally)
+}
+
+/// Runs over the table, and says what it came to.
+fn main(rt: HostRuntime) -> ExitCode {
+    let Some(Tally { rows, told, bad }) = tally_of(&rt) else {
         return ExitCode::FAILURE;
     };
-    let Tally { rows, told, bad } = tally;
     match println!(rt;
         "{rows} designs written and read again, {told} as they are told, {bad} otherwise"
     ) {
