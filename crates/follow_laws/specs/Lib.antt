@@ -1,0 +1,4 @@
+pub mod Ready
+pub mod Pass
+pub mod Inputs
+pub mod Alike
