@@ -11,3 +11,4 @@ pub mod Rows
 pub mod Standing
 pub mod Forming
 pub mod Passing
+pub mod Tables
