@@ -25,9 +25,9 @@ use Rattle.net_model.specs.Lists.{In}
 use Rattle.net_model.specs.Swap.{with_cells}
 use Rattle.net_model.specs.Within.{CellIn, Each, IsWithin}
 use Rattle.follow_laws.specs.Inputs.{MayFollow, followed_cell}
-use Rattle.follow_laws.specs.Ready.{IsReady}
+use Rattle.pass_laws.specs.Ready.{IsReady}
 use Rattle.follow_laws.proofs.Faultless.{drives_stay, faults_stay}
-use Rattle.follow_laws.proofs.Plain.{IsPlain, plain}
+use Rattle.pass_laws.proofs.Faultless.{IsPlain, plain}
 use Rattle.follow_laws.proofs.Signals.{cell_in}
 
 pub own_kind : (ports : Ports) (c : Cell) (kind : CellKind) → cell_type ports c.kind_name ≡ Library kind → cell_kind c ≡ Some kind

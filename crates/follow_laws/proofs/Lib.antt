@@ -4,7 +4,6 @@ pub mod Carrying
 pub mod Reading
 pub mod Meeting
 pub mod Signals
-pub mod Plain
 pub mod Faultless
 pub mod Apart
 pub mod Rows

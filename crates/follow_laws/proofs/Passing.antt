@@ -9,10 +9,10 @@ use Rattle.rtl_ir.specs.Flat.Tree as flat
 use Rattle.rtl_ir.specs.Types as types
 use Rattle.net_model.specs.Swap.{with_cells}
 use Rattle.follow_laws.specs.Inputs.{MayFollow, followed, followed_cell}
-use Rattle.follow_laws.specs.Pass.{IsPass}
-use Rattle.follow_laws.specs.Ready.{IsReady}
+use Rattle.pass_laws.specs.Pass.{IsPass}
+use Rattle.pass_laws.specs.Ready.{IsReady}
 use Rattle.follow_laws.proofs.Forming.{ready}
-use Rattle.follow_laws.proofs.Plain.{IsPlain, plain}
+use Rattle.pass_laws.proofs.Faultless.{IsPlain, plain}
 use Rattle.follow_laws.proofs.Standing.{driven, instances_stay, refines}
 
 module _ (ports : types.Ports) (links : List Link) where

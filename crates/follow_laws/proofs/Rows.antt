@@ -33,7 +33,7 @@ use Rattle.follow_laws.specs.Inputs.{MayFollow, followed_at, followed_cell, foll
 use Rattle.follow_laws.proofs.Apart.{IsApart, port_in, untouched_at}
 use Rattle.follow_laws.proofs.Carrying.{Carries, Rows, cell_paired, rows_self}
 use Rattle.follow_laws.proofs.Pairs.{pairs_append, pairs_self}
-use Rattle.follow_laws.proofs.Plain.{type_is}
+use Rattle.pass_laws.proofs.Faultless.{type_is}
 use Rattle.follow_laws.proofs.Signals.{driven_stays, signal_followed}
 
 -- a followed cell is of the kind of the cell

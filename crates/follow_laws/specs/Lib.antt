@@ -1,4 +1,2 @@
-pub mod Ready
-pub mod Pass
 pub mod Inputs
 pub mod Alike

@@ -13,8 +13,8 @@ ghost use Rattle.net_model.specs.Swap.{with_cells};
 ghost use Rattle.net_model.specs.Valuation.{Valuation};
 ghost use Rattle.follow_laws.specs.Alike.{ReadAlike};
 ghost use Rattle.follow_laws.specs.Inputs.{MayFollow, followed, followed_cell};
-ghost use Rattle.follow_laws.specs.Pass.{IsPass};
-ghost use Rattle.follow_laws.specs.Ready.{IsReady};
+ghost use Rattle.pass_laws.specs.Pass.{IsPass};
+ghost use Rattle.pass_laws.specs.Ready.{IsReady};
 
 use rtl_ir::{Cell, Link, Module, PortTable, Wire};
 
