@@ -1,5 +1,5 @@
 -- What a cell drives, no connection drives; so the output ports of instances are not followed.
-use Rattle.std.proofs.Common.{◌≡◌, ℕ, Bool, true, false, List, [], ◌∷◌, ◌++◌, Option, Some, None, inl, inr, refl, sym, ◌∙◌, ap, subst}
+use Rattle.std.proofs.Common.{◌≡◌, ℕ, Bool, true, false, List, [], ◌∷◌, Option, Some, None, inl, inr, refl, sym, ◌∙◌, ap, subst}
 use Rattle.std.specs.Prelude.{if◌then◌else◌, map}
 use Rattle.rtl_sig.specs.declared.sig.SigBit.{SigBit}
 use Rattle.rtl_sig.specs.declared.sig.SigBit.TheVariants as sig
@@ -17,16 +17,10 @@ use Rattle.rtl_ir.specs.Follow.{Join, all_joins, follow, source_at}
 use Rattle.rtl_ir.specs.Outputs.{drives_pin}
 use Rattle.rtl_ir.specs.Parameters.{signal_at}
 use Rattle.rtl_ir.specs.Types.{CellType}
-use Rattle.net_model.specs.Lists.{Distinct, In}
-use Rattle.net_model.proofs.Members.{In-left, In-right, apart_at}
+use Rattle.net_model.specs.Lists.{In}
+use Rattle.net_model.proofs.Members.{In-left, In-right}
 use Rattle.follow_laws.specs.Inputs.{followed_at}
 use Rattle.follow_laws.proofs.Following.{join_row, link_in, source_in, stays}
-
--- where nothing stands twice, nothing stands in two parts
-pub parts_apart : {A : Type 0} (xs ys : List A) → Distinct (xs ++ ys) → (x : A) → In x xs → In x ys → ⊥
-parts_apart [] ys h x i j = absurd i
-parts_apart (z ∷ xs) ys h x (inl e) j = apart_at z (xs ++ ys) h.0 x (In-right x xs ys j) (sym e)
-parts_apart (z ∷ xs) ys h x (inr i) j = parts_apart xs ys h.1 x i j
 
 module _ (p : Path) (wires : List Wire) (links : List Link) where
   -- a row is apart from the rows of the connections

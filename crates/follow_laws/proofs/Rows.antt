@@ -1,14 +1,8 @@
 -- The rows of cells with followed inputs: one by one the rows of the cells, with drivers that read what is followed to.
-use Rattle.std.proofs.Common.{◌≡◌, Bool, true, false, List, [], ◌∷◌, Some, None, ◌⊎◌, inl, inr, refl, sym, ◌∙◌, ap, subst}
+use Rattle.std.proofs.Common.{◌≡◌, Bool, true, false, List, [], ◌∷◌, None, ◌⊎◌, inl, inr, sym, ◌∙◌, ap, subst}
 use Rattle.std.specs.Prelude.{if◌then◌else◌, map}
-use Rattle.std.specs.Option.{option_map_or}
-use Rattle.std.specs.Str.{bytes_eq}
-use Rattle.std.proofs.lemmas.Slice.Eq.{bytes_eq-Decides}
 use Rattle.rtl_bits.specs.declared.bit.Bit.{Bit}
 use Rattle.rtl_sig.specs.declared.sig.SigBit.{SigBit}
-use Rattle.cell_types.specs.declared.kind.CellKind.{CellKind}
-use Rattle.cell_types.specs.declared.pin_name.PinName.{PinName}
-use Rattle.cell_types.specs.PinName.{pin_text}
 use Rattle.rtl_ir.specs.declared.cell.Cell.{Cell}
 use Rattle.rtl_ir.specs.declared.cell.Pin.{Pin}
 use Rattle.rtl_ir.specs.declared.module.Link.{Link}
@@ -22,7 +16,7 @@ use Rattle.rtl_ir.specs.Flat.Link.{joins}
 use Rattle.rtl_ir.specs.Flat.Place.{frame, Path}
 use Rattle.rtl_ir.specs.Flat.Point.{Point, point, points, wire_points}
 use Rattle.rtl_ir.specs.Follow.{follow}
-use Rattle.rtl_ir.specs.Outputs.{drives_pin, output_pin}
+use Rattle.rtl_ir.specs.Outputs.{drives_pin}
 use Rattle.rtl_ir.specs.Parameters.{signal_at}
 use Rattle.rtl_ir.specs.Types as types
 use Rattle.rtl_ir.specs.Types.{CellType, cell_type}
@@ -33,13 +27,7 @@ use Rattle.follow_laws.specs.Inputs.{MayFollow, followed_at, followed_cell, foll
 use Rattle.follow_laws.proofs.Apart.{IsApart, port_in, untouched_at}
 use Rattle.follow_laws.proofs.Carrying.{Carries, Rows, cell_paired, rows_self}
 use Rattle.follow_laws.proofs.Pairs.{pairs_append, pairs_self}
-use Rattle.pass_laws.proofs.Faultless.{type_is}
-use Rattle.follow_laws.proofs.Signals.{driven_stays, signal_followed}
-
--- a followed cell is of the kind of the cell
-pub kind_stays : (ports : types.Ports) (links : List Link) (c : Cell) → cell_kind (followed_cell ports links c) ≡ cell_kind c
-unfolding cell_kind
-kind_stays ports links c = refl
+use Rattle.follow_laws.proofs.Signals.{kind_stays, output_stays, signal_followed}
 
 module _ (P : Point → Point → Type 0) (related : Driver → Driver → Type 0) (k : Carries P related) (ports : types.Ports) (over : flat.Ports) (start : SigBit → Bit) (p : Path) (wires : List Wire) (links : List Link) (leads : (s : SigBit) → P (point p wires s) (point p wires (follow links s))) where
   signals_paired : (signal : List SigBit) → InPairs P (points p wires signal) (points p wires (map (follow links) signal))
@@ -64,16 +52,10 @@ module _ (P : Point → Point → Type 0) (related : Driver → Driver → Type 
     pins_paired name =
         subst (λ z. InPairs P (points p wires (signal_at c.pins name)) (points p wires z)) (sym (signal_followed type links name c.pins)) (at_paired type name (signal_at c.pins name))
 
-    -- what a cell of the library drives is not followed
-    drives_still : (kind : CellKind) → cell_kind c ≡ Some kind → (name : PinName) → output_pin kind ≡ Some name → signal_at c.pins (pin_text name) ≡ signal_at others (pin_text name)
-    drives_still kind own name e =
-        let drives : drives_pin type (pin_text name) ≡ true = ap (λ t. drives_pin t (pin_text name)) (type_is ports c kind own) ∙ ap (λ o. option_map_or (λ pin. bytes_eq (pin_text name) (pin_text pin)) o false) e ∙ (bytes_eq-Decides (pin_text name) (pin_text name)).1 refl in
-        sym (signal_followed type links (pin_text name) c.pins ∙ driven_stays type links (pin_text name) (signal_at c.pins (pin_text name)) drives)
-
     abbrev Apart : Type 0
     Apart = (d : Driven) → In d (cell_rows start over p wires c (cell_kind c)) → IsApart p wires links d
 
-    -- nor is what an instance drives
+    -- what an instance drives is not followed
     port_stays : Apart → cell_kind c ≡ None → (port : PortLine) → In port (over c.kind_name) → port.role ≡ Output → joins (points p wires (signal_at c.pins port.name)) (wire_points (frame c.name c.kind_name ∷ p) port.name 0 port.width) ≡ joins (points p wires (signal_at others port.name)) (wire_points (frame c.name c.kind_name ∷ p) port.name 0 port.width)
     port_stays apart own port i role =
         let inner : List Point = wire_points (frame c.name c.kind_name ∷ p) port.name 0 port.width in
@@ -82,7 +64,7 @@ module _ (P : Point → Point → Type 0) (related : Driver → Driver → Type 
 
     followed_paired : Apart → Rows P related k (cell_rows start over p wires c (cell_kind c)) (cell_rows start over p wires (followed_cell ports links c) (cell_kind (followed_cell ports links c)))
     followed_paired apart =
-        subst (λ o. Rows P related k (cell_rows start over p wires c (cell_kind c)) (cell_rows start over p wires (followed_cell ports links c) o)) (sym (kind_stays ports links c)) (cell_paired P related k start over p wires c others pins_paired (cell_kind c) drives_still (port_stays apart))
+        subst (λ o. Rows P related k (cell_rows start over p wires c (cell_kind c)) (cell_rows start over p wires (followed_cell ports links c) o)) (sym (kind_stays ports links c)) (cell_paired P related k start over p wires c others pins_paired (cell_kind c) (λ kind own name e. sym (output_stays ports links c kind own name e)) (port_stays apart))
 
     either_paired : Apart → (d : Cell) → (c ≡ d) ⊎ (followed_cell ports links c ≡ d) → Rows P related k (cell_rows start over p wires c (cell_kind c)) (cell_rows start over p wires d (cell_kind d))
     either_paired apart d (inl e) =

@@ -1,21 +1,27 @@
 -- Followed signals: what stands at the pins of a followed cell, with which widths, on which wires.
-use Rattle.std.proofs.Common.{◌≡◌, ℕ, zero, suc, Bool, true, false, cond, List, [], ◌∷◌, length, Option, Some, None, inl, inr, ⊎_elim, refl, sym, ap, subst}
+use Rattle.std.proofs.Common.{◌≡◌, ℕ, zero, suc, Bool, true, false, cond, List, [], ◌∷◌, length, Option, Some, None, inl, inr, ⊎_elim, refl, sym, ◌∙◌, ap, subst}
 use Rattle.std.specs.Prelude.{if◌then◌else◌, find, map, unwrap_or}
 use Rattle.std.specs.Option.{option_map_or}
 use Rattle.std.specs.Str.{bytes_eq}
 use Rattle.std.proofs.lemmas.Slice.Eq.{bytes_eq-Decides}
+use Rattle.cell_types.specs.PinName.{pin_text}
+use Rattle.cell_types.specs.declared.kind.CellKind.{CellKind}
+use Rattle.cell_types.specs.declared.pin_name.PinName.{PinName}
 use Rattle.rtl_sig.specs.declared.sig.SigBit.{SigBit}
 use Rattle.rtl_sig.specs.declared.sig.SigBit.TheVariants as sig
 use Rattle.rtl_ir.specs.declared.cell.Cell.{Cell}
 use Rattle.rtl_ir.specs.declared.cell.Pin.{Pin}
 use Rattle.rtl_ir.specs.declared.module.Link.{Link}
 use Rattle.rtl_ir.specs.Follow.{Join, all_joins, back, end_within, follow, follow_joins, joins}
-use Rattle.rtl_ir.specs.Outputs.{drives_pin}
+use Rattle.rtl_ir.specs.Flat.Cell.{cell_kind}
+use Rattle.rtl_ir.specs.Outputs.{drives_pin, output_pin}
 use Rattle.rtl_ir.specs.Parameters.{signal_at}
 use Rattle.rtl_ir.specs.Types.{CellType, Ports, cell_type}
 use Rattle.net_model.specs.Lists.{In}
 use Rattle.net_model.specs.Within.{BitIn, CellIn, Each, LinkIn, SigIn}
 use Rattle.net_model.proofs.Members.{In-cases, In-mapped}
+use Rattle.pass_laws.proofs.Faultless.{type_is}
+use Rattle.pass_laws.proofs.Outputs.{drives_own}
 use Rattle.follow_laws.specs.Inputs.{followed_at, followed_cell, followed_pin}
 use Rattle.follow_laws.proofs.Following.{source_in}
 
@@ -47,6 +53,18 @@ length_followed type links name signal = by (drives_pin type name)
 -- a pin that is driven stays
 pub driven_stays : (type : CellType) (links : List Link) (name : List ℕ) (signal : List SigBit) → drives_pin type name ≡ true → followed_at type links name signal ≡ signal
 driven_stays type links name signal e = ap (λ t. if t then signal else map (follow links) signal) e
+
+-- a followed cell is of the kind of the cell
+pub kind_stays : (ports : Ports) (links : List Link) (c : Cell) → cell_kind (followed_cell ports links c) ≡ cell_kind c
+unfolding cell_kind
+kind_stays ports links c = refl
+
+-- what a cell of the library drives is not followed
+pub output_stays : (ports : Ports) (links : List Link) (c : Cell) (kind : CellKind) → cell_kind c ≡ Some kind → (name : PinName) → output_pin kind ≡ Some name → signal_at (followed_cell ports links c).pins (pin_text name) ≡ signal_at c.pins (pin_text name)
+output_stays ports links c kind own name e =
+    let type : CellType = cell_type ports c.kind_name in
+    let drives : drives_pin type (pin_text name) ≡ true = ap (λ t. drives_pin t (pin_text name)) (type_is ports c kind own) ∙ drives_own kind name e (pin_text name) ∙ (bytes_eq-Decides (pin_text name) (pin_text name)).1 refl in
+    signal_followed type links (pin_text name) c.pins ∙ driven_stays type links (pin_text name) (signal_at c.pins (pin_text name)) drives
 
 module _ (count : ℕ) (links : List Link) (fine : Each (LinkIn count) links) where
   source_of_join : (left right : List SigBit) → SigIn count right → (j : Join) → In j (joins left right) → BitIn count j.source

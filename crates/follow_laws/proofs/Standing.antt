@@ -26,15 +26,17 @@ use Rattle.net_model.proofs.Lifted.{lifted}
 use Rattle.net_model.proofs.Members.{In-cases, In-left, In-map, In-mapped, In-right, map-append}
 use Rattle.net_model.proofs.Relating.{Within, solved_within}
 use Rattle.net_model.proofs.Swapping.{before_within, plain_alone}
+use Rattle.pass_laws.proofs.Moving.{split}
 use Rattle.follow_laws.specs.Alike.{DriveAlike, ReadAlike}
 use Rattle.follow_laws.specs.Inputs.{MayFollow, followed_cell}
-use Rattle.follow_laws.proofs.Apart.{IsApart, parts_apart}
+use Rattle.follow_laws.proofs.Apart.{IsApart}
 use Rattle.follow_laws.proofs.Carrying.{Carries, Rows}
 use Rattle.follow_laws.proofs.Following.{follow_read}
 use Rattle.follow_laws.proofs.Meeting.{met_by}
 use Rattle.follow_laws.proofs.Pairs.{same_places}
 use Rattle.follow_laws.proofs.Reading.{carries}
-use Rattle.follow_laws.proofs.Rows.{cells_paired, kind_stays}
+use Rattle.follow_laws.proofs.Rows.{cells_paired}
+use Rattle.follow_laws.proofs.Signals.{kind_stays}
 
 -- the instances stay
 pub instances_stay : (ports : types.Ports) (links : List Link) (cs ds : List Cell) → MayFollow ports links cs ds → instances cs ≡ instances ds
@@ -76,9 +78,9 @@ module _ (ports : types.Ports) (over : flat.Ports) (m : Module) (cells : List Ce
   apart : IsWellDriven over m → (p : Path) (d : Driven) → In d (before_rows p) → IsApart p m.wires m.links d
   apart fine p d i l j e =
       let rest : List Driven = processes_rows start p m.wires m m.processes ++ memories_rows p m.wires m.cells m.processes m.memories in
-      let split : Distinct (places_of (before_rows p) ++ places_of (plain_rows p m)) = subst Distinct (map-append (λ (row : Driven). row.place) (before_rows p) (plain_rows p m)) (fine.rows p) in
+      let whole : Distinct (places_of (before_rows p) ++ places_of (plain_rows p m)) = subst Distinct (map-append (λ (row : Driven). row.place) (before_rows p) (plain_rows p m)) (fine.rows p) in
       let link : In l.place (places_of (plain_rows p m)) = In-map (λ (row : Driven). row.place) l (plain_rows p m) (In-left l (link_rows p m.wires m.links) rest j) in
-      parts_apart (places_of (before_rows p)) (places_of (plain_rows p m)) split d.place (In-map (λ (row : Driven). row.place) d (before_rows p) i) (subst (λ z. In z (places_of (plain_rows p m))) (sym e) link)
+      (split (places_of (before_rows p)) (places_of (plain_rows p m)) whole).2 d.place (In-map (λ (row : Driven). row.place) d (before_rows p) i) (subst (λ z. In z (places_of (plain_rows p m))) (sym e) link)
 
   module _ (fine : IsWellDriven over m) where
     same_rows : (p : Path) → places_of (rows_of over p m) ≡ places_of (rows_of over p after)
