@@ -31,25 +31,6 @@ use Rattle.script_core.specs.Fold.{fold_script, is_within, AfterWord, AreApplica
 use Rattle.script_core.specs.Keys.{body_text_at, key_of}
 use Rattle.script_core.proofs.Faultless.{faultless_alone}
 
--- a script of this stage may be applied to a module without faults, since each pass leaves none
-pub stage_applicable : (script : List Word) (table : PortTable) (m : Module) → IsStageScript script → IsFaultless table m → AreApplicable script table m
-stage_applicable [] table m is h = tt
-stage_applicable (Proc ∷ ws) table m is h = (h, stage_applicable ws table m is.1 h)
-stage_applicable (Techmap ∷ ws) table m is h =
-    let fine = plain (table_ports table.modules) m h in
-    let more = stage_applicable ws table (techmap_of m) is.1 (techmap_faultless m fine cells_alone (table_ports table.modules) h) in
-    (h, by (is_within (beside m)) more)
-  where
-    by : (t : Bool) → AreApplicable ws table (techmap_of m) → AfterWord (AreApplicable ws table) (cond t (Some (techmap_of m)) None)
-    by true more = more
-    by false more = tt
-stage_applicable (OptExpr ∷ ws) table m is h = absurd is.0
-stage_applicable (OptMerge ∷ ws) table m is h = absurd is.0
-stage_applicable (OptClean ∷ ws) table m is h = absurd is.0
-stage_applicable (Opt ∷ ws) table m is h = absurd is.0
-stage_applicable (Fsm ∷ ws) table m is h = absurd is.0
-stage_applicable (Memory ∷ ws) table m is h = absurd is.0
-
 -- the module at a place of a design, with its table
 pub record IsAt (modules : List Module) (at : ℕ) : Type 0 where
   pub m : Module
@@ -77,42 +58,6 @@ pub readable_in : (P : Module → Type 0) (ms : List Module) → All P ms → (m
 readable_in P [] all m i = absurd i
 readable_in P (n ∷ ns) all m (inl e) = subst P (sym e) (All-head P n ns all)
 readable_in P (n ∷ ns) all m (inr i) = readable_in P ns (All-tail P n ns all) m i
-
--- what is read of the texts of an accepted key
-pub record IsRead (key : Key) (read : Module) (table : PortTable) : Type 0 where
-  pub faultless : IsFaultless table read
-  -- each module and table of these texts
-  pub only : (m : Module) (ports : PortTable) → IsReadableModule m → m.id ≡ body_name → ArePorts ports → body_text m ≡ key.body → ports_text ports ≡ key.ports → (m ≡ read) × (ports ≡ table)
-
-module _ (key : Key) (read : Module) (table : PortTable)
-    (body : (m : Module) → IsReadableModule m → key.body ≡ body_text m → read ≡ record m { id = body_name })
-    (ports : (t : PortTable) → ArePorts t → key.ports ≡ ports_text t → table ≡ t) where
-  pub read_key : IsAcceptedKey key → IsRead key read table
-  read_key is =
-      let d = is.design in
-      let here = module_at d.modules is.at is.in_range in
-      let m = here.m in
-      let readable = readable_in IsReadableModule d.modules is.readable.modules m here.member in
-      let own : read ≡ unnamed m = body m readable (ap (λ (k : Key). k.body) is.same ∙ here.body) in
-      let its : table ≡ table_of d.modules m = ports (record { modules = port_table_of d.modules is.at }) (readable_table d is.at is.readable) (ap (λ (k : Key). k.ports) is.same) ∙ ap (λ ts. record { modules = ts }) here.ports in
-      record {
-        faultless = subst (λ (t : PortTable). IsFaultless t read) (sym its) (subst (IsFaultless (table_of d.modules m)) (sym own) (faultless_alone d is.readable is.faultless m here.member body_name));
-        only = λ n t good name are b p. (same n name ∙ sym (body n good (sym b)), sym (ports t are (sym p)));
-      }
-    where
-      same : (n : Module) → n.id ≡ body_name → n ≡ record n { id = body_name }
-      same n e = (λ i. record n { id = e i })
-
--- the fold over what was read is the value of the key
-pub value_of_key : (key : Key) (read : Module) (table : PortTable) → IsRead key read table → (outcome : Outcome) → outcome ≡ fold_script key.script table read → IsValueOf key outcome
-value_of_key key read table is outcome e = record {
-  value = λ m t good name are b p. let only = is.only m t good name are b p in e ∙ (λ i. fold_script key.script (sym only.1 i) (sym only.0 i));
-}
-
--- .. in each answer that has one
-pub value_of_answer : {E : Type 0} (key : Key) (read : Module) (table : PortTable) → IsRead key read table → (script : List Word) → script ≡ key.script → (r : Result Outcome E) → IfOk r (λ outcome. outcome ≡ fold_script script table read) → IfOk r (λ outcome. IsValueOf key outcome)
-value_of_answer key read table is script same (Ok outcome) e = value_of_key key read table is outcome (e ∙ ap (λ (s : List Word). fold_script s table read) same)
-value_of_answer key read table is script same (Err fault) e = tt
 
 -- the key of a module of an accepted design is accepted
 pub accepted_answer : {E : Type 0} (d : Design) (at : ℕ) (script : List Word) → faults_within cells_alone d.modules ≡ [] → at < length d.modules → IsReadable d → (r : Result Key E) → IfOk r (λ key. key ≡ key_of d.modules at script) → IfOk r IsAcceptedKey

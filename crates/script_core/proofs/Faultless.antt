@@ -47,7 +47,6 @@ use Rattle.check_laws.proofs.Counting.{none_parts, none_each}
 use Rattle.check_laws.proofs.Named.{ordered_lines, lines_distinct, ports_distinct, port_found}
 use Rattle.check_laws.proofs.Readable.{sound}
 use Rattle.script_core.specs.Cold.{table_of}
-use Rattle.script_core.specs.Fold.{IsFaultless}
 use Rattle.script_core.proofs.Tables.{same_name, table_instance, instantiated}
 
 -- ---- ports in another order
@@ -324,7 +323,7 @@ over_others P Q m name h e =
     (bits_none m.id name (drives_of Q m) 0 m.wires (ap (λ (ds : List Drive). bits_faults m.id ds 0 m.wires) (sym (all_over P Q m h)) ∙ five.second))
 
 -- so over the ports of its table
-pub faultless_alone : (d : Design) → IsReadable d → faults_within cells_alone d.modules ≡ [] → (m : Module) → In m d.modules → (name : List ℕ) → IsFaultless (table_of d.modules m) (record m { id = name })
+pub faultless_alone : (d : Design) → IsReadable d → faults_within cells_alone d.modules ≡ [] → (m : Module) → In m d.modules → (name : List ℕ) → module_faults cells_alone (table_ports (table_of d.modules m).modules) (record m { id = name }) ≡ []
 faultless_alone d readable none m i name =
     let own = none_each (module_faults cells_alone (design_ports d.modules)) d.modules (none_parts (flat_map (module_faults cells_alone (design_ports d.modules)) d.modules) (recursion_faults d.modules) none).first m i in
     over_others (design_ports d.modules) (table_ports (table_of d.modules m).modules) m name (λ c j. alike_type d.modules (sound d readable).modules m c j) own

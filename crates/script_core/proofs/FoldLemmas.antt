@@ -13,7 +13,7 @@ use Rattle.net_index.specs.Builder.{IsInLimits, PassesLimit}
 use Rattle.tech_map.specs.Techmap.{TechmapPassesLimit, beside, techmap_of}
 use Rattle.script_core.specs.declared.outcome.Outcome.TheVariants.{Done, Over}
 use Rattle.script_core.specs.declared.word.Word.{Word}
-use Rattle.script_core.specs.Fold.{is_within, techmap_within, pass_of, after_word, fold_script, IsFaultless, AfterWord, AreApplicable}
+use Rattle.script_core.specs.Fold.{is_within, techmap_within, pass_of, after_word, fold_script, MayBeGiven, AfterWord, AreApplicable}
 
 -- the limits as a test
 pub within_limits : (b : Building) → is_within b ≡ true → IsInLimits b
@@ -52,17 +52,17 @@ module _ (words : List Word) (at : ℕ) (d word : Word) (inside : at < length wo
   left = words_left words at d word inside is
 
   -- a word that gave a module
-  pub fold_next : (after : Module) → pass_of word m ≡ Some after → fold_script (drop at words) table m ≡ fold_script (drop (at + 1) words) table after
+  pub fold_next : (after : Module) → pass_of table word m ≡ Some after → fold_script (drop at words) table m ≡ fold_script (drop (at + 1) words) table after
   fold_next after e = ap (λ (ws : List Word). fold_script ws table m) left ∙ ap (after_word word (fold_script (drop (at + 1) words) table)) e
 
   -- a word that passed a limit
-  pub fold_over : pass_of word m ≡ None → fold_script (drop at words) table m ≡ Over word
+  pub fold_over : pass_of table word m ≡ None → fold_script (drop at words) table m ≡ Over word
   fold_over e = ap (λ (ws : List Word). fold_script ws table m) left ∙ ap (after_word word (fold_script (drop (at + 1) words) table)) e
 
-  pub applicable_now : AreApplicable (drop at words) table m → IsFaultless table m
+  pub applicable_now : AreApplicable (drop at words) table m → MayBeGiven table m
   applicable_now h = (subst (λ (ws : List Word). AreApplicable ws table m) left h).0
 
-  pub applicable_next : (after : Module) → pass_of word m ≡ Some after → AreApplicable (drop at words) table m → AreApplicable (drop (at + 1) words) table after
+  pub applicable_next : (after : Module) → pass_of table word m ≡ Some after → AreApplicable (drop at words) table m → AreApplicable (drop (at + 1) words) table after
   applicable_next after e h = subst (AfterWord (AreApplicable (drop (at + 1) words) table)) e (subst (λ (ws : List Word). AreApplicable ws table m) left h).1
 
 -- no word is left

@@ -3,5 +3,8 @@ pub mod FoldLemmas
 pub mod Tables
 pub mod Faultless
 pub mod BuildLemmas
+pub mod Given
+pub mod Reading
+pub mod Stepping
 pub mod Renaming
 pub mod Refining

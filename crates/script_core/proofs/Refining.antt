@@ -8,7 +8,9 @@ use Rattle.rtl_ir.specs.declared.ports.ModulePorts.{ModulePorts}
 use Rattle.rtl_ir.specs.declared.ports.PortTable.{PortTable}
 use Rattle.rtl_ir.specs.Faults.{faults_within}
 use Rattle.rtl_ir.specs.Flat.Cell.{Ports, instances}
-use Rattle.rtl_ir.specs.Flat.Tree.{design_ports, table_ports}
+use Rattle.rtl_ir.specs.Flat.Place.{Frame}
+use Rattle.rtl_ir.specs.Flat.Tree.{design_ports}
+use Rattle.rtl_ir.specs.Flat.Tree.{table_ports as flat_ports}
 use Rattle.rtl_ir.specs.Ports.{ports_of, instances_of, ports_by_module, port_table_of}
 use Rattle.rtl_ir.specs.Scope.{cells_alone}
 use Rattle.rtl_ir.specs.Types as types
@@ -19,96 +21,46 @@ use Rattle.rtl_trip.proofs.PortTableLemmas.{readable_table}
 use Rattle.rtl_write.specs.Text.{body_text}
 use Rattle.rtl_write.specs.Ports.{ports_text}
 use Rattle.net_model.specs.Lists.{In}
-use Rattle.net_model.specs.Refine.{Refines, RefinesIn, RefinesOver, EachRefines, IsWellDriven}
-use Rattle.net_model.proofs.Composing.{RefinesOver_refl, RefinesOver_trans, each_refines}
+use Rattle.net_model.specs.Refine.{AgreeOn, Refines, RefinesIn, RefinesOver, EachRefines, with_body}
+use Rattle.net_model.proofs.Composing.{each_refines}
 use Rattle.check_laws.proofs.Accepted.{accepted}
 use Rattle.check_laws.proofs.Readable.{sound}
-use Rattle.tech_map.specs.Techmap.{beside, techmap_of}
-use Rattle.tech_map.proofs.Driving.{techmap_driven}
-use Rattle.tech_map.proofs.Faultless.{plain}
-use Rattle.tech_map.proofs.Standing.{cells_alone_change, instances_stay, techmap_refines}
+use Rattle.pass_laws.specs.Pass.{IsPass}
 use Rattle.script_core.specs.declared.outcome.Outcome.{Outcome}
 use Rattle.script_core.specs.declared.outcome.Outcome.TheVariants.{Done}
 use Rattle.script_core.specs.declared.word.Word.{Word}
 use Rattle.script_core.specs.declared.word.Word.TheVariants.{Proc, OptExpr, OptMerge, OptClean, Opt, Fsm, Memory, Techmap}
 use Rattle.script_core.specs.Built.{body_name, unnamed, IsValueOf}
 use Rattle.script_core.specs.Cold.{named, table_of, outcome_of, cold, IsNetlist}
-use Rattle.script_core.specs.Fold.{is_within, pass_of, after_word, fold_script, AfterWord, AreApplicable, IsFaultless, IsStageScript}
+use Rattle.script_core.specs.Fold.{fold_script, IsStageScript}
 use Rattle.script_core.specs.Keys.{key_of}
-use Rattle.script_core.proofs.BuildLemmas.{stage_applicable, readable_in}
-use Rattle.script_core.proofs.Faultless.{faultless_alone}
+use Rattle.script_core.proofs.BuildLemmas.{readable_in}
+use Rattle.script_core.proofs.Given.{given_alone}
+use Rattle.script_core.proofs.Stepping.{fold_pass}
+use Rattle.script_core.proofs.Tables.{agree}
 use Rattle.script_core.proofs.Renaming.{fold_renamed}
 
--- ---- a module and what passes make of it
+-- ---- over other ports
 
--- what each pass keeps, and that it refines
-record IsStep (m n : Module) : Type 0 where
-  id : m.id ≡ n.id
-  ports : ports_of m.wires ≡ ports_of n.wires
-  children : instances m.cells ≡ instances n.cells
-  driven : (over : Ports) → IsWellDriven over m → IsWellDriven over n
-  refines : (over : Ports) → RefinesOver m n over
+agree_both : (p q r : Ports) (frames : List Frame) → AgreeOn p q frames → AgreeOn q r frames → AgreeOn p r frames
+agree_both p q r [] h k = tt
+agree_both p q r (f ∷ fs) h k = (h.0 ∙ k.0, agree_both p q r fs h.1 k.1)
 
-no_step : (m : Module) → IsStep m m
-no_step m = record { id = refl; ports = refl; children = refl; driven = λ over h. h; refines = RefinesOver_refl m }
-
-two_steps : (m n o : Module) → IsStep m n → IsStep n o → IsStep m o
-two_steps m n o a b = record {
-  id = a.id ∙ b.id;
-  ports = a.ports ∙ b.ports;
-  children = a.children ∙ b.children;
-  driven = λ over h. b.driven over (a.driven over h);
-  refines = λ over. RefinesOver_trans m n o over a.id a.ports a.children a.driven (a.refines over) (b.refines over);
+refines_over : (b c : Module) (ports over : Ports) → AgreeOn ports over (instances b.cells) → RefinesOver b c ports → RefinesOver b c over
+refines_over b c ports over agrees h = record {
+  holds = λ pre post fb fc ab. h.holds pre post fb fc (agree_both ports over (design_ports (with_body pre b post)) (instances b.cells) agrees ab);
 }
-
-techmap_step : (table : PortTable) (m : Module) → IsFaultless table m → IsStep m (techmap_of m)
-techmap_step table m e =
-    let fine = plain (types.table_ports table.modules) m e in
-    let change = cells_alone_change m in
-    record {
-      id = sym (ap (λ (n : Module). n.id) change);
-      ports = sym (ap (λ (n : Module). ports_of n.wires) change);
-      children = sym (instances_stay m fine);
-      driven = λ over h. techmap_driven over m fine h;
-      refines = λ over. techmap_refines m over fine;
-    }
-
-same_step : (m n : Module) → Some m ≡ Some n → IsStep m n
-same_step m n e = let same : m ≡ n = cc in subst (IsStep m) same (no_step m)
-
-pass_step : (table : PortTable) (word : Word) (m n : Module) → IsFaultless table m → pass_of word m ≡ Some n → IsStep m n
-pass_step table Proc m n h e = same_step m n e
-pass_step table OptExpr m n h e = same_step m n e
-pass_step table OptMerge m n h e = same_step m n e
-pass_step table OptClean m n h e = same_step m n e
-pass_step table Opt m n h e = same_step m n e
-pass_step table Fsm m n h e = same_step m n e
-pass_step table Memory m n h e = same_step m n e
-pass_step table Techmap m n h e = by (is_within (beside m)) e
-  where
-    by : (t : Bool) → cond t (Some (techmap_of m)) None ≡ Some n → IsStep m n
-    by true f = let same : techmap_of m ≡ n = cc in subst (IsStep m) same (techmap_step table m h)
-    by false f = absurd cc
-
-fold_step : (script : List Word) (table : PortTable) (m n : Module) → AreApplicable script table m → fold_script script table m ≡ Done n → IsStep m n
-fold_step [] table m n h e = let same : m ≡ n = cc in subst (IsStep m) same (no_step m)
-fold_step (w ∷ ws) table m n h e = by (λ k more f. fold_step ws table k n more f) (pass_of w m) refl h.1 e
-  where
-    by : ((k : Module) → AreApplicable ws table k → fold_script ws table k ≡ Done n → IsStep k n) → (o : Option Module) → pass_of w m ≡ o → AfterWord (AreApplicable ws table) o → after_word w (fold_script ws table) o ≡ Done n → IsStep m n
-    by later None f more g = absurd cc
-    by later (Some k) f more g = two_steps m k n (pass_step table w m k h.0 f) (later k more g)
 
 -- ---- modules of accepted designs
 
 module _ (d : Design) (readable : IsReadable d) (none : faults_within cells_alone d.modules ≡ []) (script : List Word) (stage : IsStageScript script) where
   -- the module of a design under any name, and what the script makes of it
-  module_step : (m : Module) → In m d.modules → (name : List ℕ) (n : Module) → fold_script script (table_of d.modules m) (record m { id = name }) ≡ Done n → IsStep (record m { id = name }) n
+  module_step : (m : Module) → In m d.modules → (name : List ℕ) (n : Module) → fold_script script (table_of d.modules m) (record m { id = name }) ≡ Done n → IsPass (table_of d.modules m) (record m { id = name }) n
   module_step m i name n e =
-      fold_step script (table_of d.modules m) (record m { id = name }) n
-      (stage_applicable script (table_of d.modules m) (record m { id = name }) stage (faultless_alone d readable none m i name)) e
+      fold_pass script (table_of d.modules m) (record m { id = name }) n stage (given_alone d readable none m i name) e
 
   -- under its own name
-  own_step : (m : Module) → In m d.modules → (n : Module) → outcome_of script d.modules m ≡ Done n → IsStep m n
+  own_step : (m : Module) → In m d.modules → (n : Module) → outcome_of script d.modules m ≡ Done n → IsPass (table_of d.modules m) m n
   own_step m i n e =
       module_step m i m.id n (fold_renamed m.id script (table_of d.modules m) (unnamed m) ∙ e)
 
@@ -121,7 +73,9 @@ module _ (d : Design) (readable : IsReadable d) (none : faults_within cells_alon
       let rest : map (outcome_of script d.modules) bs ≡ map Done cs = cc in
       let step = own_step b (h b (inl refl)) c first in
       let well = (accepted cells_alone d (sound d readable) none).modules b (h b (inl refl)) in
-      ((step.id, step.ports, well, step.driven (design_ports d) well, step.refines (design_ports d)), each_step bs cs (λ x i. h x (inr i)) rest)
+      let ports : Ports = flat_ports (table_of d.modules b) in
+      let same = agree d.modules b in
+      ((step.id, step.ports, well, step.driven (design_ports d) same well, refines_over b c ports (design_ports d) same step.refines), each_step bs cs (λ x i. h x (inr i)) rest)
 
   pub cold_refines : (n : Design) → IsNetlist (cold script d) n → Refines d n
   cold_refines n e =
@@ -164,4 +118,4 @@ module _ (d : Design) (readable : IsReadable d) (at : ℕ) (m : Module) (here : 
   value_refines none stage after h name =
       let e : fold_script script (table_of d.modules m) (record m { id = name }) ≡ Done (record after { id = name }) =
       fold_renamed name script (table_of d.modules m) (unnamed m) ∙ ap (named name) (sym (value_is (Done after) h)) in
-      (module_step d readable none script stage m stands_in name (record after { id = name }) e).refines (table_ports (table_of d.modules m))
+      (module_step d readable none script stage m stands_in name (record after { id = name }) e).refines

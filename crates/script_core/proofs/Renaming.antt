@@ -81,19 +81,19 @@ module _ (id : List ℕ) where
       by true = refl
       by false = refl
 
-  pass_renamed : (word : words.Word) (m : Module) → pass_of word (under m) ≡ option_map under (pass_of word m)
-  pass_renamed Proc m = refl
-  pass_renamed OptExpr m = refl
-  pass_renamed OptMerge m = refl
-  pass_renamed OptClean m = refl
-  pass_renamed Opt m = refl
-  pass_renamed Fsm m = refl
-  pass_renamed Memory m = refl
-  pass_renamed Techmap m = within_renamed m
+  pass_renamed : (table : PortTable) (word : words.Word) (m : Module) → pass_of table word (under m) ≡ option_map under (pass_of table word m)
+  pass_renamed table Proc m = refl
+  pass_renamed table OptExpr m = refl
+  pass_renamed table OptMerge m = refl
+  pass_renamed table OptClean m = refl
+  pass_renamed table Opt m = refl
+  pass_renamed table Fsm m = refl
+  pass_renamed table Memory m = refl
+  pass_renamed table Techmap m = within_renamed m
 
   pub fold_renamed : (ws : List words.Word) (table : PortTable) (m : Module) → fold_script ws table (under m) ≡ named id (fold_script ws table m)
   fold_renamed [] table m = refl
-  fold_renamed (w ∷ ws) table m = ap (after_word w (fold_script ws table)) (pass_renamed w m) ∙ by (λ n. fold_renamed ws table n) (pass_of w m)
+  fold_renamed (w ∷ ws) table m = ap (after_word w (fold_script ws table)) (pass_renamed table w m) ∙ by (λ n. fold_renamed ws table n) (pass_of table w m)
     where
       by : ((n : Module) → fold_script ws table (under n) ≡ named id (fold_script ws table n)) → (o : Option Module) → after_word w (fold_script ws table) (option_map under o) ≡ named id (after_word w (fold_script ws table) o)
       by ih None = refl

@@ -1,12 +1,11 @@
 -- What a script makes of a module, word by word.
-use Rattle.std.specs.Prelude.{◌≡◌, ◌&&◌, nat_le, Bool, List, [], ◌∷◌, length, Option, Some, None, if◌then◌else◌}
+use Rattle.std.specs.Prelude.{◌&&◌, nat_le, Bool, List, [], ◌∷◌, length, Option, Some, None, if◌then◌else◌}
 use Rattle.rtl_ir.specs.declared.module.Module.{Module}
 use Rattle.rtl_ir.specs.declared.ports.PortTable.{PortTable}
 use Rattle.rtl_ir.specs.Build.{Building}
-use Rattle.rtl_ir.specs.Faults.{module_faults}
-use Rattle.rtl_ir.specs.Scope.{cells_alone}
 use Rattle.rtl_ir.specs.Types.{table_ports}
 use Rattle.net_index.specs.Numbering.{bit_count, widths_of}
+use Rattle.pass_laws.specs.Ready.{IsReady}
 use Rattle.tech_map.specs.Techmap.{beside, techmap_of}
 use Rattle.script_core.specs.declared.outcome.Outcome.{Outcome}
 use Rattle.script_core.specs.declared.outcome.Outcome.TheVariants.{Done, Over}
@@ -21,17 +20,17 @@ is_within b = nat_le (length b.body.cells) 1048576 && (nat_le (bit_count (widths
 abbrev pub techmap_within : Module → Option Module
 techmap_within m = if is_within (beside m) then Some (techmap_of m) else None
 
--- what the pass of a word makes of a module, None where that passes a limit. A module without processes is what `proc`
--- gives; the passes of the words between are not there yet: no script of this stage has them
-abbrev pub pass_of : Word → Module → Option Module
-pass_of Proc m = Some m
-pass_of OptExpr m = Some m
-pass_of OptMerge m = Some m
-pass_of OptClean m = Some m
-pass_of Opt m = Some m
-pass_of Fsm m = Some m
-pass_of Memory m = Some m
-pass_of Techmap m = techmap_within m
+-- what the pass of a word makes of a module, over the ports of a table; None where that passes a limit. A module without
+-- processes is what `proc` gives; some passes are not there yet: no script of this stage has their words
+abbrev pub pass_of : PortTable → Word → Module → Option Module
+pass_of table Proc m = Some m
+pass_of table OptExpr m = Some m
+pass_of table OptMerge m = Some m
+pass_of table OptClean m = Some m
+pass_of table Opt m = Some m
+pass_of table Fsm m = Some m
+pass_of table Memory m = Some m
+pass_of table Techmap m = techmap_within m
 
 -- the rest of a fold, behind a word that gave a module or passed a limit
 abbrev pub after_word : Word → (Module → Outcome) → Option Module → Outcome
@@ -41,21 +40,21 @@ after_word word rest (Some m) = rest m
 -- what the words make of a module, in order: the last module, or the first word whose result would pass a limit
 abbrev pub fold_script : List Word → PortTable → Module → Outcome
 fold_script [] table m = Done m
-fold_script (word ∷ words) table m = after_word word (fold_script words table) (pass_of word m)
+fold_script (word ∷ words) table m = after_word word (fold_script words table) (pass_of table word m)
 
--- a module has no fault, with cells and instances alone, over the ports of a table
-abbrev pub IsFaultless : PortTable → Module → Type 0
-IsFaultless table m = module_faults cells_alone (table_ports table.modules) m ≡ []
+-- the module may be given to a pass, over the ports of a table
+abbrev pub MayBeGiven : PortTable → Module → Type 0
+MayBeGiven table m = IsReady (table_ports table.modules) m
 
 -- the rest of the words may be applied, behind a word that gave a module
 abbrev pub AfterWord : (Module → Type 0) → Option Module → Type 0
 AfterWord rest None = Unit {0}
 AfterWord rest (Some m) = rest m
 
--- the words may be applied to a module: each one to a module without faults
+-- the words may be applied to a module: each to what the words before it give
 abbrev pub AreApplicable : List Word → PortTable → Module → Type 0
 AreApplicable [] table m = Unit {0}
-AreApplicable (word ∷ words) table m = IsFaultless table m × AfterWord (AreApplicable words table) (pass_of word m)
+AreApplicable (word ∷ words) table m = MayBeGiven table m × AfterWord (AreApplicable words table) (pass_of table word m)
 
 -- the words whose passes are there
 abbrev pub HasPass : Word → Type 0
@@ -66,7 +65,7 @@ HasPass OptClean = ⊥
 HasPass Opt = ⊥
 HasPass Fsm = ⊥
 HasPass Memory = ⊥
-HasPass Techmap = Unit {0}
+HasPass Techmap = ⊥
 
 -- a script of such words alone
 abbrev pub IsStageScript : List Word → Type 0

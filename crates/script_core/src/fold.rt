@@ -1,7 +1,7 @@
 //! The passes of a script, in order.
 
 ghost use Rattle.std.specs.Prelude.{◌≡◌, Err, IfOk, None, Some};
-ghost use Rattle.script_core.specs.Fold.{AreApplicable, IsFaultless, fold_script, pass_of, techmap_within};
+ghost use Rattle.script_core.specs.Fold.{AreApplicable, MayBeGiven, fold_script, pass_of, techmap_within};
 
 use crate::outcome::Outcome;
 use crate::word::Word;
@@ -12,7 +12,7 @@ use std::alloc::Global;
 
 /// The module with its cells mapped. `Over` where the gates would pass a limit.
 fn mapped(alloc: Global, module: &Module, ports: &PortTable) -> Result<Module, PassFault>
-    requires faultless { IsFaultless ports.now «module».now }
+    requires ready { MayBeGiven ports.now «module».now }
     ensures exact { IfOk result (λ after. techmap_within «module».now ≡ Some after) }
     ensures over { result ≡ Err PassFault.Over → techmap_within «module».now ≡ None }
 {
@@ -21,9 +21,9 @@ fn mapped(alloc: Global, module: &Module, ports: &PortTable) -> Result<Module, P
 
 /// What the pass of a word makes of the module. `Over` where that would pass a limit.
 fn pass(alloc: Global, word: Word, module: Module, ports: &PortTable) -> Result<Module, PassFault>
-    requires faultless { IsFaultless ports.now «module» }
-    ensures exact { IfOk result (λ after. pass_of word «module» ≡ Some after) }
-    ensures over { result ≡ Err PassFault.Over → pass_of word «module» ≡ None }
+    requires ready { MayBeGiven ports.now «module» }
+    ensures exact { IfOk result (λ after. pass_of ports.now word «module» ≡ Some after) }
+    ensures over { result ≡ Err PassFault.Over → pass_of ports.now word «module» ≡ None }
 {
     match word {
         Word::Techmap => mapped(alloc, &module, ports),

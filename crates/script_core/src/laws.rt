@@ -16,15 +16,15 @@ ghost use Rattle.script_core.specs.declared.outcome.Outcome.TheVariants.{Done};
 ghost use Rattle.script_core.specs.declared.word.Word.{Word};
 ghost use Rattle.script_core.specs.Built.{IsValueOf, unnamed};
 ghost use Rattle.script_core.specs.Cold.{IsNetlist, cold, named, outcome_of, table_of};
-ghost use Rattle.script_core.specs.Fold.{IsFaultless, IsStageScript, fold_script};
+ghost use Rattle.script_core.specs.Fold.{MayBeGiven, IsStageScript, fold_script};
 ghost use Rattle.script_core.specs.Keys.{key_of};
 
 /// The table of a module has the ports that the design has for each of its instances; so a module of an
-/// accepted design has no fault over its table either, whatever its name is.
+/// accepted design may be given to a pass over its table, whatever its name is.
 pub fn tables_have_the_ports()
     ensures ports { (d : Design) (m : Module) → AgreeOn (table_ports (table_of d.modules m)) (design_ports d) (instances m.cells) }
-    ensures faultless { (d : Design) → IsReadable d → faults_within cells_alone d.modules ≡ [] → (m : Module) → In m d.modules →
-        IsFaultless (table_of d.modules m) (unnamed m) }
+    ensures given { (d : Design) → IsReadable d → faults_within cells_alone d.modules ≡ [] → (m : Module) → In m d.modules →
+        MayBeGiven (table_of d.modules m) (unnamed m) }
 {}
 
 /// No pass looks at the name of a module: what a script makes of it under a name is what it makes of it

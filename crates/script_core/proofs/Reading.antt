@@ -1,0 +1,69 @@
+-- What is read of the texts of a key.
+use Rattle.std.proofs.Common.{◌≡◌, ℕ, suc, zero, ◌<◌, List, [], ◌∷◌, length, Bool, true, false, cond, Option, Some, None, Result, Ok, Err, inl, inr, refl, sym, ap, subst, ◌∙◌, arith}
+use Rattle.std.specs.Prelude.{slice_get, IfOk, unwrap_or, map}
+use Rattle.std.specs.List.{All}
+use Rattle.std.specs.Option.{option_map}
+use Rattle.std.proofs.lemmas.List.Elements.{All-head, All-tail}
+use Rattle.rtl_ir.specs.declared.module.Design.{Design}
+use Rattle.rtl_ir.specs.Faults.{faults_within}
+use Rattle.rtl_ir.specs.Scope.{cells_alone}
+use Rattle.rtl_trip.specs.Readable.{IsReadable}
+use Rattle.rtl_ir.specs.declared.module.Module.{Module}
+use Rattle.rtl_ir.specs.declared.ports.PortTable.{PortTable}
+use Rattle.rtl_ir.specs.Ports.{instances_of, ports_by_module, port_table_of}
+use Rattle.rtl_trip.specs.Readable.{IsReadableModule}
+use Rattle.rtl_trip.specs.PortTables.{ArePorts}
+use Rattle.rtl_trip.proofs.PortTableLemmas.{readable_table}
+use Rattle.rtl_write.specs.Text.{body_text}
+use Rattle.rtl_write.specs.Ports.{ports_text}
+use Rattle.rtl_ir.specs.Types.{table_ports}
+use Rattle.net_model.specs.Lists.{In}
+use Rattle.tech_map.specs.Techmap.{beside, techmap_of}
+use Rattle.tech_map.proofs.Faultless.{plain}
+use Rattle.tech_map.proofs.Forming.{techmap_faultless}
+use Rattle.script_core.specs.declared.key.Key.{Key}
+use Rattle.script_core.specs.declared.outcome.Outcome.{Outcome}
+use Rattle.script_core.specs.declared.word.Word.{Word}
+use Rattle.script_core.specs.declared.word.Word.TheVariants.{Proc, OptExpr, OptMerge, OptClean, Opt, Fsm, Memory, Techmap}
+use Rattle.script_core.specs.Built.{body_name, unnamed, IsValueOf, IsAcceptedKey}
+use Rattle.script_core.specs.Cold.{table_of}
+use Rattle.script_core.specs.Fold.{fold_script, is_within, AfterWord, MayBeGiven}
+use Rattle.script_core.specs.Keys.{body_text_at, key_of}
+use Rattle.script_core.proofs.BuildLemmas.{IsAt, module_at, readable_in}
+use Rattle.script_core.proofs.Given.{given_alone}
+
+-- what is read of the texts of an accepted key
+pub record IsRead (key : Key) (read : Module) (table : PortTable) : Type 0 where
+  pub given : MayBeGiven table read
+  -- each module and table of these texts
+  pub only : (m : Module) (ports : PortTable) → IsReadableModule m → m.id ≡ body_name → ArePorts ports → body_text m ≡ key.body → ports_text ports ≡ key.ports → (m ≡ read) × (ports ≡ table)
+
+module _ (key : Key) (read : Module) (table : PortTable)
+    (body : (m : Module) → IsReadableModule m → key.body ≡ body_text m → read ≡ record m { id = body_name })
+    (ports : (t : PortTable) → ArePorts t → key.ports ≡ ports_text t → table ≡ t) where
+  pub read_key : IsAcceptedKey key → IsRead key read table
+  read_key is =
+      let d = is.design in
+      let here = module_at d.modules is.at is.in_range in
+      let m = here.m in
+      let readable = readable_in IsReadableModule d.modules is.readable.modules m here.member in
+      let own : read ≡ unnamed m = body m readable (ap (λ (k : Key). k.body) is.same ∙ here.body) in
+      let its : table ≡ table_of d.modules m = ports (record { modules = port_table_of d.modules is.at }) (readable_table d is.at is.readable) (ap (λ (k : Key). k.ports) is.same) ∙ ap (λ ts. record { modules = ts }) here.ports in
+      record {
+        given = subst (λ (t : PortTable). MayBeGiven t read) (sym its) (subst (MayBeGiven (table_of d.modules m)) (sym own) (given_alone d is.readable is.faultless m here.member body_name));
+        only = λ n t good name are b p. (same n name ∙ sym (body n good (sym b)), sym (ports t are (sym p)));
+      }
+    where
+      same : (n : Module) → n.id ≡ body_name → n ≡ record n { id = body_name }
+      same n e = (λ i. record n { id = e i })
+
+-- the fold over what was read is the value of the key
+pub value_of_key : (key : Key) (read : Module) (table : PortTable) → IsRead key read table → (outcome : Outcome) → outcome ≡ fold_script key.script table read → IsValueOf key outcome
+value_of_key key read table is outcome e = record {
+  value = λ m t good name are b p. let only = is.only m t good name are b p in e ∙ (λ i. fold_script key.script (sym only.1 i) (sym only.0 i));
+}
+
+-- .. in each answer that has one
+pub value_of_answer : {E : Type 0} (key : Key) (read : Module) (table : PortTable) → IsRead key read table → (script : List Word) → script ≡ key.script → (r : Result Outcome E) → IfOk r (λ outcome. outcome ≡ fold_script script table read) → IfOk r (λ outcome. IsValueOf key outcome)
+value_of_answer key read table is script same (Ok outcome) e = value_of_key key read table is outcome (e ∙ ap (λ (s : List Word). fold_script s table read) same)
+value_of_answer key read table is script same (Err fault) e = tt

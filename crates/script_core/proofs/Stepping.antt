@@ -1,0 +1,45 @@
+-- What the pass of each word keeps.
+use Rattle.std.proofs.Common.{◌≡◌, Bool, true, false, cond, Option, Some, None, List, [], ◌∷◌, refl, subst}
+use Rattle.rtl_ir.specs.declared.module.Module.{Module}
+use Rattle.rtl_ir.specs.declared.ports.PortTable.{PortTable}
+use Rattle.pass_laws.specs.Pass.{IsPass}
+use Rattle.pass_laws.proofs.Passes.{IsPass_refl, IsPass_trans}
+use Rattle.tech_map.specs.Techmap.{beside, techmap_of}
+use Rattle.script_core.specs.declared.outcome.Outcome.TheVariants.{Done}
+use Rattle.script_core.specs.declared.word.Word.{Word}
+use Rattle.script_core.specs.declared.word.Word.TheVariants.{Proc, OptExpr, OptMerge, OptClean, Opt, Fsm, Memory, Techmap}
+use Rattle.script_core.specs.Fold.{is_within, pass_of, after_word, fold_script, AfterWord, AreApplicable, HasPass, IsStageScript, MayBeGiven}
+
+same_pass : (table : PortTable) (m n : Module) → Some m ≡ Some n → IsPass table m n
+same_pass table m n e = let same : m ≡ n = cc in subst (IsPass table m) same (IsPass_refl table m)
+
+-- a word that has a pass
+pub pass_is : (table : PortTable) (word : Word) (m n : Module) → HasPass word → MayBeGiven table m → pass_of table word m ≡ Some n → IsPass table m n
+pass_is table Proc m n has h e = same_pass table m n e
+pass_is table OptExpr m n has h e = absurd has
+pass_is table OptMerge m n has h e = absurd has
+pass_is table OptClean m n has h e = absurd has
+pass_is table Opt m n has h e = absurd has
+pass_is table Fsm m n has h e = absurd has
+pass_is table Memory m n has h e = absurd has
+pass_is table Techmap m n has h e = absurd has
+
+-- a script of such words may be applied to a module that may be given to a pass, since each pass leaves such a module
+pub stage_applicable : (script : List Word) (table : PortTable) (m : Module) → IsStageScript script → MayBeGiven table m → AreApplicable script table m
+stage_applicable [] table m is h = tt
+stage_applicable (w ∷ ws) table m is h = (h, by (pass_of table w m) refl (λ n e. stage_applicable ws table n is.1 ((pass_is table w m n is.0 h e).ready h)))
+  where
+    by : (o : Option Module) → pass_of table w m ≡ o → ((n : Module) → pass_of table w m ≡ Some n → AreApplicable ws table n) → AfterWord (AreApplicable ws table) o
+    by None e more = tt
+    by (Some n) e more = more n e
+
+-- what it makes of the module is what one pass could
+pub fold_pass : (script : List Word) (table : PortTable) (m n : Module) → IsStageScript script → MayBeGiven table m → fold_script script table m ≡ Done n → IsPass table m n
+fold_pass [] table m n is h e = let same : m ≡ n = cc in subst (IsPass table m) same (IsPass_refl table m)
+fold_pass (w ∷ ws) table m n is h e = by (λ k f. fold_pass ws table k n is.1 f) (pass_of table w m) refl e
+  where
+    by : ((k : Module) → MayBeGiven table k → fold_script ws table k ≡ Done n → IsPass table k n) → (o : Option Module) → pass_of table w m ≡ o → after_word w (fold_script ws table) o ≡ Done n → IsPass table m n
+    by later None f g = absurd cc
+    by later (Some k) f g =
+        let first = pass_is table w m k is.0 h f in
+        IsPass_trans table m k n first (later k (first.ready h) g)
