@@ -4,20 +4,8 @@
 # usage: bench/check.sh [GATES]      500,000 without a number
 set -eu
 gates=${1:-500000}
-top=$(cd "$(dirname "$0")/.." && pwd)
-work=$(mktemp -d)
-trap 'rm -rf "$work"' EXIT
-mkdir -p "$work/crates/passing/src" "$work/crates/passing/specs" "$work/crates/passing/proofs"
-for crate in rtl_bits cell_types cell_gate cell_word rtl_sig rtl_ir rtl_lex rtl_grammar rtl_read rtl_write synth_io; do
-    mkdir "$work/crates/$crate"
-    for part in src specs proofs; do
-        cp -R "$top/crates/$crate/$part" "$work/crates/$crate/$part"
-    done
-    grep "^$crate:" "$top/crates.txt" >>"$work/crates.txt"
-done
-echo 'passing: rtl_read rtl_write synth_io rtl_ir rtl_bits' >>"$work/crates.txt"
-: >"$work/crates/passing/specs/Lib.antt"
-: >"$work/crates/passing/proofs/Lib.antt"
+. "$(dirname "$0")/workspace.sh"
+make_workspace 'passing: rtl_read rtl_write synth_io rtl_ir rtl_bits' 'rtl_bits cell_types cell_gate cell_word rtl_sig rtl_ir rtl_lex rtl_grammar rtl_read rtl_write synth_io'
 cat >"$work/crates/passing/src/main.rt" <<'END'
 //! Reads a text from standard input, and writes it to standard output.
 #![tactic(auto)]

@@ -4,20 +4,8 @@
 # usage: bench/gates.sh [GATES]      a million without a number
 set -eu
 gates=${1:-1000000}
-top=$(cd "$(dirname "$0")/.." && pwd)
-work=$(mktemp -d)
-trap 'rm -rf "$work"' EXIT
-mkdir -p "$work/crates/gates/src" "$work/crates/gates/specs" "$work/crates/gates/proofs"
-for crate in rtl_bits cell_types cell_gate cell_word rtl_sig rtl_ir; do
-    mkdir "$work/crates/$crate"
-    for part in src specs proofs; do
-        cp -R "$top/crates/$crate/$part" "$work/crates/$crate/$part"
-    done
-    grep "^$crate:" "$top/crates.txt" >>"$work/crates.txt"
-done
-echo 'gates: rtl_ir rtl_sig rtl_bits anyhow' >>"$work/crates.txt"
-: >"$work/crates/gates/specs/Lib.antt"
-: >"$work/crates/gates/proofs/Lib.antt"
+. "$(dirname "$0")/workspace.sh"
+make_workspace 'gates: rtl_ir rtl_sig rtl_bits anyhow' 'rtl_bits cell_types cell_gate cell_word rtl_sig rtl_ir'
 cat >"$work/crates/gates/src/main.rt" <<END
 //! A module of gates, made and copied.
 #![tactic(auto)]

@@ -5,7 +5,8 @@ usage: bench/gates_of_cells.py [BYTES [WIDTH]]      at least so many bytes, cell
 """
 import sys
 
-wanted = int(sys.argv[1]) if len(sys.argv) > 1 else 60_000_000
+from texts import print_modules
+
 width = int(sys.argv[2]) if len(sys.argv) > 2 else 8
 CELL = ('  cell %s $expr$%d\n    parameter \\A_SIGNED 0\n    parameter \\A_WIDTH %d\n    parameter \\B_SIGNED 0\n'
         '    parameter \\B_WIDTH %d\n    parameter \\Y_WIDTH %d\n    connect \\A \\data_%d\n    connect \\B \\data_%d\n'
@@ -22,10 +23,4 @@ def module(number):
     yield 'end\n'
 
 
-size = number = 0
-while size < wanted:
-    text = ''.join(module(number))
-    sys.stdout.write(text)
-    size += len(text)
-    number += 1
-print('%d modules, %d bytes' % (number, size), file=sys.stderr)
+print_modules(module)

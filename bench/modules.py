@@ -3,9 +3,7 @@
 
 usage: bench/modules.py [BYTES]      at least so many; 60,000,000 without a number
 """
-import sys
-
-wanted = int(sys.argv[1]) if len(sys.argv) > 1 else 60_000_000
+from texts import print_modules
 
 
 def wires(n):
@@ -54,10 +52,4 @@ def module(number):
     yield 'end\n'
 
 
-size = number = 0
-while size < wanted:
-    text = ''.join(module(number))
-    sys.stdout.write(text)
-    size += len(text)
-    number += 1
-print('%d modules, %d bytes' % (number, size), file=sys.stderr)
+print_modules(module)

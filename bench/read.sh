@@ -4,20 +4,8 @@
 # usage: bench/read.sh [BYTES]      60,000,000 without a number
 set -eu
 bytes=${1:-60000000}
-top=$(cd "$(dirname "$0")/.." && pwd)
-work=$(mktemp -d)
-trap 'rm -rf "$work"' EXIT
-mkdir -p "$work/crates/reading/src" "$work/crates/reading/specs" "$work/crates/reading/proofs"
-for crate in rtl_bits cell_types cell_gate cell_word rtl_sig rtl_ir rtl_lex rtl_grammar rtl_read; do
-    mkdir "$work/crates/$crate"
-    for part in src specs proofs; do
-        cp -R "$top/crates/$crate/$part" "$work/crates/$crate/$part"
-    done
-    grep "^$crate:" "$top/crates.txt" >>"$work/crates.txt"
-done
-echo 'reading: rtl_read rtl_ir rtl_bits anyhow' >>"$work/crates.txt"
-: >"$work/crates/reading/specs/Lib.antt"
-: >"$work/crates/reading/proofs/Lib.antt"
+. "$(dirname "$0")/workspace.sh"
+make_workspace 'reading: rtl_read rtl_ir rtl_bits anyhow' 'rtl_bits cell_types cell_gate cell_word rtl_sig rtl_ir rtl_lex rtl_grammar rtl_read'
 cat >"$work/crates/reading/src/main.rt" <<'END'
 //! Reads a text from standard input, and says how long that took.
 #![tactic(auto)]
