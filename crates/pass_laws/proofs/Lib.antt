@@ -9,3 +9,6 @@ pub mod Rewriting
 pub mod Outputs
 pub mod Placing
 pub mod Widening
+pub mod Driving
+pub mod Giving
+pub mod Promised
