@@ -14,7 +14,7 @@ use std::fmt::Write;
 use std::process::Abort;
 use std::test::Fail;
 use synth_io::{MemSink, MemSource, Sink, Source, StdSink, StdSource, SureSink, SureSource};
-use whole_text::{FIFTH_ROWS, FIRST_ROWS, FOURTH_ROWS, SECOND_ROWS, THIRD_ROWS};
+use whole_text::{FIRST_ROWS, FOURTH_ROWS, SECOND_ROWS, THIRD_ROWS};
 
 /// The name of the counter of builds.
 struct Builds;
@@ -85,7 +85,7 @@ fn run_rows(rt: &impl Abort, alloc: Global, table: &[u8]) -> Result<(u32, u32), 
 fn texts_have_their_netlists(rt: HostRuntime) -> Result<(), Fail> {
     let mut rows = 0u32;
     let mut accepted = 0u32;
-    for table in [FIRST_ROWS, SECOND_ROWS, THIRD_ROWS, FOURTH_ROWS, FIFTH_ROWS] {
+    for table in [FIRST_ROWS, SECOND_ROWS, THIRD_ROWS, FOURTH_ROWS] {
         let (more, taken) = run_rows(&rt, rt.alloc(), table)?;
         rows = rows.saturating_add(more);
         accepted = accepted.saturating_add(taken);
@@ -203,35 +203,29 @@ fn operands_text(alloc: Global, wire: &str) -> Result<String, AllocError> {
 }
 
 const OPERAND_WIRES: &str =
-    "  wire \\a\n  wire width 2 \\b\n  wire width 3 \\c\n  wire width 2 \\y\n  wire \\z\n";
+    "  wire input 1 \\a\n  wire width 2 input 2 \\b\n  wire width 3 input 3 \\c\n  wire width 2 output 4 \\y\n  wire output 5 \\z\n";
 
-/// Its netlist, where the gates have these names.
-fn operands_netlist(alloc: Global, wire: &str, names: [&str; 3]) -> Result<String, AllocError> {
-    let [one, two, three] = names;
+/// Its netlist, where the gates have these names. The gate between them is of a 0, and so is gone.
+fn operands_netlist(alloc: Global, wire: &str, names: [&str; 2]) -> Result<String, AllocError> {
+    let [one, two] = names;
     let one = gate_text(alloc, one, "\\a", "\\c [0]", "\\y [0]")?;
-    let two = gate_text(alloc, two, "1'0", "\\c [1]", "\\y [1]")?;
-    let three = gate_text(alloc, three, "\\c [0]", "\\b [0]", "\\z")?;
-    let wires = format!(in alloc; "{OPERAND_WIRES}{wire}")?;
-    module_text(
-        alloc,
-        wires.as_str(),
-        vec![in alloc; one, two, three]?.as_slice(),
-    )
+    let two = gate_text(alloc, two, "\\c [0]", "\\b [0]", "\\z")?;
+    format!(in alloc; "module \\m\n{OPERAND_WIRES}{wire}{one}{two}  connect \\y [1] 1'0\nend\n")
 }
 
 #[test]
 fn operands_and_numbers(rt: HostRuntime) -> Result<(), Fail> {
     let alloc = rt.alloc();
-    let plain = ["$syn$1", "$syn$2", "$syn$3"];
+    let plain = ["$syn$1", "$syn$3"];
     for (row, wire, names) in [
         ("numbers go on", "", plain),
         (
             "from a made name",
-            "  wire $syn$7\n",
-            ["$syn$8", "$syn$9", "$syn$10"],
+            "  wire input 6 $syn$7\n",
+            ["$syn$8", "$syn$10"],
         ),
-        ("ten digits do not count", "  wire $syn$1234567890\n", plain),
-        ("a leading zero does not count", "  wire $syn$07\n", plain),
+        ("ten digits do not count", "  wire input 6 $syn$1234567890\n", plain),
+        ("a leading zero does not count", "  wire input 6 $syn$07\n", plain),
     ] {
         let input = operands_text(alloc, wire)?;
         let output = operands_netlist(alloc, wire, names)?;
@@ -262,7 +256,7 @@ fn widest_gates(alloc: Global) -> Result<Vec<String>, AllocError> {
 #[test]
 fn widest_cell(rt: HostRuntime) -> Result<(), Fail> {
     let alloc = rt.alloc();
-    let wires = "  wire width 4096 \\a\n  wire width 4096 \\b\n  wire width 4096 \\y\n";
+    let wires = "  wire width 4096 input 1 \\a\n  wire width 4096 input 2 \\b\n  wire width 4096 output 3 \\y\n";
     let cell = and_text(alloc, "$1", (4096, "\\a"), (4096, "\\b"), (4096, "\\y"))?;
     let gates = widest_gates(alloc)?;
     let input = module_text(alloc, wires, vec![in alloc; cell]?.as_slice())?;
@@ -281,7 +275,8 @@ fn widest_cell(rt: HostRuntime) -> Result<(), Fail> {
 fn wires_text(alloc: Global, count: u32) -> Result<String, AllocError> {
     let mut text = String::from_str(alloc, "module \\m\n")?;
     for at in 0..count {
-        let wire = format!(in alloc; "  wire \\w{at}\n")?;
+        let port = at.saturating_add(1);
+        let wire = format!(in alloc; "  wire input {port} \\w{at}\n")?;
         text.push_str(wire.as_str())?;
     }
     text.push_str("end\n")?;

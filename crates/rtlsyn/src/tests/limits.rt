@@ -9,7 +9,7 @@ use std::test::Fail;
 fn made_text(alloc: Global, id: &str, made: &str, width: u32) -> Result<String, AllocError> {
     let cell = and_text(alloc, "$1", (width, "\\a"), (width, "\\b"), (width, "\\y"))?;
     format!(in alloc;
-        "module {id}\n  wire {made}\n  wire width {width} \\a\n  wire width {width} \\b\n  wire width {width} \\y\n{cell}end\n"
+        "module {id}\n  wire input 4 {made}\n  wire width {width} input 1 \\a\n  wire width {width} input 2 \\b\n  wire width {width} output 3 \\y\n{cell}end\n"
     )
 }
 
@@ -17,7 +17,7 @@ fn made_text(alloc: Global, id: &str, made: &str, width: u32) -> Result<String, 
 fn last_netlist(alloc: Global) -> Result<String, AllocError> {
     let gate = gate_text(alloc, "$syn$999999999", "\\a", "\\b", "\\y")?;
     format!(in alloc;
-        "module \\m\n  wire $syn$999999998\n  wire \\a\n  wire \\b\n  wire \\y\n{gate}end\n"
+        "module \\m\n  wire input 4 $syn$999999998\n  wire input 1 \\a\n  wire input 2 \\b\n  wire output 3 \\y\n{gate}end\n"
     )
 }
 

@@ -1,0 +1,103 @@
+//! A script of `proc` and one more word over the design of a text.
+
+ghost use Rattle.std.specs.Prelude.{◌≡◌, ◌<◌, [], ◌∷◌, IfOk, IfSome, length};
+ghost use Rattle.rtl_trip.specs.Readable.{IsReadable};
+ghost use Rattle.script_core.specs.Fold.{HasPass, IsStageScript};
+ghost use Rattle.script_core.specs.declared.word.Word.TheVariants.{Proc};
+
+use rtl_bits::{Copied, Memory, Seq, Steps};
+use rtl_check::{Checked, check};
+use rtl_ir::{Design, Module};
+use rtl_read::{ReadFault, read};
+use script_core::{Outcome, Script, Word, build, key_of};
+use std::alloc::Global;
+
+/// The name of the counter of builds.
+struct Builds;
+
+/// The word of this name, where it is one of those that have a pass.
+fn word_of(name: &[u8]) -> Option<Word>
+    ensures there { IfSome result HasPass }
+{
+    match name {
+        b"opt_expr" => Some(Word::OptExpr),
+        b"opt_merge" => Some(Word::OptMerge),
+        b"opt_clean" => Some(Word::OptClean),
+        b"opt" => Some(Word::Opt),
+        b"techmap" => Some(Word::Techmap),
+        _ => None,
+    }
+}
+
+/// The script of `proc` and the word.
+fn script_of(alloc: Global, word: Word) -> Result<Script, Memory>
+    ensures words { IfOk result (λ script. script ≡ Proc ∷ word ∷ []) }
+{
+    let mut script = Script::make(alloc)?;
+    script.push(word)?;
+    Ok(script)
+}
+
+/// The module at this place after the script, under its own name; none where a limit would be passed.
+fn module_after(
+    alloc: Global,
+    design: &Checked,
+    at: u32,
+    script: &Script,
+) -> Result<Option<Module>, Memory>
+    requires readable { IsReadable design.now.design }
+    requires in_range { at < length design.now.design.modules }
+    requires stage { IsStageScript script.now }
+{
+    let key = key_of(alloc, design, at, script)?;
+    let mut meter = Steps::make(&Builds);
+    let built = build(alloc, &key, &mut meter);
+    let _builds = meter.end(&Builds);
+    let built = built?;
+    let Outcome::Done(module) = built.outcome() else {
+        return Ok(None);
+    };
+    let mut module = module.copy()?;
+    module.id = design.design().modules.as_slice()[at as usize].id.copy()?;
+    Ok(Some(module))
+}
+
+/// The design after the script, module by module.
+fn design_after(alloc: Global, design: &Checked, script: &Script) -> Result<Option<Design>, Memory>
+    requires readable { IsReadable design.now.design }
+    requires stage { IsStageScript script.now }
+{
+    let mut modules = Seq::make(alloc);
+    for at in 0..design.design().modules.as_slice().len() as u32 {
+        let Some(module) = module_after(alloc, design, at, script)? else {
+            return Ok(None);
+        };
+        modules.push(module)?;
+    }
+    Ok(Some(Design { modules }))
+}
+
+/// The design after `proc` and the word, where the design has no fault.
+fn checked_after(alloc: Global, design: Design, word: Word) -> Result<Option<Design>, Memory>
+    requires readable { IsReadable design }
+    requires there { HasPass word }
+{
+    let script = script_of(alloc, word)?;
+    match check(alloc, design) {
+        Ok(checked) => design_after(alloc, &checked, &script),
+        Err(_) => Ok(None),
+    }
+}
+
+/// The design of the text after `proc` and the word of this name, where all of them are what they should be.
+#[tactic(auto, using(rtl_trip::proofs::Kept::readable))]
+pub fn netlist_of(alloc: Global, text: &[u8], name: &[u8]) -> Result<Option<Design>, Memory> {
+    let Some(word) = word_of(name) else {
+        return Ok(None);
+    };
+    match read(alloc, text) {
+        Ok(design) => checked_after(alloc, design, word),
+        Err(ReadFault::Memory) => Err(Memory),
+        Err(_) => Ok(None),
+    }
+}
