@@ -1,5 +1,5 @@
 -- The gates of a cell stand for it, whatever its kind.
-use Rattle.std.proofs.Common.{◌≡◌, ℕ, false, List, [], ◌∷◌, length, Option, Some, None, Ok, refl, sym, subst}
+use Rattle.std.proofs.Common.{◌≡◌, ℕ, false, List, [], ◌∷◌, length, Option, Some, None, Ok, sym, subst}
 use Rattle.std.proofs.lemmas.List.{append-nil}
 use Rattle.cell_types.specs.Fault.{fault_of}
 use Rattle.cell_types.specs.PinName.{pin_text}

@@ -1,5 +1,5 @@
 -- Gates that are added one for each bit of an output are an expansion.
-use Rattle.std.proofs.Common.{◌≡◌, ℕ, suc, ◌+◌, ◌≤◌, Bool, true, false, List, [], ◌∷◌, ◌++◌, length, Some, inl, inr, refl, sym, ◌∙◌, ap, subst, arith}
+use Rattle.std.proofs.Common.{◌≡◌, ℕ, suc, ◌+◌, false, List, [], ◌∷◌, ◌++◌, length, inl, inr, refl, sym, ◌∙◌, ap, subst, arith}
 use Rattle.std.specs.Prelude.{flat_map, map}
 use Rattle.std.proofs.lemmas.Bool.{or_parts}
 use Rattle.std.proofs.lemmas.List.{append-nil}
@@ -9,14 +9,12 @@ use Rattle.cell_types.specs.declared.pin_name.PinName.TheVariants.{Y}
 use Rattle.cell_types.specs.declared.word.WordKind.{WordKind}
 use Rattle.rtl_sig.specs.declared.sig.SigBit.{SigBit}
 use Rattle.rtl_sig.specs.declared.sig.SigBit.TheVariants as sig
-use Rattle.rtl_sig.specs.declared.sig.WireBit.{WireBit}
-use Rattle.rtl_ir.specs.Build.{Building, made_name}
+use Rattle.rtl_ir.specs.Build.{Building}
 use Rattle.rtl_ir.specs.Signals.{has_constant, is_constant, wire_bits}
 use Rattle.rtl_ir.specs.declared.cell.Cell.{Cell}
 use Rattle.net_model.proofs.Ranges.{signal_in}
-use Rattle.net_model.specs.Lists.{In}
 use Rattle.net_model.specs.Within.{BitIn, Each, SigIn}
-use Rattle.map_laws.specs.Expansion.{Adds, AreRising, Expands, IsExpansion, IsWhole, IsWholeGate, cell_bits, kind_bits}
+use Rattle.map_laws.specs.Expansion.{Adds, AreRising, IsExpansion, IsWhole, IsWholeGate, cell_bits, kind_bits}
 use Rattle.map_laws.proofs.Expanding.{adds_more, adds_none, expansion, wires_count}
 use Rattle.map_laws.proofs.Reordering.{to_permutation}
 use Rattle.map_laws.proofs.Wholes.{gate_more}

@@ -1,8 +1,6 @@
 -- The gates of one bit are whole: their kinds, pins and outputs.
-use Rattle.std.proofs.Common.{◌≡◌, ℕ, zero, suc, length, ◌-◌, Bool, true, false, List, [], ◌∷◌, ◌++◌, Some, None, inl, inr, refl, sym, ◌∙◌, ap, subst}
+use Rattle.std.proofs.Common.{◌≡◌, ℕ, zero, suc, length, ◌-◌, Bool, true, false, List, [], ◌∷◌, None, inl, inr, refl, sym, ◌∙◌, ap, subst}
 use Rattle.std.specs.Prelude.{◌||◌, slice_get, slice_index_or, unwrap_or}
-use Rattle.std.proofs.lemmas.List.{append-nil}
-use Rattle.cell_types.specs.declared.gate.GateKind.{GateKind}
 use Rattle.cell_types.specs.declared.gate.GateKind.TheVariants as GateOf
 use Rattle.cell_types.specs.declared.kind.CellKind.TheVariants.{Gate}
 use Rattle.cell_types.specs.declared.pin_name.PinName.TheVariants.{A, B, S, Y}
@@ -18,7 +16,6 @@ use Rattle.rtl_ir.specs.Signals.{is_constant, wire_bits}
 use Rattle.rtl_ir.specs.declared.cell.Cell.{Cell}
 use Rattle.rtl_ir.specs.declared.cell.Pin.{Pin}
 use Rattle.net_index.specs.BuilderNames.{gate_name}
-use Rattle.net_model.specs.Lists.{In}
 use Rattle.net_model.specs.Within.{BitIn, CellIn, SigIn}
 use Rattle.map_laws.specs.Expansion.{IsWholeGate, cell_bits, kind_bits}
 use Rattle.map_gates.specs.Bitwise.{gate_for}

@@ -1,15 +1,14 @@
 -- Wires under fresh names: they are new, and the bits of no two of them are one place.
-use Rattle.std.proofs.Common.{◌≡◌, ℕ, ◌+◌, ◌<◌, ◌≤◌, zero, suc, max, List, [], ◌∷◌, ◌++◌, length, Some, None, inl, inr, ⊎_elim, refl, sym, ◌∙◌, ap, subst, arith, append_assoc, length-append}
+use Rattle.std.proofs.Common.{◌≡◌, ℕ, ◌+◌, ◌<◌, ◌≤◌, zero, suc, max, List, [], ◌∷◌, ◌++◌, length, Some, inl, inr, ⊎_elim, refl, sym, ◌∙◌, ap, subst, arith, append_assoc, length-append}
 use Rattle.std.specs.Prelude.{map, slice_get}
 use Rattle.std.specs.List.{fold, range_with_len}
-use Rattle.rtl_sig.specs.declared.sig.WireBit.{WireBit}
 use Rattle.rtl_ir.specs.Build.{first_number, made_name, made_number, module_names}
 use Rattle.rtl_ir.specs.Flat.Place.{IsOf, OfWire, Path, Place, wire_place}
 use Rattle.rtl_ir.specs.Flat.Point.{bit_place, name_or_empty}
 use Rattle.rtl_ir.specs.Signals.{bits_of_wire}
 use Rattle.rtl_ir.specs.declared.module.Module.{Module}
 use Rattle.rtl_ir.specs.declared.wire.Wire.{Wire}
-use Rattle.net_model.proofs.Members.{Distinct-append, In-cases, In-left, In-mapped, apart_from, map-append, map-map}
+use Rattle.net_model.proofs.Members.{Distinct-append, In-cases, In-left, In-mapped, apart_from, map-append}
 use Rattle.net_model.specs.Lists.{Apart, Distinct, In}
 use Rattle.map_laws.specs.Expansion.{AreRising, bits_from}
 use Rattle.map_laws.proofs.FreshNames.{number_of_made}
@@ -157,6 +156,6 @@ module _ (p : Path) where
   wire_spots_distinct (w ∷ ws) h =
       Distinct-append (spots p w.name (range_with_len 0 w.width)) (wire_spots p ws) (spots_distinct w.name 0 w.width) (wire_spots_distinct ws h.1)
       (λ q i j.
-          let a = in_spots w.name (range_with_len 0 w.width) q i in
-          let b = in_wire_spots ws q j in
-          apart_name w.name (names_of ws) h.0 (subst (λ z. In z (names_of ws)) (one_name q b.name w.name b.spot a.1) b.there))
+      let a = in_spots w.name (range_with_len 0 w.width) q i in
+      let b = in_wire_spots ws q j in
+      apart_name w.name (names_of ws) h.0 (subst (λ z. In z (names_of ws)) (one_name q b.name w.name b.spot a.1) b.there))
