@@ -1,138 +1,213 @@
--- Gates drive the places that the cell drives, in the same order.
-use Rattle.std.proofs.Common.{◌≡◌, ℕ, suc, ◌+◌, true, List, [], ◌∷◌, ◌++◌, Option, Some, None, refl, sym, ◌∙◌, ap, subst}
-use Rattle.std.specs.Prelude.{map}
+-- Where no bit has two drivers, none has with gates in the places of cells.
+use Rattle.std.proofs.Common.{◌≡◌, ◌≤◌, ℕ, List, [], ◌∷◌, ◌++◌, length, Option, Some, None, Bool, true, false, if◌then◌else◌, inl, inr, ⊎_elim, refl, sym, ◌∙◌, ap, subst, append_assoc, arith}
+use Rattle.std.specs.Prelude.{filter, flat_map, map, IsPermutation}
+use Rattle.std.specs.Ordering.{int_cmp, match_ordering}
+use Rattle.std.specs.declared.cmp.Ordering.{Ordering}
+use Rattle.std.specs.declared.cmp.Ordering.TheVariants.{Less, Equal, Greater}
 use Rattle.std.proofs.lemmas.List.{append-nil}
-use Rattle.cell_types.specs.declared.gate.GateKind.{GateKind}
-use Rattle.cell_types.specs.declared.gate.GateKind.TheVariants as GateOf
+use Rattle.std.proofs.lemmas.List.Sorted.{IsPermutation-append_comm, IsPermutation-append_left, IsPermutation-append_right, IsPermutation-sym, IsPermutation-trans}
 use Rattle.cell_types.specs.declared.kind.CellKind.{CellKind}
-use Rattle.cell_types.specs.declared.kind.CellKind.TheVariants.{Gate, Word}
-use Rattle.cell_types.specs.declared.pin_name.PinName.TheVariants.{A, B, Y}
-use Rattle.cell_types.specs.declared.shape.Shape.{Shape}
-use Rattle.cell_types.specs.declared.word.UnaryKind.TheVariants.{Not}
-use Rattle.cell_types.specs.declared.word.WordKind.TheVariants.{Unary, Bitwise}
-use Rattle.cell_word.specs.Values.{both_signed}
 use Rattle.rtl_bits.specs.declared.bit.Bit.{Bit}
 use Rattle.rtl_sig.specs.declared.sig.SigBit.{SigBit}
-use Rattle.rtl_ir.specs.Build.{Building, building_of}
-use Rattle.rtl_ir.specs.Flat.Cell.{Ports, cell_kind, cell_rows, cell_shape, cells_rows, instances, outputs}
+use Rattle.rtl_ir.specs.Build.{Building, building_of, first_number, made_number}
+use Rattle.rtl_ir.specs.Faults.Cells.{is_memory_kind}
+use Rattle.rtl_ir.specs.Flat.Cell.{Ports, cell_kind, cell_rows, cells_rows}
 use Rattle.rtl_ir.specs.Flat.Driver.{Driven}
-use Rattle.rtl_ir.specs.Flat.Place.{Frame, IsOf, Path}
-use Rattle.rtl_ir.specs.Flat.Point.{At, Constant, Point, point, points}
-use Rattle.rtl_ir.specs.Flat.Rows.{plain_rows, rows_of}
+use Rattle.rtl_ir.specs.Flat.Link.{joins, link_rows}
+use Rattle.rtl_ir.specs.Flat.Place.{Frame, IsOf, Path, Place, place_same}
+use Rattle.rtl_ir.specs.Flat.Point.{bit_place, points}
+use Rattle.rtl_ir.specs.Flat.Rows.{rows_of}
 use Rattle.rtl_ir.specs.Flat.Start.{start_of}
-use Rattle.rtl_ir.specs.Flat.Tree.{places}
+use Rattle.rtl_ir.specs.Flat.Tree.{places, role_points}
+use Rattle.rtl_ir.specs.Ports.{in_number_order, is_port, line_of, place_wire, ports_of}
 use Rattle.rtl_ir.specs.declared.cell.Cell.{Cell}
+use Rattle.rtl_ir.specs.declared.module.Link.{Link}
 use Rattle.rtl_ir.specs.declared.module.Module.{Module}
+use Rattle.rtl_ir.specs.declared.ports.PortLine.{PortLine}
+use Rattle.rtl_ir.specs.declared.wire.Role.TheVariants.{Input}
 use Rattle.rtl_ir.specs.declared.wire.Wire.{Wire}
-use Rattle.net_index.specs.BuilderNames.{gate_name}
-use Rattle.net_model.proofs.Members.{In-map, In-mapped, map-append}
-use Rattle.net_model.proofs.Swapping.{plain_alone, rows-append}
+use Rattle.net_model.proofs.Members.{Distinct-append, In-cases, In-map, In-mapped, map-append}
+use Rattle.net_model.proofs.Places.{place_same-same}
 use Rattle.net_model.specs.Lists.{Distinct, In}
 use Rattle.net_model.specs.Refine.{IsWellDriven, places_of}
-use Rattle.net_model.specs.Swap.{with_cells}
-use Rattle.map_gates.proofs.Adding.{cell_named, cells_from}
-use Rattle.map_gates.proofs.Standing.{gate_named}
-use Rattle.map_gates.specs.Bitwise.{gate_for}
-use Rattle.map_gates.specs.Gates.{bit_at, one, pin_signal}
-use Rattle.tech_map.specs.Techmap.{is_taken, stand_in, stand_ins, taken_kind, techmap_of, with_gates}
-use Rattle.tech_map.proofs.Faultless.{IsPlain}
-use Rattle.tech_map.proofs.Growing.{Adds, added_are, gate_cell, gate_cells, gates_add, group, taken_is}
-use Rattle.tech_map.proofs.Standing.{cells_alone_change, instances_stay}
+use Rattle.net_model.specs.Within.{Each}
+use Rattle.map_laws.specs.Expansion.{AreRising, IsWhole, IsWholeCell, IsWholeLink, bits_from, cell_bits, link_bits, links_added, wires_added}
+use Rattle.map_laws.proofs.Expanding.{rising_more}
+use Rattle.map_laws.proofs.FreshWires.{IsFresh, IsSpotOf, fresh_number, from_spots, in_wire_spots, names_of, old_number, one_name, rising_distinct, rising_fresh, wire_spots, wire_spots_distinct}
+use Rattle.map_laws.proofs.Reordering.{Distinct-permutation, In-permutation, to_permutation}
+use Rattle.pass_laws.proofs.Placing.{kind_places, links_places}
+use Rattle.pass_laws.proofs.Rewriting.{rows_are}
+use Rattle.pass_laws.specs.Replaces.{IsEven}
+use Rattle.tech_map.specs.Techmap.{beside, stand_ins, taken_kind, techmap_of, with_all_gates, with_gates}
+use Rattle.tech_map.proofs.Drives.{all_drive}
+use Rattle.tech_map.proofs.Growing.{AreWhole, all_added, one_added, whole_next}
+use Rattle.tech_map.proofs.ByKind.{bits_are, mapped, taken_is}
+use Rattle.tech_map.proofs.OldSpots.{cells_kept, links_kept}
+use Rattle.tech_map.proofs.Standing.{IsTakable, cells_after, fresh, grown, lines_more, new_rows, old_rows, swapped, swapped_children, swapped_is, swapped_ports}
 
 placed_more : (xs ys : List Driven) → places_of (xs ++ ys) ≡ places_of xs ++ places_of ys
 placed_more xs ys = map-append (λ (row : Driven). row.place) xs ys
 
--- a point and those behind it
-places_first : (l : Point) (ps : List Point) → places (l ∷ ps) ≡ places (l ∷ []) ++ places ps
-places_first (At q) ps = refl
-places_first (Constant b) ps = refl
+-- the names of fresh wires are those of rising numbers
+one_rising : (c : Cell) (b : Building) → IsWholeCell (length b.body.wires) c → (k : Option CellKind) → taken_kind c ≡ k → AreRising b.next (with_gates k c b).next (names_of (one_added wires_added k c b))
+one_rising c b whole None e = omega arith
+one_rising c b whole (Some kind) e =
+    let is = taken_is (cell_kind c) kind e in
+    (mapped kind is.taken c b (whole kind is.own)).expansion.wire_names
 
--- the places of an output are those of its points
-outputs_places : (shape : Shape) (inputs : List (List Point)) (ps : List Point) (at : ℕ) → places_of (outputs shape inputs ps at) ≡ places ps
-outputs_places shape inputs [] at = refl
-outputs_places shape inputs (At q ∷ ps) at = ap (λ z. q ∷ z) (outputs_places shape inputs ps (suc at))
-outputs_places shape inputs (Constant b ∷ ps) at = outputs_places shape inputs ps (suc at)
+pub all_rising : (cs : List Cell) (b : Building) → AreWhole cs b → AreRising b.next (with_all_gates cs b).next (names_of (all_added wires_added cs b))
+all_rising [] b whole = omega arith
+all_rising (c ∷ cs) b whole =
+    let next : Building = with_gates (taken_kind c) c b in
+    subst (AreRising b.next (with_all_gates cs next).next) (sym (map-append (λ (w : Wire). w.name) (one_added wires_added (taken_kind c) c b) (all_added wires_added cs next)))
+    (rising_more b.next next.next (with_all_gates cs next).next _ _ (one_rising c b (whole c (inl refl)) (taken_kind c) refl) (all_rising cs next (whole_next c cs b whole)))
+
+-- a port of a module has the name of one of its wires
+module _ where
+  ordered : (w v : Wire) (ws : List Wire) → In w (place_wire v ws) → In w (v ∷ ws)
+  ordered w v [] i = i
+  ordered w v (u ∷ ws) i = by (ordered w v ws) (int_cmp v.number u.number) i
+    where
+      by : (In w (place_wire v ws) → In w (v ∷ ws)) → (o : Ordering) → In w (match_ordering o (v ∷ u ∷ ws) (v ∷ u ∷ ws) (u ∷ place_wire v ws)) → In w (v ∷ u ∷ ws)
+      by later Less j = j
+      by later Equal j = j
+      by later Greater (inl e) = inr (inl e)
+      by later Greater (inr j) = ⊎_elim (λ l. inl l) (λ r. inr (inr r)) (later j)
+
+  in_order : (w : Wire) (ws : List Wire) → In w (in_number_order ws) → In w ws
+  in_order w [] i = i
+  in_order w (v ∷ ws) i = ⊎_elim (λ l. inl l) (λ r. inr (in_order w ws r)) (ordered w v (in_number_order ws) i)
+
+  filtered : (w : Wire) (ws : List Wire) → In w (filter (λ (v : Wire). is_port v.role) ws) → In w ws
+  filtered w [] i = i
+  filtered w (v ∷ ws) i = by (filtered w ws) (is_port v.role) i
+    where
+      by : (In w (filter (λ (u : Wire). is_port u.role) ws) → In w ws) → (t : Bool) → In w (if t then v ∷ filter (λ (u : Wire). is_port u.role) ws else filter (λ (u : Wire). is_port u.role) ws) → In w (v ∷ ws)
+      by later true (inl e) = inl e
+      by later true (inr j) = inr (later j)
+      by later false j = inr (later j)
+
+  port_name : (ws : List Wire) (n : PortLine) → In n (ports_of ws) → In n.name (names_of ws)
+  port_name ws n i =
+      let k = In-mapped line_of n (in_number_order (filter (λ (v : Wire). is_port v.role) ws)) i in
+      subst (λ name. In name (names_of ws)) (sym (ap (λ (l : PortLine). l.name) k.2)) (In-map (λ (w : Wire). w.name) k.0 ws (filtered k.0 ws (in_order k.0 _ k.1)))
 
 module _ (start : SigBit → Bit) (ports : Ports) (p : Path) (wires : List Wire) where
-  abbrev rows : List Cell → List Driven
-  rows cs = cells_rows start ports p wires cs
+  -- what a cell and a connection drive
+  abbrev cell_places : Cell → List Place
+  cell_places c = places_of (cell_rows start ports p wires c (cell_kind c))
 
-  -- gates that drive a bit each drive the places of all of them
-  each_places : (cell : ℕ → ℕ → SigBit → Cell) → ((at n : ℕ) (y : SigBit) → places_of (cell_rows start ports p wires (cell at n y) (cell_kind (cell at n y))) ≡ places (point p wires y ∷ [])) → (at n : ℕ) (ys : List SigBit) → places_of (rows (cells_from cell at n ys)) ≡ places (points p wires ys)
-  each_places cell h at n [] = refl
-  each_places cell h at n (y ∷ ys) =
-      placed_more (cell_rows start ports p wires (cell at n y) (cell_kind (cell at n y))) (rows (cells_from cell (suc at) (n + 1) ys))
-      ∙ ap (λ z. z ++ places_of (rows (cells_from cell (suc at) (n + 1) ys))) (h at n y)
-      ∙ ap (λ z. places (point p wires y ∷ []) ++ z) (each_places cell h (suc at) (n + 1) ys)
-      ∙ sym (places_first (point p wires y) (points p wires ys))
+  abbrev line_places : Link → List Place
+  line_places l = places_of (link_rows p wires (l ∷ []))
 
-  -- a gate drives the place of its bit
-  not_places : (a y : SigBit) (n : ℕ) → places_of (cell_rows start ports p wires (cell_named (gate_name GateOf.Not) [] (one A a ∷ one Y y ∷ []) n) (cell_kind (cell_named (gate_name GateOf.Not) [] (one A a ∷ one Y y ∷ []) n))) ≡ places (point p wires y ∷ [])
-  not_places a y n =
-      let pins = one A a ∷ one Y y ∷ [] in
-      ap (λ k. places_of (cell_rows start ports p wires (cell_named (gate_name GateOf.Not) [] pins n) k)) (gate_named GateOf.Not pins n)
-      ∙ outputs_places (cell_shape (Gate GateOf.Not) []) ((point p wires a ∷ []) ∷ [] ∷ [] ∷ []) (point p wires y ∷ []) 0
+  pub cells_are : (cs : List Cell) → flat_map cell_places cs ≡ places_of (cells_rows start ports p wires cs)
+  cells_are [] = refl
+  cells_are (c ∷ cs) = ap (λ z. cell_places c ++ z) (cells_are cs) ∙ sym (placed_more (cell_rows start ports p wires c (cell_kind c)) (cells_rows start ports p wires cs))
 
-  binary_places : (gate : GateKind) (a b y : SigBit) (n : ℕ) → places_of (cell_rows start ports p wires (cell_named (gate_name gate) [] (one A a ∷ one B b ∷ one Y y ∷ []) n) (cell_kind (cell_named (gate_name gate) [] (one A a ∷ one B b ∷ one Y y ∷ []) n))) ≡ places (point p wires y ∷ [])
-  binary_places gate a b y n =
-      let pins = one A a ∷ one B b ∷ one Y y ∷ [] in
-      ap (λ k. places_of (cell_rows start ports p wires (cell_named (gate_name gate) [] pins n) k)) (gate_named gate pins n)
-      ∙ outputs_places (cell_shape (Gate gate) []) ((point p wires a ∷ []) ∷ (point p wires b ∷ []) ∷ [] ∷ []) (point p wires y ∷ []) 0
+  pub lines_are : (ls : List Link) → flat_map line_places ls ≡ places_of (link_rows p wires ls)
+  lines_are [] = refl
+  lines_are (l ∷ ls) =
+      let here : List Driven = joins (points p wires l.left) (points p wires l.right) in
+      (λ i. places_of (append-nil here i) ++ lines_are ls i) ∙ sym (placed_more here (link_rows p wires ls))
 
-  gate_places : (kind : CellKind) → is_taken kind ≡ true → (shape : Shape) (c : Cell) (n : ℕ) → places_of (rows (cells_from (gate_cell kind shape c) 0 n (pin_signal c Y))) ≡ places (points p wires (pin_signal c Y))
-  gate_places (Word (Unary Not)) e shape c n =
-      each_places (gate_cell (Word (Unary Not)) shape c) (λ at k y. not_places (bit_at shape.signs.a (pin_signal c A) at) y k) 0 n (pin_signal c Y)
-  gate_places (Word (Bitwise kind)) e shape c n =
-      each_places (gate_cell (Word (Bitwise kind)) shape c) (λ at k y. binary_places (gate_for kind) (bit_at (both_signed shape) (pin_signal c A) at) (bit_at (both_signed shape) (pin_signal c B) at) y k) 0 n (pin_signal c Y)
-  gate_places kind e shape c n = absurd (cc)
+  own : (n : ℕ) (kind : CellKind) (c : Cell) → is_memory_kind kind ≡ false → IsWhole n kind c → cell_places c ≡ map (bit_place p wires) (cell_bits c)
+  own n kind c plain whole =
+      ap (λ k. places_of (cell_rows start ports p wires c k)) whole.own
+      ∙ kind_places p wires start c kind plain whole.shape
+      ∙ ap (map (bit_place p wires)) (bits_are n kind c plain whole)
 
-  -- a word cell drives the places of its output
-  word_places : (kind : CellKind) → is_taken kind ≡ true → (c : Cell) → places_of (cell_rows start ports p wires c (Some kind)) ≡ places (points p wires (pin_signal c Y))
-  word_places (Word kind) e c = outputs_places _ _ (points p wires (pin_signal c Y)) 0
-  word_places kind e c = absurd (cc)
+  line : (n : ℕ) (l : Link) → IsWholeLink n l → line_places l ≡ map (bit_place p wires) (link_bits l)
+  line n l whole =
+      links_places p wires (l ∷ []) (one_even l (record { width = whole.even; wires = whole.left })) ∙ ap (map (bit_place p wires)) (append-nil (link_bits l))
+    where
+      one_even : (l : Link) → IsEven l → Each IsEven (l ∷ [])
+      one_even l even k (inl e) = subst IsEven (sym e) even
+      one_even l even k (inr i) = absurd i
 
-  stand_in_places : (c : Cell) (b : Building) (k : Option CellKind) → taken_kind c ≡ k → places_of (rows (stand_in k c b)) ≡ places_of (cell_rows start ports p wires c (cell_kind c))
-  stand_in_places c b None e = ap places_of (append-nil (cell_rows start ports p wires c (cell_kind c)))
-  stand_in_places c b (Some kind) e =
-      let is = taken_is (cell_kind c) kind e in
-      ap (λ z. places_of (rows z)) (added_are b (with_gates (Some kind) c b) (gate_cells kind c b.next) (subst (λ k. Adds b (with_gates k c b) (group k c b.next)) e (gates_add c b)))
-      ∙ gate_places kind is.taken (cell_shape kind c.params) c b.next
-      ∙ sym (word_places kind is.taken c)
-      ∙ ap (λ k. places_of (cell_rows start ports p wires c k)) (sym is.own)
+  pub all_places : (cs : List Cell) (b : Building) → AreWhole cs b → IsPermutation (flat_map cell_places (stand_ins cs b) ++ flat_map line_places (all_added links_added cs b)) (map (bit_place p wires) (bits_from (length b.body.wires) (all_added wires_added cs b)) ++ flat_map cell_places cs)
+  all_places = all_drive (bit_place p wires) cell_places line_places own line
 
-  -- what stands in the places of cells drives what the cells drive
-  all_places : (cs : List Cell) (b : Building) → places_of (rows (stand_ins cs b)) ≡ places_of (rows cs)
-  all_places [] b = refl
-  all_places (c ∷ cs) b =
-      let first : List Cell = stand_in (taken_kind c) c b in
-      let next : Building = with_gates (taken_kind c) c b in
-      ap places_of (rows-append start ports p wires first (stand_ins cs next))
-      ∙ placed_more (rows first) (rows (stand_ins cs next))
-      ∙ ap (λ z. z ++ places_of (rows (stand_ins cs next))) (stand_in_places c b (taken_kind c) refl)
-      ∙ ap (λ z. places_of (cell_rows start ports p wires c (cell_kind c)) ++ z) (all_places cs next)
-      ∙ sym (placed_more (cell_rows start ports p wires c (cell_kind c)) (rows cs))
+module _ (m : Module) (fine : IsTakable m) (few : (beside m).next ≤ 1000000000) where
+  rising : AreRising (first_number m) (beside m).next (names_of (fresh m fine))
+  rising = all_rising m.cells (building_of m) fine.whole
 
-module _ (ports : Ports) (m : Module) (plain : IsPlain m) where
-  abbrev after : Module
-  after = with_cells (stand_ins m.cells (building_of m)) m
+  -- no fresh wire has the name of a wire of the module
+  pub names_apart : (name : List ℕ) → In name (names_of (fresh m fine)) → In name (names_of m.wires) → ⊥
+  names_apart name i j =
+      let is : IsFresh (first_number m) (beside m).next name = rising_fresh _ _ (names_of (fresh m fine)) rising name i in
+      let number : made_number name ≡ is.number = fresh_number (first_number m) (beside m).next name (omega arith) few is in
+      omega (arith, number, is.above, old_number m name j)
 
-  same_places : (p : Path) → places_of (rows_of ports p after) ≡ places_of (rows_of ports p m)
-  same_places p =
-      let start : SigBit → Bit = start_of m.wires m.processes in
-      placed_more (cells_rows start ports p m.wires after.cells) (plain_rows p after)
-      ∙ ap (λ z. z ++ places_of (plain_rows p after)) (all_places start ports p m.wires m.cells (building_of m))
-      ∙ ap (λ z. places_of (cells_rows start ports p m.wires m.cells) ++ places_of z) (plain_alone m after.cells plain.processes plain.memories p)
-      ∙ sym (placed_more (cells_rows start ports p m.wires m.cells) (plain_rows p m))
+  pub fresh_distinct : Distinct (names_of (fresh m fine))
+  fresh_distinct = rising_distinct (beside m).next few (first_number m) (omega arith) (names_of (fresh m fine)) rising
 
-  swap_driven : IsWellDriven ports m → IsWellDriven ports after
-  swap_driven h = record {
-    inputs = h.inputs;
-    rows = λ p. subst Distinct (sym (same_places p)) (h.rows p);
+  module _ (ports : Ports) (p : Path) where
+    abbrev fresh_places : List Place
+    fresh_places = wire_spots p (fresh m fine)
+
+    -- what the rows drive after the pass
+    driven : IsPermutation (places_of (rows_of ports p (swapped m fine))) (fresh_places ++ places_of (rows_of ports p m))
+    driven =
+        let wires : List Wire = (grown m fine).wires in
+        let start : SigBit → Bit = start_of wires m.processes in
+        let cells : List Place = places_of (cells_rows start ports p wires (cells_after m fine)) in
+        let before : List Place = places_of (cells_rows start ports p wires m.cells) in
+        let links : List Place = places_of (link_rows p wires m.links) in
+        let more : List Place = places_of (link_rows p wires (lines_more m fine)) in
+        let new : places_of (rows_of ports p (swapped m fine)) ≡ cells ++ (links ++ more) =
+        ap places_of (new_rows m fine ports p) ∙ placed_more _ _ ∙ ap (λ z. cells ++ z) (placed_more _ _)
+        in
+        let old : places_of (rows_of ports p m) ≡ before ++ links = ap places_of (old_rows m fine ports p) ∙ placed_more _ _ in
+        let given : IsPermutation (cells ++ more) (fresh_places ++ before) =
+        subst (λ z. IsPermutation z (fresh_places ++ before)) (λ i. cells_are start ports p wires (cells_after m fine) i ++ lines_are start ports p wires (lines_more m fine) i)
+        (subst (IsPermutation _) (λ i. from_spots p m.wires (fresh m fine) i ++ cells_are start ports p wires m.cells i) (all_places start ports p wires m.cells (building_of m) fine.whole))
+        in
+        IsPermutation-trans _ _ _ (to_permutation _ _ new)
+        (IsPermutation-trans _ _ _ (IsPermutation-append_right cells _ _ (IsPermutation-append_comm links more))
+        (IsPermutation-trans _ _ _ (to_permutation _ _ (sym (append_assoc cells more links)))
+        (IsPermutation-trans _ _ _ (IsPermutation-append_left links _ _ given)
+        (to_permutation _ _ (append_assoc fresh_places before links ∙ ap (λ z. fresh_places ++ z) (sym old))))))
+
+    -- a row from before at the module's own path drives a bit of one of its wires
+    old_kept : (x : Driven) → In x (rows_of ports p m) → x.place.path ≡ p → IsSpotOf p (names_of m.wires) x.place
+    old_kept x i =
+        let start : SigBit → Bit = start_of m.wires m.processes in
+        ⊎_elim
+        (λ l. cells_kept p m.wires start ports m.cells fine.within.cells x l)
+        (λ r. links_kept p m.wires m.links fine.within.links x r)
+        (In-cases x (cells_rows start ports p m.wires m.cells) (link_rows p m.wires m.links) (subst (In x) (rows_are ports p m fine.processes fine.memories) i))
+
+    apart : (q : Place) → In q fresh_places → In q (places_of (rows_of ports p m)) → ⊥
+    apart q i j =
+        let a = in_wire_spots p (fresh m fine) q i in
+        let k = In-mapped (λ (row : Driven). row.place) q (rows_of ports p m) j in
+        let b = old_kept k.0 k.1 (ap (λ (z : Place). z.path) (sym k.2) ∙ a.path) in
+        let spot : IsOf b.name q.spot = subst (λ (z : Place). IsOf b.name z.spot) (sym k.2) b.spot in
+        names_apart a.name a.there (subst (λ name. In name (names_of m.wires)) (one_name p q b.name a.name spot a.spot) b.there)
+
+    rows_distinct : Distinct (places_of (rows_of ports p m)) → Distinct (places_of (rows_of ports p (swapped m fine)))
+    rows_distinct h =
+        Distinct-permutation place_same place_same-same _ _ (IsPermutation-sym _ _ driven)
+        (Distinct-append fresh_places (places_of (rows_of ports p m)) (wire_spots_distinct p (fresh m fine) fresh_distinct) h apart)
+
+    -- a row after the pass drives a bit of a fresh wire, or what a row from before drives
+    from : (x : Driven) → In x (rows_of ports p (swapped m fine)) → In x.place (fresh_places ++ places_of (rows_of ports p m))
+    from x i = In-permutation place_same place_same-same x.place _ _ driven (In-map (λ (row : Driven). row.place) x (rows_of ports p (swapped m fine)) i)
+
+  swap_driven : (ports : Ports) → IsWellDriven ports m → IsWellDriven ports (swapped m fine)
+  swap_driven ports h = record {
+    inputs = λ p. subst (λ lines. Distinct (places (role_points Input p lines))) (swapped_ports m fine) (h.inputs p);
+    rows = λ p. rows_distinct ports p (h.rows p);
     apart = λ p x i here n j role of.
-        let k = In-mapped (λ (row : Driven). row.place) x.place (rows_of ports p m) (subst (In x.place) (same_places p) (In-map (λ (row : Driven). row.place) x (rows_of ports p after) i)) in
-        h.apart p k.0 k.1 (ap (λ q. q.path) (sym k.2) ∙ here) n j role (subst (λ q. IsOf n.name q.spot) k.2 of);
-    instances = subst (λ cells. Distinct (map (λ (f : Frame). f.name) cells)) (sym (ap (λ n. instances n.cells) (sym (cells_alone_change m)) ∙ instances_stay m plain)) h.instances;
+        let port : In n (ports_of m.wires) = subst (In n) (sym (swapped_ports m fine)) j in
+        ⊎_elim
+        (λ l. let a = in_wire_spots p (fresh m fine) x.place l in
+        names_apart a.name a.there (subst (λ name. In name (names_of m.wires)) (one_name p x.place n.name a.name of a.spot) (port_name m.wires n port)))
+        (λ r. let k = In-mapped (λ (row : Driven). row.place) x.place (rows_of ports p m) r in
+        h.apart p k.0 k.1 (ap (λ (q : Place). q.path) (sym k.2) ∙ here) n port role (subst (λ (q : Place). IsOf n.name q.spot) k.2 of))
+        (In-cases x.place (wire_spots p (fresh m fine)) (places_of (rows_of ports p m)) (from ports p x i));
+    instances = subst (λ frames. Distinct (map (λ (f : Frame). f.name) frames)) (swapped_children m fine) h.instances;
   }
 
-pub techmap_driven : (ports : Ports) (m : Module) → IsPlain m → IsWellDriven ports m → IsWellDriven ports (techmap_of m)
-techmap_driven ports m plain h = subst (IsWellDriven ports) (sym (cells_alone_change m)) (swap_driven ports m plain h)
+  pub techmap_driven : (ports : Ports) → IsWellDriven ports m → IsWellDriven ports (techmap_of m)
+  techmap_driven ports h = subst (IsWellDriven ports) (sym (swapped_is m fine)) (swap_driven ports h)

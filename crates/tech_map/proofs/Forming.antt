@@ -1,200 +1,264 @@
--- A module without faults has none with gates in the places of its cells.
-use Rattle.std.proofs.Common.{◌≡◌, ℕ, suc, ◌+◌, Bool, true, false, cond, if◌then◌else◌, List, [], ◌∷◌, ◌++◌, Option, Some, None, inl, inr, ⊎_elim, refl, sym, ◌∙◌, ap, subst}
-use Rattle.std.specs.Prelude.{flat_map, nat_lt}
-use Rattle.std.specs.List.{fold, range_with_len}
-use Rattle.std.proofs.lemmas.Bool.{or_parts}
-use Rattle.std.proofs.lemmas.Grind.{flat_map-append}
-use Rattle.std.proofs.lemmas.List.{append-nil}
-use Rattle.cell_types.specs.Kind.{kind_of}
-use Rattle.cell_types.specs.Unsupported.{is_unsupported}
-use Rattle.cell_types.specs.declared.gate.GateKind.{GateKind}
+-- The module with gates in the places of cells may be given to the next pass.
+use Rattle.std.proofs.Common.{◌≡◌, ◌≤◌, ◌<◌, ℕ, ◌+◌, Bool, true, false, List, [], ◌∷◌, ◌++◌, length, Option, Some, None, inl, inr, refl, sym, ◌∙◌, ap, subst, arith, length-append}
+use Rattle.std.specs.Prelude.{flat_map, int_lt, map, pos, ℤ, ◌&&◌, ◌||◌, not, IsPermutation}
+use Rattle.std.specs.List.{list_any}
+use Rattle.std.specs.Ordering.{int_eq}
 use Rattle.cell_types.specs.declared.kind.CellKind.{CellKind}
-use Rattle.cell_types.specs.declared.kind.CellKind.TheVariants as Cells
-use Rattle.cell_types.specs.declared.kind.CellKind.TheVariants.{Gate, Word}
-use Rattle.cell_types.specs.declared.pin_name.PinName.TheVariants.{Y}
-use Rattle.rtl_sig.specs.declared.sig.SigBit.{SigBit}
-use Rattle.rtl_sig.specs.declared.sig.SigBit.TheVariants as sig
 use Rattle.rtl_sig.specs.declared.sig.WireBit.{WireBit}
 use Rattle.rtl_ir.specs.Build.{Building, building_of}
-use Rattle.rtl_ir.specs.Drivers.{Drive, cell_drives, drive_count, drives_of, link_drives, port_drives, rule_drives, tree_drives}
-use Rattle.rtl_ir.specs.Fault.{Fault, BadPort, fault_if, spot}
-use Rattle.rtl_ir.specs.Faults.Bits.{bits_faults, faults_of_two}
-use Rattle.rtl_ir.specs.Faults.Cells.{cell_faults, faults_by_type, has_constant_output, is_memory_kind, misfit, shape_fault}
+use Rattle.rtl_ir.specs.Drivers.{drive_count, drives_of, port_drives}
+use Rattle.rtl_ir.specs.Fault.{BadPort, Fault, Spot, UnsupportedCell, fault_if, spot}
+use Rattle.rtl_ir.specs.Faults.{module_faults}
+use Rattle.rtl_ir.specs.Faults.Bits.{bits_faults}
+use Rattle.rtl_ir.specs.Faults.Cells.{cell_faults, faults_by_type, is_memory_kind, memory_faults, misfit, output_faults, shape_fault}
+use Rattle.rtl_ir.specs.Faults.Links.{link_faults}
 use Rattle.rtl_ir.specs.Faults.Processes.{process_faults}
-use Rattle.rtl_ir.specs.Flat.Cell.{cell_kind, cell_shape}
-use Rattle.rtl_ir.specs.Scope.{Scope}
-use Rattle.rtl_ir.specs.Signals.{has_constant, is_constant, same_bit, wire_bits}
-use Rattle.rtl_ir.specs.Types.{CellType, Instance, Library, Ports, Unknown, Unsupported, cell_type, type_by}
+use Rattle.rtl_ir.specs.Faults.Stores.{store_faults}
+use Rattle.rtl_ir.specs.Faults.Wires.{is_bad_port, is_inout, wire_faults, with_number}
+use Rattle.rtl_ir.specs.Flat.Cell.{cell_kind}
+use Rattle.rtl_ir.specs.Ports.{is_port}
+use Rattle.rtl_ir.specs.Scope.{Scope, cells_alone}
+use Rattle.rtl_ir.specs.Types.{CellType, Instance, Library, Ports, Unknown, Unsupported, cell_type}
 use Rattle.rtl_ir.specs.declared.cell.Cell.{Cell}
 use Rattle.rtl_ir.specs.declared.module.Module.{Module}
-use Rattle.rtl_ir.specs.declared.ports.PortLine.{PortLine}
+use Rattle.rtl_ir.specs.declared.wire.Role.{Role}
 use Rattle.rtl_ir.specs.declared.wire.Wire.{Wire}
-use Rattle.net_model.proofs.Members.{In-cases, map-append}
-use Rattle.net_model.specs.Lists.{In}
-use Rattle.net_model.specs.Swap.{with_cells}
-use Rattle.map_gates.proofs.Adding.{cells_from}
-use Rattle.map_gates.specs.Gates.{pin_signal}
-use Rattle.tech_map.specs.Stays.{StaysFaultless}
-use Rattle.tech_map.specs.Techmap.{is_taken, stand_in, stand_ins, taken_kind, techmap_of, with_gates}
-use Rattle.tech_map.proofs.Faultless.{AreFit, HasNoFaults, IsFine, IsPlain, all_fine, library_faults, no_cell_faults, no_faults, type_is}
-use Rattle.tech_map.proofs.Gating.{AreGates, IsGateOf, gate_by, kind_gates}
-use Rattle.tech_map.proofs.Growing.{Adds, added_are, gate_cell, gate_cells, gates_add, group, taken_is}
-use Rattle.tech_map.proofs.Pins.{bits_of, cell_drives_bits, cells_bits, no_constant, pin_bits, taken_bits}
-use Rattle.tech_map.proofs.Standing.{cells_alone_change}
+use Rattle.net_model.proofs.Members.{Distinct-append, map-append}
+use Rattle.net_model.specs.Lists.{Distinct, In}
+use Rattle.net_model.specs.Within.{AreInner, CellIn, Each, LinkIn}
+use Rattle.map_laws.specs.Expansion.{IsWhole, IsWholeCell, IsWholeGate, IsWholeLink, bits_from, cell_bits, link_bits, links_added, wires_added}
+use Rattle.map_laws.proofs.FreshWires.{names_of}
+use Rattle.map_laws.proofs.Wholes.{cell_more, gate_more, line_more, link_more}
+use Rattle.pass_laws.proofs.Alone.{fits_kind, library_faultless, no_link_faults, none_there, own_kind}
+use Rattle.pass_laws.proofs.Counting.{bits_of, count, count_more, driven_count, links_more}
+use Rattle.pass_laws.proofs.Faultless.{HasNoFaults, IsPlain, no_faults, none_left, none_right, plain, type_is}
+use Rattle.pass_laws.proofs.Forming.{own_cells, own_links}
+use Rattle.pass_laws.specs.Bits.{cells_bits, links_bits, pin_bits}
+use Rattle.pass_laws.specs.Ready.{IsReady}
+use Rattle.pass_laws.specs.Replaces.{IsEven, IsFaultless}
+use Rattle.pass_laws.specs.Stays.{StaysFaultless}
+use Rattle.tech_map.specs.Techmap.{beside, stand_in, stand_ins, taken_kind, techmap_of, with_all_gates, with_gates}
+use Rattle.tech_map.proofs.Counts.{cells_below, count-permutation, count_beyond, faults_split, fewer_first, fresh_below, fresh_once, links_below, none_from, ports_below, ports_further}
+use Rattle.tech_map.proofs.Drives.{all_drive, gate_plain}
+use Rattle.tech_map.proofs.Driving.{fresh_distinct, names_apart}
+use Rattle.tech_map.proofs.Growing.{AreWhole, all_add, all_added, one_added, whole_next}
+use Rattle.tech_map.proofs.ByKind.{bits_are, mapped, taken_is}
+use Rattle.tech_map.proofs.Standing.{IsTakable, each_of_two, fresh, inner, lines_more, swapped, swapped_is}
 
-module _ (scope : Scope) (ports : Ports) (m : Module) (fresh : List Cell) where
-  -- the module with other cells
-  abbrev after : Module
-  after = with_cells fresh m
+-- a module that a pass may be given has what this one needs
+pub takable : (ports : Ports) (m : Module) → IsReady ports m → IsTakable m
+takable ports m ready =
+    let fine : IsPlain m = plain ports m ready.faultless in
+    record {
+      processes = fine.processes;
+      memories = fine.memories;
+      whole = λ c i kind own.
+          let fits = fits_kind ports c kind own (own_cells ports m ready c i) in
+          record { own = own; shape = fits.fit; output = fits.output; within = ready.within.cells c i };
+      within = ready.within;
+    }
 
-  -- a cell is without faults there, whatever stands before it
-  abbrev IsFineThere : Cell → Type 0
-  IsFineThere g = (earlier : List Cell) → faults_by_type scope after earlier g (cell_type ports g.kind_name) ≡ []
+pub ready_whole : (ports : Ports) (m : Module) → IsReady ports m → Each (IsWholeCell (length m.wires)) m.cells
+ready_whole ports m ready = (takable ports m ready).whole
 
-  gate_fine : (gate : GateKind) (y : SigBit) (g : Cell) → IsGateOf gate y g → is_constant y ≡ false → IsFineThere g
-  gate_fine gate y g is e earlier =
-      library_faults scope ports after earlier g (Gate gate) is.own
-      ∙ ap (λ f. (shape_fault (spot m.id g.name) f ++ fault_if (has_constant_output (Library (Gate gate)) g.pins) (BadPort (spot m.id g.name))) ++ []) is.fit
-      ∙ ap (λ t. fault_if t (BadPort (spot m.id g.name)) ++ []) (is.constant ∙ e)
-
-  gates_fine : (gate : GateKind) (cell : ℕ → ℕ → SigBit → Cell) → AreGates gate cell → (at n : ℕ) (ys : List SigBit) → has_constant ys ≡ false → (g : Cell) → In g (cells_from cell at n ys) → IsFineThere g
-  gates_fine gate cell are at n [] e g i = absurd i
-  gates_fine gate cell are at n (y ∷ ys) e g (inl here) =
-      subst IsFineThere (sym here) (gate_fine gate y (cell at n y) (are at n y) (or_parts (is_constant y) (has_constant ys) e).0)
-  gates_fine gate cell are at n (y ∷ ys) e g (inr later) =
-      gates_fine gate cell are (suc at) (n + 1) ys (or_parts (is_constant y) (has_constant ys) e).1 g later
-
-  -- a cell that is none of a memory keeps to what it is, whatever stands before it
-  kept : (type : CellType) → ((kind : CellKind) → type ≡ Library kind → is_memory_kind kind ≡ false) → (c : Cell) (earlier later : List Cell) → faults_by_type scope after later c type ≡ faults_by_type scope m earlier c type
-  kept (Library (Word kind)) h c earlier later = refl
-  kept (Library (Gate kind)) h c earlier later = refl
-  kept (Library (Cells.Storage kind)) h c earlier later = refl
-  kept (Library (Cells.StorageGate kind)) h c earlier later = refl
-  kept (Library (Cells.Memory kind)) h c earlier later = let e : true ≡ false = h (Cells.Memory kind) refl in absurd (cc)
-  kept (Instance lines) h c earlier later = refl
-  kept Unsupported h c earlier later = refl
-  kept Unknown h c earlier later = refl
-
-  own_kind : (c : Cell) (kind : CellKind) → cell_type ports c.kind_name ≡ Library kind → cell_kind c ≡ Some kind
-  unfolding cell_type cell_kind
-  own_kind c kind e =
-      by (kind_of c.kind_name) (ports c.kind_name) (is_unsupported c.kind_name) e
-    where
-      by : (k : Option CellKind) (lines : Option (List PortLine)) (u : Bool) → type_by k lines u ≡ Library kind → k ≡ Some kind
-      by (Some j) lines u f = let same : j ≡ kind = cc in ap Some same
-      by None (Some lines) u f = absurd (cc)
-      by None None true f = absurd (cc)
-      by None None false f = absurd (cc)
-
-  -- a word cell without faults has no constant at its output
-  word_constant : (kind : CellKind) → is_taken kind ≡ true → (c : Cell) → fault_if (has_constant_output (Library kind) c.pins) (BadPort (spot m.id c.name)) ≡ [] → has_constant (pin_signal c Y) ≡ false
-  word_constant (Word kind) e c f = no_constant kind c.pins (by (has_constant_output (Library (Word kind)) c.pins) f)
-    where
-      by : (t : Bool) → fault_if t (BadPort (spot m.id c.name)) ≡ [] → t ≡ false
-      by false g = refl
-      by true g = absurd (cc)
-  word_constant kind e c f = absurd (cc)
-
-  stand_in_fine : (c : Cell) (b : Building) (k : Option CellKind) → taken_kind c ≡ k → ((kind : CellKind) → cell_kind c ≡ Some kind → is_memory_kind kind ≡ false) → IsFine scope ports m c → (g : Cell) → In g (stand_in k c b) → IsFineThere g
-  stand_in_fine c b None e other fine g (inl here) =
-      subst IsFineThere (sym here) (λ later. kept (cell_type ports c.kind_name) (λ kind is. other kind (own_kind c kind is)) c fine.0 later ∙ fine.1)
-  stand_in_fine c b None e other fine g (inr i) = absurd i
-  stand_in_fine c b (Some kind) e other fine g i =
-      let is = taken_is (cell_kind c) kind e in
-      let gates : In g (gate_cells kind c b.next) = subst (In g) (added_are b (with_gates (Some kind) c b) (gate_cells kind c b.next) (subst (λ k. Adds b (with_gates k c b) (group k c b.next)) e (gates_add c b))) i in
-      gates_fine (gate_by kind) (gate_cell kind (cell_shape kind c.params) c) (kind_gates kind is.taken (cell_shape kind c.params) c) 0 b.next (pin_signal c Y)
-      (word_constant kind is.taken c (no_cell_faults scope ports m fine.0 c kind is.own fine.1).output) g gates
-
-  all_fine_there : (cs : List Cell) (b : Building) → ((c : Cell) → In c cs → (kind : CellKind) → cell_kind c ≡ Some kind → is_memory_kind kind ≡ false) → ((c : Cell) → In c cs → IsFine scope ports m c) → (g : Cell) → In g (stand_ins cs b) → IsFineThere g
-  all_fine_there [] b others fine g i = absurd i
-  all_fine_there (c ∷ cs) b others fine g i =
-      ⊎_elim
-      (λ l. stand_in_fine c b (taken_kind c) refl (others c (inl refl)) (fine c (inl refl)) g l)
-      (λ r. all_fine_there cs (with_gates (taken_kind c) c b) (λ d j. others d (inr j)) (λ d j. fine d (inr j)) g r)
-      (In-cases g (stand_in (taken_kind c) c b) (stand_ins cs (with_gates (taken_kind c) c b)) i)
-
-  none_there : (earlier cs : List Cell) → ((g : Cell) → In g cs → IsFineThere g) → cell_faults scope ports after earlier cs ≡ []
-  none_there earlier [] h = refl
-  none_there earlier (g ∷ gs) h =
-      ap (λ z. z ++ cell_faults scope ports after (earlier ++ g ∷ []) gs) (h g (inl refl) earlier) ∙ none_there (earlier ++ g ∷ []) gs (λ x i. h x (inr i))
-
+-- what stands in the place of a cell: the cell itself, or a gate
 module _ (ports : Ports) where
-  -- gates drive the bits of the output, one each
-  gates_bits : (gate : GateKind) (cell : ℕ → ℕ → SigBit → Cell) → AreGates gate cell → (at n : ℕ) (ys : List SigBit) → cells_bits ports (cells_from cell at n ys) ≡ wire_bits ys
-  gates_bits gate cell are at n [] = refl
-  gates_bits gate cell are at n (y ∷ ys) =
-      ap (λ z. z ++ cells_bits ports (cells_from cell (suc at) (n + 1) ys)) (ap (λ t. pin_bits t (cell at n y).pins) (type_is ports (cell at n y) (Gate gate) (are at n y).own) ∙ (are at n y).bits)
-      ∙ ap (λ z. wire_bits (y ∷ []) ++ z) (gates_bits gate cell are (suc at) (n + 1) ys)
-      ∙ first y
-    where
-      first : (y : SigBit) → wire_bits (y ∷ []) ++ wire_bits ys ≡ wire_bits (y ∷ ys)
-      first (sig.Fixed c) = refl
-      first (sig.Wire w) = refl
+  abbrev GoesOn : ℕ → Cell → Type 0
+  GoesOn n g = IsFaultless ports g × CellIn n g
 
-  stand_in_bits : (c : Cell) (b : Building) (k : Option CellKind) → taken_kind c ≡ k → ((kind : CellKind) → cell_kind c ≡ Some kind → misfit kind c ≡ None) → cells_bits ports (stand_in k c b) ≡ pin_bits (cell_type ports c.kind_name) c.pins
-  stand_in_bits c b None e fit = append-nil (pin_bits (cell_type ports c.kind_name) c.pins)
-  stand_in_bits c b (Some kind) e fit =
+  gate_goes : (n : ℕ) (g : Cell) → IsWholeGate n g → GoesOn n g
+  gate_goes n g gate = (
+    library_faultless ports g gate.kind gate.whole.own (gate_plain gate.kind gate.gate) gate.whole.shape gate.whole.output,
+    gate.whole.within,
+  )
+
+  one_goes : (n : ℕ) (c : Cell) (b : Building) → IsWholeCell (length b.body.wires) c → GoesOn n c → (k : Option CellKind) → taken_kind c ≡ k → length (with_gates k c b).body.wires ≤ n → Each (GoesOn n) (stand_in k c b)
+  one_goes n c b whole fine None e few g (inl here) = subst (GoesOn n) (sym here) fine
+  one_goes n c b whole fine None e few g (inr i) = absurd i
+  one_goes n c b whole fine (Some kind) e few g i =
       let is = taken_is (cell_kind c) kind e in
-      ap (cells_bits ports) (added_are b (with_gates (Some kind) c b) (gate_cells kind c b.next) (subst (λ k. Adds b (with_gates k c b) (group k c b.next)) e (gates_add c b)))
-      ∙ gates_bits (gate_by kind) (gate_cell kind (cell_shape kind c.params) c) (kind_gates kind is.taken (cell_shape kind c.params) c) 0 b.next (pin_signal c Y)
-      ∙ sym (taken_bits c kind is.taken (fit kind is.own))
-      ∙ ap (λ t. pin_bits t c.pins) (sym (type_is ports c kind is.own))
+      gate_goes n g (gate_more (length (with_gates (Some kind) c b).body.wires) n g few ((mapped kind is.taken c b (whole kind is.own)).expansion.gates g i))
 
-  all_bits : (cs : List Cell) (b : Building) → AreFit cs → cells_bits ports (stand_ins cs b) ≡ cells_bits ports cs
-  all_bits [] b fit = refl
-  all_bits (c ∷ cs) b fit =
+  wires_later : (cs : List Cell) (b : Building) → AreWhole cs b → length b.body.wires ≤ length (with_all_gates cs b).body.wires
+  wires_later cs b whole = omega (arith, ap (λ m. length m.wires) (all_add cs b whole).body, length-append b.body.wires (all_added wires_added cs b))
+
+  all_go : (n : ℕ) (cs : List Cell) (b : Building) → AreWhole cs b → Each (GoesOn n) cs → length (with_all_gates cs b).body.wires ≤ n → Each (GoesOn n) (stand_ins cs b)
+  all_go n [] b whole fine few = λ g i. absurd i
+  all_go n (c ∷ cs) b whole fine few =
       let next : Building = with_gates (taken_kind c) c b in
-      flat_map-append (λ (d : Cell). pin_bits (cell_type ports d.kind_name) d.pins) (stand_in (taken_kind c) c b) (stand_ins cs next)
-      ∙ ap (λ z. z ++ cells_bits ports (stand_ins cs next)) (stand_in_bits c b (taken_kind c) refl (fit c (inl refl)))
-      ∙ ap (λ z. pin_bits (cell_type ports c.kind_name) c.pins ++ z) (all_bits cs next (λ d i. fit d (inr i)))
+      let later : AreWhole cs next = whole_next c cs b whole in
+      each_of_two (GoesOn n) (stand_in (taken_kind c) c b) (stand_ins cs next)
+      (one_goes n c b (whole c (inl refl)) (fine c (inl refl)) (taken_kind c) refl (omega (arith, wires_later cs next later, few)))
+      (all_go n cs next later (λ d j. fine d (inr j)) few)
 
-  behind : (xs ys zs : List Drive) → bits_of xs ≡ bits_of ys → bits_of (xs ++ zs) ≡ bits_of (ys ++ zs)
-  behind xs ys zs e = map-append (λ (d : Drive). d.bit) xs zs ∙ ap (λ z. z ++ bits_of zs) e ∙ sym (map-append (λ (d : Drive). d.bit) ys zs)
+-- the connections that were added
+one_line : (n : ℕ) (c : Cell) (b : Building) → IsWholeCell (length b.body.wires) c → (k : Option CellKind) → taken_kind c ≡ k → length (with_gates k c b).body.wires ≤ n → Each (IsWholeLink n) (one_added links_added k c b)
+one_line n c b whole None e few l i = absurd i
+one_line n c b whole (Some kind) e few l i =
+    let is = taken_is (cell_kind c) kind e in
+    line_more (length (with_gates (Some kind) c b).body.wires) n l few ((mapped kind is.taken c b (whole kind is.own)).expansion.lines l i)
 
-  before : (zs xs ys : List Drive) → bits_of xs ≡ bits_of ys → bits_of (zs ++ xs) ≡ bits_of (zs ++ ys)
-  before zs xs ys e = map-append (λ (d : Drive). d.bit) zs xs ∙ ap (λ z. bits_of zs ++ z) e ∙ sym (map-append (λ (d : Drive). d.bit) zs ys)
+all_lines : (n : ℕ) (cs : List Cell) (b : Building) → AreWhole cs b → length (with_all_gates cs b).body.wires ≤ n → Each (IsWholeLink n) (all_added links_added cs b)
+all_lines n [] b whole few = λ l i. absurd i
+all_lines n (c ∷ cs) b whole few =
+    let next : Building = with_gates (taken_kind c) c b in
+    let later : AreWhole cs next = whole_next c cs b whole in
+    each_of_two (IsWholeLink n) (one_added links_added (taken_kind c) c b) (all_added links_added cs next)
+    (one_line n c b (whole c (inl refl)) (taken_kind c) refl (omega (arith, wires_later (λ name. None) cs next later, few)))
+    (all_lines n cs next later few)
 
-  -- the same bits are driven, as often
-  driven_bits : (m : Module) (b : Building) → AreFit m.cells → bits_of (drives_of ports (with_cells (stand_ins m.cells b) m)) ≡ bits_of (drives_of ports m)
-  driven_bits m b fit =
-      let new : List Cell = stand_ins m.cells b in
-      let p : List Drive = port_drives 0 m.wires in
-      let c : List Drive = cell_drives ports 0 m.cells in
-      let d : List Drive = cell_drives ports 0 new in
-      let l : List Drive = link_drives m.links in
-      let t : List Drive = tree_drives 0 m.processes in
-      let r : List Drive = rule_drives 0 m.processes in
-      let same : bits_of d ≡ bits_of c = cell_drives_bits ports 0 new ∙ all_bits m.cells b fit ∙ sym (cell_drives_bits ports 0 m.cells) in
-      behind (((p ++ d) ++ l) ++ t) (((p ++ c) ++ l) ++ t) r (behind ((p ++ d) ++ l) ((p ++ c) ++ l) t (behind (p ++ d) (p ++ c) l (before p d c same)))
+-- wires that are no ports have no faults
+inner_faults : (id : List ℕ) (numbers : List ℤ) (fs : List Wire) → AreInner fs → wire_faults id numbers fs ≡ []
+inner_faults id numbers [] h = refl
+inner_faults id numbers (f ∷ fs) h =
+    let good : is_bad_port numbers f ≡ false = ap (λ (r : Role). is_inout r || (is_port r && (int_lt f.number (pos 1) || list_any (int_eq f.number) numbers))) (h f (inl refl)) in
+    ap (λ t. fault_if t (BadPort (spot id f.name)) ++ wire_faults id (with_number numbers f) fs) good
+    ∙ inner_faults id (with_number numbers f) fs (λ w i. h w (inr i))
 
--- a count of drives is one of their bits
-counted : (b : WireBit) (n : ℕ) (ds : List Drive) → fold (λ k (d : Drive). k + cond (same_bit d.bit b) 1 0) n ds ≡ fold (λ k (x : WireBit). k + cond (same_bit x b) 1 0) n (bits_of ds)
-counted b n [] = refl
-counted b n (d ∷ ds) = counted b (n + cond (same_bit d.bit b) 1 0) ds
+further_faults : (id : List ℕ) (numbers : List ℤ) (ws fs : List Wire) → AreInner fs → wire_faults id numbers ws ≡ [] → wire_faults id numbers (ws ++ fs) ≡ []
+further_faults id numbers [] fs h e = inner_faults id numbers fs h
+further_faults id numbers (w ∷ ws) fs h e =
+    let here : List Fault = fault_if (is_bad_port numbers w) (BadPort (spot id w.name)) in
+    let a : here ≡ [] = none_left here (wire_faults id (with_number numbers w) ws) e in
+    let b : wire_faults id (with_number numbers w) (ws ++ fs) ≡ [] = further_faults id (with_number numbers w) ws fs h (none_right here (wire_faults id (with_number numbers w) ws) e) in
+    λ i. a i ++ b i
 
-same_counts : (ds es : List Drive) → bits_of ds ≡ bits_of es → (b : WireBit) → drive_count ds b ≡ drive_count es b
-same_counts ds es e b = counted b 0 ds ∙ ap (fold (λ k (x : WireBit). k + cond (same_bit x b) 1 0) 0) e ∙ sym (counted b 0 es)
+together : {a b c d f g : List Fault} → a ≡ [] → b ≡ [] → c ≡ [] → d ≡ [] → f ≡ [] → g ≡ [] → ((((a ++ b) ++ c) ++ d) ++ f) ++ g ≡ []
+together a b c d f g = λ i. ((((a i ++ b i) ++ c i) ++ d i) ++ f i) ++ g i
 
-same_bit_faults : (id : List ℕ) (ds es : List Drive) → ((b : WireBit) → drive_count ds b ≡ drive_count es b) → (first : ℕ) (wires : List Wire) → bits_faults id ds first wires ≡ bits_faults id es first wires
-same_bit_faults id ds es h first [] = refl
-same_bit_faults id ds es h first (w ∷ ws) =
-    λ i. flat_map (λ at. if nat_lt 1 (h (record { wire = first; at = at }) i) then faults_of_two id w at else []) (range_with_len 0 w.width) ++ same_bit_faults id ds es h (first + 1) ws i
+module _ (ports : Ports) (m : Module) (ready : IsReady ports m) where
+  abbrev pub fine : IsTakable m
+  fine = takable ports m ready
 
-swap_faultless : (m : Module) → IsPlain m → StaysFaultless m (with_cells (stand_ins m.cells (building_of m)) m)
-swap_faultless m plain scope ports e =
-    let none : HasNoFaults scope ports m = no_faults scope ports m e in
-    let new : Module = with_cells (stand_ins m.cells (building_of m)) m in
-    let cells : cell_faults scope ports new [] new.cells ≡ [] =
-    none_there scope ports m new.cells [] new.cells (all_fine_there scope ports m new.cells m.cells (building_of m) plain.others (all_fine scope ports m [] m.cells none.cells))
-    in
-    let processes : process_faults scope ports new [] new.processes ≡ [] = ap (process_faults scope ports new []) plain.processes in
-    let bits : bits_faults m.id (drives_of ports new) 0 m.wires ≡ [] =
-    same_bit_faults m.id (drives_of ports new) (drives_of ports m) (same_counts (drives_of ports new) (drives_of ports m) (driven_bits ports m (building_of m) plain.cells)) 0 m.wires ∙ none.bits
-    in
-    together none.wires none.stores cells processes none.links bits
-  where
-    together : {a b c d f g : List Fault} → a ≡ [] → b ≡ [] → c ≡ [] → d ≡ [] → f ≡ [] → g ≡ [] → ((((a ++ b) ++ c) ++ d) ++ f) ++ g ≡ []
-    together a b c d f g = λ i. ((((a i ++ b i) ++ c i) ++ d i) ++ f i) ++ g i
+  abbrev new : Module
+  new = swapped m fine
 
-pub techmap_faultless : (m : Module) → IsPlain m → StaysFaultless m (techmap_of m)
-techmap_faultless m plain = subst (StaysFaultless m) (sym (cells_alone_change m)) (swap_faultless m plain)
+  count_new : length new.wires ≡ length m.wires + length (fresh m fine)
+  count_new = length-append m.wires (fresh m fine)
+
+  beside_wires : length (beside m).body.wires ≡ length new.wires
+  beside_wires = ap (λ n. length n.wires) (all_add m.cells (building_of m) fine.whole).body
+
+  few : length (with_all_gates m.cells (building_of m)).body.wires ≤ length new.wires
+  few = omega (arith, beside_wires)
+
+  cells_go : Each (GoesOn ports (length new.wires)) new.cells
+  cells_go =
+      all_go ports (length new.wires) m.cells (building_of m) fine.whole
+      (λ c i. (own_cells ports m ready c i, cell_more (length m.wires) (length new.wires) c (omega (arith, count_new)) (ready.within.cells c i))) few
+
+  whole_lines : Each (IsWholeLink (length new.wires)) (lines_more m fine)
+  whole_lines = all_lines (length new.wires) m.cells (building_of m) fine.whole few
+
+  links_even : Each IsEven new.links
+  links_even =
+      each_of_two IsEven m.links (lines_more m fine) (own_links ports m ready)
+      (λ l i. record { width = (whole_lines l i).even; wires = (whole_lines l i).left })
+
+  links_within : Each (LinkIn (length new.wires)) new.links
+  links_within =
+      each_of_two (LinkIn (length new.wires)) m.links (lines_more m fine)
+      (λ l i. link_more (length m.wires) (length new.wires) l (omega (arith, count_new)) (ready.within.links l i))
+      (λ l i. (whole_lines l i).within)
+
+  -- how often a bit is driven: as often as before, and once more where it is of a fresh wire
+  abbrev of_fresh : WireBit → ℕ
+  of_fresh b = count b (bits_from (length m.wires) (fresh m fine))
+
+  own : (n : ℕ) (kind : CellKind) (c : Cell) → is_memory_kind kind ≡ false → IsWhole n kind c → pin_bits (cell_type ports c.kind_name) c.pins ≡ map (λ (b : WireBit). b) (cell_bits c)
+  own n kind c is whole = ap (λ t. pin_bits t c.pins) (type_is ports c kind whole.own) ∙ bits_are n kind c is whole ∙ sym (same (cell_bits c))
+    where
+      same : (xs : List WireBit) → map (λ (b : WireBit). b) xs ≡ xs
+      same [] = refl
+      same (x ∷ xs) = ap (λ z. x ∷ z) (same xs)
+
+  same : (xs : List WireBit) → map (λ (b : WireBit). b) xs ≡ xs
+  same [] = refl
+  same (x ∷ xs) = ap (λ z. x ∷ z) (same xs)
+
+  bits : IsPermutation (cells_bits ports new.cells ++ links_bits (lines_more m fine)) (bits_from (length m.wires) (fresh m fine) ++ cells_bits ports m.cells)
+  bits =
+      subst (λ z. IsPermutation (cells_bits ports new.cells ++ links_bits (lines_more m fine)) (z ++ cells_bits ports m.cells)) (same (bits_from (length m.wires) (fresh m fine)))
+      (all_drive (λ b. b) (λ c. pin_bits (cell_type ports c.kind_name) c.pins) link_bits own (λ n l whole. sym (same (link_bits l))) m.cells (building_of m) fine.whole)
+
+  driven : (b : WireBit) → drive_count (drives_of ports new) b ≡ of_fresh b + drive_count (drives_of ports m) b
+  driven b =
+      let before = driven_count ports m fine.processes (own_links ports m ready) b in
+      let after = driven_count ports new fine.processes links_even b in
+      let p : count b (bits_of (port_drives 0 new.wires)) ≡ count b (bits_of (port_drives 0 m.wires)) = ap (λ z. count b (bits_of z)) (ports_further 0 m.wires (fresh m fine) (inner m fine)) in
+      let cells : List WireBit = cells_bits ports new.cells in
+      let more : List WireBit = links_bits (lines_more m fine) in
+      let l : count b (links_bits new.links) ≡ count b (links_bits m.links) + count b more = ap (count b) (links_more m.links (lines_more m fine)) ∙ count_more b (links_bits m.links) more in
+      let moved : count b (cells ++ more) ≡ count b (bits_from (length m.wires) (fresh m fine) ++ cells_bits ports m.cells) = count-permutation b _ _ bits in
+      omega (arith, before, after, p, l, moved, count_more b cells more, count_more b (bits_from (length m.wires) (fresh m fine)) (cells_bits ports m.cells), count_more b cells (links_bits new.links), count_more b (cells_bits ports m.cells) (links_bits m.links))
+
+  old_only : (b : WireBit) → b.wire < length m.wires → drive_count (drives_of ports new) b ≤ drive_count (drives_of ports m) b
+  old_only b h = omega (arith, driven b, fresh_below b (length m.wires) (fresh m fine) h)
+
+  -- no bit of a fresh wire was driven
+  not_before : (b : WireBit) → length m.wires ≤ b.wire → drive_count (drives_of ports m) b ≡ 0
+  not_before b h =
+      let before = driven_count ports m fine.processes (own_links ports m ready) b in
+      let p : count b (bits_of (port_drives 0 m.wires)) ≡ 0 = count_beyond (length m.wires) b _ (ports_below (length m.wires) 0 m.wires (omega arith)) h in
+      let c : count b (cells_bits ports m.cells) ≡ 0 = count_beyond (length m.wires) b _ (cells_below (length m.wires) ports m.cells ready.within.cells) h in
+      let l : count b (links_bits m.links) ≡ 0 = count_beyond (length m.wires) b _ (links_below (length m.wires) m.links ready.within.links) h in
+      omega (arith, before, p, c, l, count_more b (cells_bits ports m.cells) (links_bits m.links))
+
+  fresh_only : (b : WireBit) → length m.wires ≤ b.wire → drive_count (drives_of ports new) b ≤ 1
+  fresh_only b h = omega (arith, driven b, not_before b h, fresh_once b (length m.wires) (fresh m fine))
+
+  none : HasNoFaults cells_alone ports m
+  none = no_faults cells_alone ports m ready.faultless
+
+  no_bits : bits_faults m.id (drives_of ports new) 0 new.wires ≡ []
+  no_bits =
+      let first : bits_faults m.id (drives_of ports new) 0 m.wires ≡ [] = fewer_first m.id (drives_of ports new) (drives_of ports m) (length m.wires) old_only 0 m.wires (omega arith) none.bits in
+      let last : bits_faults m.id (drives_of ports new) (0 + length m.wires) (fresh m fine) ≡ [] = none_from m.id (drives_of ports new) (length m.wires) (0 + length m.wires) (fresh m fine) (omega arith) fresh_only in
+      faults_split m.id (drives_of ports new) 0 m.wires (fresh m fine) ∙ (λ i. first i ++ last i)
+
+  swap_ready : (beside m).next ≤ 1000000000 → IsReady ports new
+  swap_ready names = record {
+    faultless =
+        together (further_faults m.id [] m.wires (fresh m fine) (inner m fine) none.wires) none.stores
+        (none_there ports new [] new.cells (λ c i. (cells_go c i).0))
+        (ap (process_faults cells_alone ports new []) fine.processes)
+        (no_link_faults m.id 1 new.links links_even) no_bits;
+    named =
+        subst Distinct (sym (map-append (λ (w : Wire). w.name) m.wires (fresh m fine)))
+        (Distinct-append (names_of m.wires) (names_of (fresh m fine)) ready.named (fresh_distinct m fine names) (λ name i j. names_apart m fine names name j i));
+    within = record { cells = λ c i. (cells_go c i).1; links = links_within; processes = λ q i. absurd (subst (In q) fine.processes i) };
+  }
+
+  pub techmap_ready : (beside m).next ≤ 1000000000 → IsReady ports (techmap_of m)
+  techmap_ready names = subst (IsReady ports) (sym (swapped_is m fine)) (swap_ready names)
+
+-- of a module without processes and memories it does not matter which of them are taken
+module _ (scope : Scope) (ports : Ports) (m : Module) (fine : IsPlain m) where
+  cell_alike : (earlier : List Cell) (c : Cell) → In c m.cells → (t : CellType) → cell_type ports c.kind_name ≡ t → faults_by_type scope m earlier c t ≡ faults_by_type cells_alone m earlier c t
+  cell_alike earlier c i (Library kind) e =
+      let here : Spot = spot m.id c.name in
+      let rest : Bool → List Fault = λ t. ((fault_if t (UnsupportedCell here) ++ shape_fault here (misfit kind c)) ++ output_faults here (Library kind) c.pins) ++ memory_faults m earlier c kind in
+      let none : is_memory_kind kind ≡ false = fine.others c i kind (own_kind ports c kind e) in
+      ap (λ t. rest (t && not scope.memories)) none ∙ sym (ap (λ t. rest (t && true)) none)
+  cell_alike earlier c i (Instance lines) e = refl
+  cell_alike earlier c i Unsupported e = refl
+  cell_alike earlier c i Unknown e = refl
+
+  cells_alike : (earlier cs : List Cell) → ((c : Cell) → In c cs → In c m.cells) → cell_faults scope ports m earlier cs ≡ cell_faults cells_alone ports m earlier cs
+  cells_alike earlier [] h = refl
+  cells_alike earlier (c ∷ cs) h =
+      λ i. cell_alike earlier c (h c (inl refl)) (cell_type ports c.kind_name) refl i ++ cells_alike (earlier ++ c ∷ []) cs (λ d j. h d (inr j)) i
+
+  pub scope_free : module_faults scope ports m ≡ module_faults cells_alone ports m
+  scope_free =
+      let stores : flat_map (store_faults scope m.id) m.memories ≡ flat_map (store_faults cells_alone m.id) m.memories = ap (flat_map (store_faults scope m.id)) fine.memories ∙ sym (ap (flat_map (store_faults cells_alone m.id)) fine.memories) in
+      let processes : process_faults scope ports m [] m.processes ≡ process_faults cells_alone ports m [] m.processes = ap (process_faults scope ports m []) fine.processes ∙ sym (ap (process_faults cells_alone ports m []) fine.processes) in
+      λ i. ((((wire_faults m.id [] m.wires ++ stores i) ++ cells_alike [] m.cells (λ c j. j) i) ++ processes i) ++ link_faults m.id 1 m.links) ++ bits_faults m.id (drives_of ports m) 0 m.wires
+
+-- so a module without faults in whatever part of designs stays one
+pub techmap_faultless : (known : Ports) (m : Module) → IsReady known m → (beside m).next ≤ 1000000000 → StaysFaultless m (techmap_of m)
+techmap_faultless known m ready names scope ports e =
+    let own : IsPlain m = plain known m ready.faultless in
+    let here : IsReady ports m = record { faultless = sym (scope_free scope ports m own) ∙ e; named = ready.named; within = ready.within } in
+    let there : IsReady ports (techmap_of m) = techmap_ready ports m here names in
+    scope_free scope ports (techmap_of m) (plain ports (techmap_of m) there.faultless) ∙ there.faultless

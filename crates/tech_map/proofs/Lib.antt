@@ -1,11 +1,12 @@
 pub mod Fits
 pub mod Moving
+pub mod ByKind
 pub mod Growing
 pub mod Placing
-pub mod Faultless
 pub mod Standing
+pub mod Drives
+pub mod OldSpots
 pub mod Driving
-pub mod Pins
-pub mod Gating
+pub mod Counts
 pub mod Forming
 pub mod Promised

@@ -1,3 +1,2 @@
 pub mod Techmap
 pub mod InPlace
-pub mod Stays

@@ -11,7 +11,7 @@ use Rattle.rtl_ir.specs.declared.cell.Cell.{Cell}
 use Rattle.rtl_ir.specs.declared.module.Module.{Module}
 use Rattle.net_index.specs.Builder.{PassesLimit}
 use Rattle.map_gates.specs.Expand.{map_of}
-use Rattle.map_gates.specs.Gates.{added}
+use Rattle.map_laws.specs.Expansion.{cells_added}
 
 -- cells of these kinds become gates
 abbrev pub is_taken : CellKind → Bool
@@ -30,14 +30,18 @@ if_taken None = None
 abbrev pub taken_kind : Cell → Option CellKind
 taken_kind c = if_taken (cell_kind c)
 
--- the gates of a cell of this kind go last, under fresh names
+-- what the map of a kind adds for a cell of it
+abbrev pub expand_by_kind : CellKind → Cell → Building → Building
+expand_by_kind kind c b = map_of (cell_shape kind c.params) c b
+
+-- the gates of a cell of this kind go last, with fresh wires and connections, under fresh names
 abbrev pub with_gates : Option CellKind → Cell → Building → Building
-with_gates (Some kind) c b = map_of (cell_shape kind c.params) c b
+with_gates (Some kind) c b = expand_by_kind kind c b
 with_gates None c b = b
 
 -- what stands in the place of a cell: its gates, or the cell itself where it becomes none
 abbrev pub stand_in : Option CellKind → Cell → Building → List Cell
-stand_in (Some kind) c b = added b (with_gates (Some kind) c b)
+stand_in (Some kind) c b = cells_added b (with_gates (Some kind) c b)
 stand_in None c b = c ∷ []
 
 -- the gates of all of these cells go last, behind the cells that they replace
@@ -54,7 +58,7 @@ stand_ins (c ∷ cs) b = stand_in (taken_kind c) c b ++ stand_ins cs (with_gates
 abbrev pub beside : Module → Building
 beside m = with_all_gates m.cells (building_of m)
 
--- the module with the gates in the places of the cells
+-- the module with the gates in the places of the cells; the fresh wires and the connections stay last
 abbrev pub techmap_of : Module → Module
 techmap_of m = record (beside m).body { cells = stand_ins m.cells (building_of m) }
 

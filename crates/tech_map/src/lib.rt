@@ -1,41 +1,44 @@
 //! The pass `techmap`: cells become gates, each in its place.
 #![tactic(auto)]
 
+mod expand;
 mod in_place;
 mod limits;
 mod taken;
 
-ghost use Rattle.std.specs.Prelude.{◌≡◌, [], Err, OnOk, IfOk};
-ghost use Rattle.rtl_ir.specs.Faults.{module_faults};
+ghost use Rattle.std.specs.Prelude.{◌≡◌, ◌++◌, ◌∷◌, [], Err, OnOk, IfOk, length};
 ghost use Rattle.rtl_ir.specs.Flat.Cell.{Ports, cell_shape, instances};
 ghost use Rattle.rtl_ir.specs.Ports.{ports_of};
-ghost use Rattle.rtl_ir.specs.Scope.{cells_alone};
 ghost use Rattle.rtl_ir.specs.Types.{table_ports};
 ghost use Rattle.net_index.specs.Builder.{IsInLimits, PassesLimit};
 ghost use Rattle.net_model.specs.Refine.{IsWellDriven, RefinesIn};
-ghost use Rattle.tech_map.specs.Stays.{StaysFaultless};
+ghost use Rattle.net_model.specs.Within.{Each};
+ghost use Rattle.pass_laws.specs.Ready.{IsReady};
+ghost use Rattle.pass_laws.specs.Stays.{StaysFaultless};
+ghost use Rattle.map_laws.specs.Expansion.{IsWholeCell};
+ghost use Rattle.tech_map.specs.InPlace.{count_of, counts_of};
 ghost use Rattle.tech_map.specs.Techmap.{TechmapPassesLimit, beside, taken_kind, techmap_of, with_all_gates, with_gates};
 
+use crate::expand::expand_by_kind;
 use crate::in_place::with_gates_in_place;
 use crate::limits::check_limits;
 use crate::taken::taken_kind;
-use cell_types::{CellKind, Shape};
-use map_gates::expand;
-use net_index::{Builder, PassFault, cell_shape};
+use net_index::{Builder, PassFault};
 use rtl_bits::{Copied, Memory};
 use rtl_ir::{Cell, Module, PortTable};
 use std::alloc::Global;
 
 /// The module with each cell of a kind that becomes gates replaced in its place by them. The cells that
-/// are replaced count for the limits beside the gates.
+/// are replaced count for the limits beside the gates; fresh wires and connections stay last.
 pub fn apply(alloc: Global, module: &Module, ports: &PortTable) -> Result<Module, PassFault>
-    requires faultless { module_faults cells_alone (table_ports ports.now.modules) «module».now ≡ [] }
+    requires ready { IsReady (table_ports ports.now.modules) «module».now }
     ensures exact { IfOk result (λ after. after ≡ techmap_of «module».now) }
     ensures over { result ≡ Err PassFault.Over → TechmapPassesLimit «module».now }
     ensures within { OnOk result (IsInLimits (beside «module».now)) }
     ensures refines { IfOk result (λ after. RefinesIn «module».now after ports.now) }
     ensures well_driven { IfOk result (λ after. (ports : Ports) → IsWellDriven ports «module».now → IsWellDriven ports after) }
-    ensures well_formed { IfOk result (StaysFaultless «module».now) }
+    ensures well_formed { IfOk result (IsReady (table_ports ports.now.modules)) }
+    ensures faultless { IfOk result (StaysFaultless «module».now) }
     ensures same_id { IfOk result (λ after. after.id ≡ «module».now.id) }
     ensures same_ports { IfOk result (λ after. ports_of after.wires ≡ ports_of «module».now.wires) }
     ensures same_instances { IfOk result (λ after. instances after.cells ≡ instances «module».now.cells) }
@@ -44,8 +47,9 @@ pub fn apply(alloc: Global, module: &Module, ports: &PortTable) -> Result<Module
 }
 
 /// The gates go last, and then into the places of the cells that they replace.
-#[tactic(auto, using(crate::proofs::Growing::over_later, crate::proofs::Placing::no_fewer, crate::proofs::Placing::in_their_places))]
+#[tactic(auto, using(crate::proofs::Growing::over_later, crate::proofs::Placing::no_fewer))]
 fn mapped(alloc: Global, module: &Module) -> Result<Module, PassFault>
+    requires whole { Each (IsWholeCell (length «module».now.wires)) «module».now.cells }
     ensures exact { IfOk result (λ after. after ≡ techmap_of «module».now) }
     ensures over { result ≡ Err PassFault.Over → TechmapPassesLimit «module».now }
     ensures within { OnOk result (IsInLimits (beside «module».now)) }
@@ -53,39 +57,52 @@ fn mapped(alloc: Global, module: &Module) -> Result<Module, PassFault>
     check_limits(module)?;
     let cells = module.cells.as_slice();
     let mut builder = Builder::of(alloc, module.copy()?)?;
-    add_gates(alloc, cells, &mut builder)?;
-    let after = with_gates_in_place(alloc, builder.finish(), cells.len())?;
+    let counts = add_gates(alloc, cells, &mut builder)?;
+    let after = with_gates_in_place(alloc, builder.finish(), cells.len(), counts)?;
     Ok(after)
 }
 
-/// The gates of all of these cells go last. After an error the builder holds some of them.
-fn add_gates(alloc: Global, cells: &[Cell], builder: &mut Builder) -> Result<(), PassFault>
+/// The gates of all of these cells go last. The answer is how many gates there are of each cell that
+/// becomes gates. After an error the builder holds some of them.
+fn add_gates(alloc: Global, cells: &[Cell], builder: &mut Builder) -> Result<Vec<usize>, PassFault>
+    requires whole { Each (IsWholeCell (length builder.old.body.wires)) cells.now }
     ensures exact { OnOk result (builder.new ≡ with_all_gates cells.now builder.old) }
+    ensures counts { IfOk result (λ counts. counts.items ≡ counts_of cells.now builder.old) }
     ensures over { result ≡ Err PassFault.Over → PassesLimit (with_all_gates cells.now builder.old) }
     ensures within { IsInLimits builder.old → OnOk result (IsInLimits builder.new) }
 {
+    let mut counts = Vec::new(alloc);
     for cell in cells {
-        add_gates_of(alloc, cell, builder)?;
+        add_gates_of(alloc, cell, builder, &mut counts)?;
     }
-    Ok(())
+    Ok(counts)
 }
 
-/// The gates of a cell go last, where it becomes gates.
-fn add_gates_of(alloc: Global, cell: &Cell, builder: &mut Builder) -> Result<(), PassFault>
+/// The gates of a cell go last, where it becomes gates, and how many they are goes last among the counts.
+fn add_gates_of(
+    alloc: Global,
+    cell: &Cell,
+    builder: &mut Builder,
+    counts: &mut Vec<usize>,
+) -> Result<(), PassFault>
     ensures exact { OnOk result (builder.new ≡ with_gates (taken_kind cell.now) cell.now builder.old) }
+    ensures counts { OnOk result (counts.new.items ≡ counts.old.items ++ count_of (taken_kind cell.now) cell.now builder.old) }
     ensures over { result ≡ Err PassFault.Over → PassesLimit (with_gates (taken_kind cell.now) cell.now builder.old) }
     ensures within { IsInLimits builder.old → OnOk result (IsInLimits builder.new) }
 {
     let Some(kind) = taken_kind(cell) else {
         return Ok(());
     };
-    let shape = shape_of(alloc, kind, cell)?;
-    expand(alloc, cell, &shape, builder)
+    let before = builder.cell_count();
+    expand_by_kind(alloc, kind, cell, builder)?;
+    put_count(counts, builder.cell_count().saturating_sub(before))?;
+    Ok(())
 }
 
-/// The shape of a cell without faults of its parameters and pins, so that memory alone can be missing.
-fn shape_of(alloc: Global, kind: CellKind, cell: &Cell) -> Result<Shape, Memory>
-    ensures shape { IfOk result (λ shape. shape ≡ cell_shape kind cell.now.params) }
+/// A count goes last.
+fn put_count(counts: &mut Vec<usize>, count: usize) -> Result<(), Memory>
+    ensures all { OnOk result (counts.new.items ≡ counts.old.items ++ count ∷ []) }
 {
-    cell_shape(alloc, kind, cell).map_err(|_fault| Memory)
+    counts.push(count)?;
+    Ok(())
 }

@@ -1,0 +1,86 @@
+-- What the maps owe of the cells that become gates: the one place that goes by their kinds.
+use Rattle.std.proofs.Common.{◌≡◌, ℕ, true, false, Some, None, if◌then◌else◌, Bool, Option, List, length, refl, sym, ◌∙◌, ap}
+use Rattle.cell_types.specs.Shape.{made_shape, unless}
+use Rattle.cell_types.specs.declared.kind.CellKind.{CellKind}
+use Rattle.cell_types.specs.declared.kind.CellKind.TheVariants.{Gate, Memory, Storage, StorageGate, Word}
+use Rattle.cell_types.specs.declared.pin_name.PinName.TheVariants.{Q, Y}
+use Rattle.cell_types.specs.declared.word.BitwiseKind.TheVariants.{And, Or, Xor}
+use Rattle.cell_types.specs.declared.word.UnaryKind.TheVariants.{Not}
+use Rattle.cell_types.specs.declared.word.WordKind.TheVariants.{Unary, Bitwise}
+use Rattle.rtl_bits.specs.declared.bit.Bit.{Bit}
+use Rattle.rtl_sig.specs.declared.sig.SigBit.{SigBit}
+use Rattle.rtl_ir.specs.Build.{Building}
+use Rattle.rtl_ir.specs.Faults.Cells.{is_memory_kind, misfit}
+use Rattle.rtl_ir.specs.Flat.Cell.{Ports, cell_kind, cell_shape}
+use Rattle.rtl_ir.specs.Parameters.{given_params}
+use Rattle.rtl_ir.specs.Types.{Library}
+use Rattle.rtl_ir.specs.declared.cell.Cell.{Cell}
+use Rattle.rtl_ir.specs.declared.wire.Wire.{Wire}
+use Rattle.map_laws.specs.Expansion.{IsExpansion, IsWhole, StandsWith, cell_bits, cells_added, kind_bits, links_added}
+use Rattle.map_gates.specs.Expand.{IsMapped, IsShapeOf}
+use Rattle.map_gates.proofs.Expanded as gates
+use Rattle.pass_laws.proofs.Outputs.{output_bits}
+use Rattle.pass_laws.specs.Bits.{pin_bits}
+use Rattle.tech_map.specs.Techmap.{expand_by_kind, if_taken, is_taken}
+
+-- what a map owes of a cell for which it added something
+pub record IsMappedTo (old new : Building) (c : Cell) : Type 0 where
+  pub expansion : IsExpansion old new c
+  pub stands : (ports : Ports) (start : SigBit → Bit) (wires : List Wire) → StandsWith ports start wires c (cells_added old new) (links_added old new)
+
+-- a cell that fits its kind has the shape of its parameters
+shape_fits : (c : Cell) (kind : CellKind) → cell_kind c ≡ Some kind → misfit kind c ≡ None → IsShapeOf c (cell_shape kind c.params)
+unfolding misfit cell_shape
+shape_fits c kind own fit = record { kind = own; given = ap (λ fault. unless fault (made_shape kind (given_params c.params))) fit }
+
+taken_here : (kind : CellKind) → is_taken kind ≡ true → IsMapped kind
+taken_here (Word (Unary Not)) e = tt
+taken_here (Word (Bitwise And)) e = tt
+taken_here (Word (Bitwise Or)) e = tt
+taken_here (Word (Bitwise Xor)) e = tt
+taken_here kind e = absurd (cc)
+
+by_gates : (kind : CellKind) → IsMapped kind → (c : Cell) (b : Building) → IsWhole (length b.body.wires) kind c → IsMappedTo b (expand_by_kind kind c b) c
+unfolding cell_shape
+by_gates kind e c b whole =
+    let shape = shape_fits c kind whole.own whole.shape in
+    record {
+      expansion = gates.expands c b (cell_shape kind c.params) e whole;
+      stands = λ ports start wires. gates.stands c b (cell_shape kind c.params) shape e ports start wires;
+    }
+
+-- each map owes what is asked of it, for each kind that becomes gates
+pub mapped : (kind : CellKind) → is_taken kind ≡ true → (c : Cell) (b : Building) → IsWhole (length b.body.wires) kind c → IsMappedTo b (expand_by_kind kind c b) c
+mapped kind e c b whole = by_gates kind (taken_here kind e) c b whole
+
+-- no cell of a memory becomes gates
+pub no_memory : (kind : CellKind) → is_taken kind ≡ true → is_memory_kind kind ≡ false
+no_memory (Word kind) e = refl
+no_memory (Gate kind) e = refl
+no_memory (Storage kind) e = refl
+no_memory (StorageGate gate) e = refl
+no_memory (Memory kind) e = absurd (cc)
+
+-- the bits that a whole cell drives are those of its pins
+pub bits_are : (n : ℕ) (kind : CellKind) (c : Cell) → is_memory_kind kind ≡ false → IsWhole n kind c → pin_bits (Library kind) c.pins ≡ cell_bits c
+bits_are n kind c plain whole = by kind plain whole.shape ∙ ap (λ k. kind_bits k c) (sym whole.own)
+  where
+    by : (kind : CellKind) → is_memory_kind kind ≡ false → misfit kind c ≡ None → pin_bits (Library kind) c.pins ≡ kind_bits (Some kind) c
+    by (Word kind) p fit = output_bits (Word kind) c p fit Y refl
+    by (Gate kind) p fit = output_bits (Gate kind) c p fit Y refl
+    by (Storage kind) p fit = output_bits (Storage kind) c p fit Q refl
+    by (StorageGate gate) p fit = output_bits (StorageGate gate) c p fit Q refl
+    by (Memory kind) p fit = absurd (cc)
+
+-- the kind of a cell that becomes gates is its own, and one of those that do
+pub record IsTaken (k : Option CellKind) (kind : CellKind) : Type 0 where
+  pub taken : is_taken kind ≡ true
+  pub own : k ≡ Some kind
+
+pub taken_is : (k : Option CellKind) (kind : CellKind) → if_taken k ≡ Some kind → IsTaken k kind
+taken_is None kind e = absurd (cc)
+taken_is (Some j) kind e = by (is_taken j) refl e
+  where
+    by : (t : Bool) → is_taken j ≡ t → (if t then Some j else None) ≡ Some kind → IsTaken (Some j) kind
+    by true f g = let same : j ≡ kind = cc in record { taken = ap is_taken (sym same) ∙ f; own = g }
+    by false f g = absurd (cc)
