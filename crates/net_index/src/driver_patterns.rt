@@ -33,7 +33,7 @@ pub(crate) fn never_matches(pattern: &[SigBit], signal: &[SigBit]) -> bool
 }
 
 /// Whether the pattern always matches the signal.
-pub(crate) fn always_matches(signal: &[SigBit], pattern: &[SigBit]) -> bool
+pub fn always_matches(signal: &[SigBit], pattern: &[SigBit]) -> bool
     ensures value { result ≡ rules.always_matches signal.now pattern.now }
 {
     for at in 0..pattern.len().min(signal.len()) {
@@ -45,7 +45,7 @@ pub(crate) fn always_matches(signal: &[SigBit], pattern: &[SigBit]) -> bool
 }
 
 /// Whether the signal is constants alone.
-pub(crate) fn is_all_constant(bits: &[SigBit]) -> bool
+pub fn is_all_constant(bits: &[SigBit]) -> bool
     ensures value { result ≡ signals.is_all_constant bits.now }
 {
     for bit in bits {

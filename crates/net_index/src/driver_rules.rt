@@ -99,7 +99,7 @@ fn read_pattern(
 }
 
 /// Whether the pattern is dropped behind these patterns of constants.
-fn is_dropped(signal: &[SigBit], earlier: &[SigSpec], pattern: &[SigBit]) -> bool
+pub fn is_dropped(signal: &[SigBit], earlier: &[SigSpec], pattern: &[SigBit]) -> bool
     ensures value { result ≡ rules.is_dropped signal.now earlier.now pattern.now }
 {
     never_matches(pattern, signal) || (is_all_constant(pattern) && is_covered(earlier, pattern))
@@ -118,7 +118,7 @@ fn is_covered(earlier: &[SigSpec], pattern: &[SigBit]) -> bool
 }
 
 /// Whether the signal has at most 8 bits, and each of its values matches one of the patterns of constants.
-fn match_every_value(alloc: Global, signal: &[SigBit], patterns: &[SigSpec]) -> Result<bool, Memory>
+pub fn match_every_value(alloc: Global, signal: &[SigBit], patterns: &[SigSpec]) -> Result<bool, Memory>
     ensures value { IfOk result (λ every. every ≡ rules.match_every_value signal.now patterns.now) }
 {
     if signal.len() > 8 {

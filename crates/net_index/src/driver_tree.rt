@@ -15,7 +15,7 @@ use rtl_sig::{SigBit, WireBit};
 use std::alloc::Global;
 
 /// The bits that the assigns of a tree name, those of cases that never act left out.
-pub(crate) fn assigned_bits(alloc: Global, root: &Case) -> Result<Vec<WireBit>, Memory>
+pub fn assigned_bits(alloc: Global, root: &Case) -> Result<Vec<WireBit>, Memory>
     ensures value { IfOk result (λ bits. bits.items ≡ left_bits (case_assigns (root_by_rules root.now))) }
 {
     let mut bits = Vec::new(alloc);

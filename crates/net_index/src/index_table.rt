@@ -12,7 +12,7 @@ use std::collections::HashMap;
 
 /// A value for some of the bits of a module: by their numbers those that the wires have, and any others beside them.
 #[derive(Drop)]
-pub(crate) struct BitTable<T> {
+pub struct BitTable<T> {
     numbering: Numbering,
     inside: Vec<Option<T>>,
     outside: HashMap<WireBit, T>,
@@ -27,7 +27,7 @@ impl<T: Copy + Drop> BitTable<T> {
     ghost use Rattle.net_index.specs.IndexTable.{at_bit};
 
     /// No bit has a value.
-    pub(crate) fn of(alloc: Global, wires: &[Wire]) -> Result<BitTable<T>, Memory>
+    pub fn of(alloc: Global, wires: &[Wire]) -> Result<BitTable<T>, Memory>
         ensures none { IfOk result (λ table. (b : WireBit) → at_bit table b ≡ None) }
     {
         let numbering = Numbering::of(alloc, wires)?;
@@ -40,7 +40,7 @@ impl<T: Copy + Drop> BitTable<T> {
     }
 
     /// The value of the bit, if it has one. It takes no memory.
-    pub(crate) fn get(&self, bit: WireBit) -> Option<T>
+    pub fn get(&self, bit: WireBit) -> Option<T>
         ensures value { result ≡ at_bit self.now bit }
     {
         match self.numbering.find(bit) {
@@ -50,7 +50,7 @@ impl<T: Copy + Drop> BitTable<T> {
     }
 
     /// Gives the bit this value.
-    pub(crate) fn put(&mut self, bit: WireBit, value: T) -> Result<(), Memory>
+    pub fn put(&mut self, bit: WireBit, value: T) -> Result<(), Memory>
         ensures ok { OnOk result ((b : WireBit) → at_bit self.new b ≡ (if same_bit bit b then Some value else at_bit self.old b)) }
     {
         match self.numbering.find(bit) {
@@ -63,7 +63,7 @@ impl<T: Copy + Drop> BitTable<T> {
     }
 
     /// Gives the bit this value, where it has none.
-    pub(crate) fn put_first(&mut self, bit: WireBit, value: T) -> Result<(), Memory>
+    pub fn put_first(&mut self, bit: WireBit, value: T) -> Result<(), Memory>
         ensures ok { OnOk result ((b : WireBit) → at_bit self.new b ≡ option_or (at_bit self.old b) (if same_bit bit b then Some value else None)) }
     {
         match self.get(bit) {

@@ -25,7 +25,7 @@ pub(crate) fn given_params(alloc: Global, params: &[CellParam]) -> Result<Vec<Pa
 }
 
 /// The bits of a constant.
-fn value_bits(alloc: Global, value: &Value) -> Result<Bits, Memory>
+pub fn value_bits(alloc: Global, value: &Value) -> Result<Bits, Memory>
     ensures value { IfOk result (λ bits. bits ≡ value_bits value.now) }
 {
     match value {

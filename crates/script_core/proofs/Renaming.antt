@@ -4,9 +4,8 @@ use Rattle.std.specs.Option.{option_map}
 use Rattle.cell_types.specs.declared.kind.CellKind.{CellKind}
 use Rattle.cell_types.specs.declared.kind.CellKind.TheVariants.{Word}
 use Rattle.cell_types.specs.declared.shape.Shape.{Shape}
-use Rattle.cell_types.specs.declared.word.BitwiseKind.TheVariants.{And, Or, Xor}
 use Rattle.cell_types.specs.declared.word.UnaryKind.TheVariants.{Not}
-use Rattle.cell_types.specs.declared.word.WordKind.TheVariants.{Unary, Bitwise}
+use Rattle.cell_types.specs.declared.word.WordKind.TheVariants.{Unary, Bitwise, Mux}
 use Rattle.cell_types.specs.declared.pin_name.PinName.TheVariants.{Y}
 use Rattle.rtl_sig.specs.declared.sig.SigBit.{SigBit}
 use Rattle.rtl_ir.specs.declared.cell.Cell.{Cell}
@@ -15,10 +14,9 @@ use Rattle.rtl_ir.specs.declared.ports.PortTable.{PortTable}
 use Rattle.rtl_ir.specs.Build.{Building, building_of}
 use Rattle.rtl_ir.specs.Flat.Cell.{cell_kind, cell_shape}
 use Rattle.map_gates.specs.Expand.{gates_of}
-use Rattle.map_gates.specs.Gates.{added, each_bit, pin_signal}
-use Rattle.map_gates.proofs.Adding.{puts}
-use Rattle.tech_map.specs.Techmap.{is_taken, taken_kind, with_gates, stand_in, with_all_gates, stand_ins, beside, techmap_of}
-use Rattle.tech_map.proofs.Growing.{gate_cell, taken_is}
+use Rattle.map_gates.specs.Gates.{each_bit, pin_signal}
+use Rattle.map_laws.specs.Expansion.{cells_added}
+use Rattle.tech_map.specs.Techmap.{taken_kind, with_gates, stand_in, with_all_gates, stand_ins, beside, techmap_of}
 use Rattle.script_core.specs.declared.word.Word as words
 use Rattle.script_core.specs.declared.word.Word.TheVariants.{Proc, OptExpr, OptMerge, OptClean, Opt, Fsm, Memory, Techmap}
 use Rattle.script_core.specs.Cold.{named}
@@ -32,36 +30,35 @@ module _ (id : List ℕ) where
   abbrev renamed : Building → Building
   renamed b = record { body = under b.body; next = b.next }
 
-  each_renamed : (cell : ℕ → ℕ → SigBit → Cell) (at : ℕ) (ys : List SigBit) (b : Building) → each_bit (puts cell) at ys (renamed b) ≡ renamed (each_bit (puts cell) at ys b)
-  each_renamed cell at [] b = refl
-  each_renamed cell at (y ∷ ys) b = each_renamed cell (suc at) ys (puts cell at y b)
+  each_renamed : (gate : ℕ → SigBit → Building → Building) → ((at : ℕ) (y : SigBit) (b : Building) → gate at y (renamed b) ≡ renamed (gate at y b)) → (at : ℕ) (ys : List SigBit) (b : Building) → each_bit gate at ys (renamed b) ≡ renamed (each_bit gate at ys b)
+  each_renamed gate same at [] b = refl
+  each_renamed gate same at (y ∷ ys) b = ap (each_bit gate (suc at) ys) (same at y b) ∙ each_renamed gate same (suc at) ys (gate at y b)
 
-  kind_renamed : (kind : CellKind) → is_taken kind ≡ true → (shape : Shape) (c : Cell) (b : Building) → gates_of kind shape c (renamed b) ≡ renamed (gates_of kind shape c b)
-  kind_renamed (Word (Unary Not)) e shape c b = each_renamed (gate_cell (Word (Unary Not)) shape c) 0 (pin_signal c Y) b
-  kind_renamed (Word (Bitwise And)) e shape c b = each_renamed (gate_cell (Word (Bitwise And)) shape c) 0 (pin_signal c Y) b
-  kind_renamed (Word (Bitwise Or)) e shape c b = each_renamed (gate_cell (Word (Bitwise Or)) shape c) 0 (pin_signal c Y) b
-  kind_renamed (Word (Bitwise Xor)) e shape c b = each_renamed (gate_cell (Word (Bitwise Xor)) shape c) 0 (pin_signal c Y) b
-  kind_renamed kind e shape c b = absurd (cc)
+  kind_renamed : (kind : CellKind) (shape : Shape) (c : Cell) (b : Building) → gates_of kind shape c (renamed b) ≡ renamed (gates_of kind shape c b)
+  kind_renamed (Word (Unary Not)) shape c b = each_renamed _ (λ at y b. refl) 0 (pin_signal c Y) b
+  kind_renamed (Word (Bitwise kind)) shape c b = each_renamed _ (λ at y b. refl) 0 (pin_signal c Y) b
+  kind_renamed (Word Mux) shape c b = each_renamed _ (λ at y b. refl) 0 (pin_signal c Y) b
+  kind_renamed kind shape c b = refl
 
-  one_renamed : (c : Cell) (b : Building) (k : Option CellKind) → taken_kind c ≡ k → with_gates k c (renamed b) ≡ renamed (with_gates k c b)
+  one_renamed : (c : Cell) (b : Building) (k : Option CellKind) → with_gates k c (renamed b) ≡ renamed (with_gates k c b)
   unfolding cell_shape
-  one_renamed c b None e = refl
-  one_renamed c b (Some kind) e = kind_renamed kind (taken_is (cell_kind c) kind e).taken (cell_shape kind c.params) c b
+  one_renamed c b None = refl
+  one_renamed c b (Some kind) = kind_renamed kind (cell_shape kind c.params) c b
 
   gates_renamed : (c : Cell) (b : Building) → with_gates (taken_kind c) c (renamed b) ≡ renamed (with_gates (taken_kind c) c b)
-  gates_renamed c b = one_renamed c b (taken_kind c) refl
+  gates_renamed c b = one_renamed c b (taken_kind c)
 
   all_renamed : (cs : List Cell) (b : Building) → with_all_gates cs (renamed b) ≡ renamed (with_all_gates cs b)
   all_renamed [] b = refl
   all_renamed (c ∷ cs) b = ap (with_all_gates cs) (gates_renamed c b) ∙ all_renamed cs (with_gates (taken_kind c) c b)
 
-  in_renamed : (c : Cell) (b : Building) (k : Option CellKind) → taken_kind c ≡ k → stand_in k c (renamed b) ≡ stand_in k c b
-  in_renamed c b None e = refl
-  in_renamed c b (Some kind) e = ap (added b) (one_renamed c b (Some kind) e)
+  in_renamed : (c : Cell) (b : Building) (k : Option CellKind) → stand_in k c (renamed b) ≡ stand_in k c b
+  in_renamed c b None = refl
+  in_renamed c b (Some kind) = ap (cells_added b) (one_renamed c b (Some kind))
 
   ins_renamed : (cs : List Cell) (b : Building) → stand_ins cs (renamed b) ≡ stand_ins cs b
   ins_renamed [] b = refl
-  ins_renamed (c ∷ cs) b = (λ i. in_renamed c b (taken_kind c) refl i ++ (ap (stand_ins cs) (gates_renamed c b) ∙ ins_renamed cs (with_gates (taken_kind c) c b)) i)
+  ins_renamed (c ∷ cs) b = (λ i. in_renamed c b (taken_kind c) i ++ (ap (stand_ins cs) (gates_renamed c b) ∙ ins_renamed cs (with_gates (taken_kind c) c b)) i)
 
   beside_renamed : (m : Module) → beside (under m) ≡ renamed (beside m)
   beside_renamed m = all_renamed m.cells (building_of m)

@@ -1,17 +1,38 @@
 -- What the pass of each word keeps.
-use Rattle.std.proofs.Common.{◌≡◌, Bool, true, false, cond, Option, Some, None, List, [], ◌∷◌, refl, subst}
+use Rattle.std.proofs.Common.{◌≡◌, Bool, true, false, cond, Option, Some, None, List, [], ◌∷◌, refl, sym, ◌∙◌, ap, subst}
+use Rattle.rtl_ir.specs.Flat.Tree as flat
+use Rattle.rtl_ir.specs.Ports.{ports_of}
+use Rattle.rtl_ir.specs.Types.{table_ports}
 use Rattle.rtl_ir.specs.declared.module.Module.{Module}
 use Rattle.rtl_ir.specs.declared.ports.PortTable.{PortTable}
+use Rattle.net_index.specs.Builder.{IsInLimits}
 use Rattle.pass_laws.specs.Pass.{IsPass}
 use Rattle.pass_laws.proofs.Passes.{IsPass_refl, IsPass_trans}
 use Rattle.tech_map.specs.Techmap.{beside, techmap_of}
+use Rattle.tech_map.proofs.Driving.{techmap_driven}
+use Rattle.tech_map.proofs.Forming.{takable, techmap_ready}
+use Rattle.tech_map.proofs.Standing.{swapped_children, swapped_is, swapped_ports, techmap_refines}
 use Rattle.script_core.specs.declared.outcome.Outcome.TheVariants.{Done}
 use Rattle.script_core.specs.declared.word.Word.{Word}
 use Rattle.script_core.specs.declared.word.Word.TheVariants.{Proc, OptExpr, OptMerge, OptClean, Opt, Fsm, Memory, Techmap}
 use Rattle.script_core.specs.Fold.{is_within, pass_of, after_word, fold_script, AfterWord, AreApplicable, HasPass, IsStageScript, MayBeGiven}
+use Rattle.script_core.proofs.FoldLemmas.{within_limits}
 
 same_pass : (table : PortTable) (m n : Module) → Some m ≡ Some n → IsPass table m n
 same_pass table m n e = let same : m ≡ n = cc in subst (IsPass table m) same (IsPass_refl table m)
+
+-- `techmap` within the limits
+techmap_pass : (table : PortTable) (m : Module) → MayBeGiven table m → IsInLimits (beside m) → IsPass table m (techmap_of m)
+techmap_pass table m h limits =
+    let fine = takable (table_ports table.modules) m h in
+    record {
+      id = sym (ap (λ (n : Module). n.id) (swapped_is m fine));
+      ports = swapped_ports m fine ∙ sym (ap (λ (n : Module). ports_of n.wires) (swapped_is m fine));
+      instances = swapped_children m fine;
+      driven = λ over agree w. techmap_driven m fine limits.names over w;
+      ready = λ r. techmap_ready (table_ports table.modules) m r limits.names;
+      refines = techmap_refines m fine (flat.table_ports table);
+    }
 
 -- a word that has a pass
 pub pass_is : (table : PortTable) (word : Word) (m n : Module) → HasPass word → MayBeGiven table m → pass_of table word m ≡ Some n → IsPass table m n
@@ -22,7 +43,11 @@ pass_is table OptClean m n has h e = absurd has
 pass_is table Opt m n has h e = absurd has
 pass_is table Fsm m n has h e = absurd has
 pass_is table Memory m n has h e = absurd has
-pass_is table Techmap m n has h e = absurd has
+pass_is table Techmap m n has h e = by (is_within (beside m)) refl e
+  where
+    by : (t : Bool) → is_within (beside m) ≡ t → cond t (Some (techmap_of m)) None ≡ Some n → IsPass table m n
+    by true w f = let same : techmap_of m ≡ n = cc in subst (IsPass table m) same (techmap_pass table m h (within_limits (beside m) w))
+    by false w f = absurd cc
 
 -- a script of such words may be applied to a module that may be given to a pass, since each pass leaves such a module
 pub stage_applicable : (script : List Word) (table : PortTable) (m : Module) → IsStageScript script → MayBeGiven table m → AreApplicable script table m

@@ -65,7 +65,7 @@ HasPass OptClean = ⊥
 HasPass Opt = ⊥
 HasPass Fsm = ⊥
 HasPass Memory = ⊥
-HasPass Techmap = ⊥
+HasPass Techmap = Unit {0}
 
 -- a script of such words alone
 abbrev pub IsStageScript : List Word → Type 0
