@@ -118,7 +118,11 @@ fn is_covered(earlier: &[SigSpec], pattern: &[SigBit]) -> bool
 }
 
 /// Whether the signal has at most 8 bits, and each of its values matches one of the patterns of constants.
-pub fn match_every_value(alloc: Global, signal: &[SigBit], patterns: &[SigSpec]) -> Result<bool, Memory>
+pub fn match_every_value(
+    alloc: Global,
+    signal: &[SigBit],
+    patterns: &[SigSpec],
+) -> Result<bool, Memory>
     ensures value { IfOk result (λ every. every ≡ rules.match_every_value signal.now patterns.now) }
 {
     if signal.len() > 8 {
