@@ -63,7 +63,7 @@ of_cold input d reads fine = by (first_over d.modules (cold stage_script d)) ref
           reads = reads;
           faultless = fine;
           whole = refl;
-          refines = cold_refines d (readable input d reads) fine stage_script (tt, (tt, tt)) n (none_over (outcome_of stage_script d.modules) d.modules e);
+          refines = cold_refines d (readable input d reads) fine stage_script (tt, (tt, (tt, (tt, tt)))) n (none_over (outcome_of stage_script d.modules) d.modules e);
         }
     by (Some over) e h = absurd cc
 
