@@ -1,5 +1,5 @@
 -- The operands of a cell, as they stand and as the rules mean them.
-use Rattle.std.specs.Prelude.{◌≡◌, ℕ, max, Bool, List, length, Option, Some, None}
+use Rattle.std.specs.Prelude.{◌≡◌, ℕ, max, Bool, List, [], length, Option, Some, None}
 use Rattle.cell_types.specs.declared.gate.GateKind.{GateKind}
 use Rattle.cell_types.specs.declared.gate.GateKind.TheVariants as GateOf
 use Rattle.cell_types.specs.declared.kind.CellKind.{CellKind}
@@ -32,20 +32,26 @@ counted_as (Gate kind) = counted_gate kind
 counted_as kind = None
 
 -- the width to which operands are extended, by their own widths and that of Y
-abbrev pub meant_width : CellKind → ℕ → ℕ → ℕ → ℕ
-meant_width (Word (Equal kind)) a b y = max a b
-meant_width (Word (Order kind)) a b y = max a b
-meant_width (Word (Division kind)) a b y = max (max a b) y
+abbrev pub meant_width : WordKind → ℕ → ℕ → ℕ → ℕ
+meant_width (Equal kind) a b y = max a b
+meant_width (Order kind) a b y = max a b
+meant_width (Division kind) a b y = max (max a b) y
 meant_width kind a b y = y
 
 -- whether they are extended with their top bits
-abbrev pub meant_signed : CellKind → Shape → Bool
-meant_signed (Word (Unary kind)) shape = shape.signs.a
+abbrev pub meant_signed : WordKind → Shape → Bool
+meant_signed (Unary kind) shape = shape.signs.a
 meant_signed kind shape = both_signed shape
 
--- an operand as it is meant, of a cell with these operands
+-- an operand as it is meant, of a word cell of a kind with these operands; of a cell that counts as none it is not read
+abbrev pub meant_as : Option WordKind → Shape → List SigBit → List SigBit → List SigBit → List SigBit
+meant_as (Some kind) shape a b operand =
+    extended operand (meant_width kind (length a) (length b) shape.widths.y) (meant_signed kind shape)
+meant_as None shape a b operand = []
+
+-- the same of a cell of a shape
 abbrev pub meant_of : Shape → List SigBit → List SigBit → List SigBit → List SigBit
-meant_of shape a b operand = extended operand (meant_width shape.kind (length a) (length b) shape.widths.y) (meant_signed shape.kind shape)
+meant_of shape a b operand = meant_as (counted_as shape.kind) shape a b operand
 
 -- the operands of a cell of a shape with these signals at A, B and S, and these signals of the inverters below it
 abbrev pub operands_of : Shape → List SigBit → List SigBit → List SigBit → Option SigBit → Option (List SigBit) → Operands

@@ -2,7 +2,7 @@
 
 ghost use Rattle.std.specs.Prelude.{◌≡◌, IfOk};
 ghost use Rattle.rtl_sig.specs.Signal.{extended};
-ghost use Rattle.expr_rules.specs.Operands.{counted_as, counted_gate, meant_signed, meant_width, operands_of};
+ghost use Rattle.expr_rules.specs.Operands.{counted_as, counted_gate, meant_of, meant_signed, meant_width, operands_of};
 
 use cell_types::{BitwiseKind, CellKind, GateKind, Shape, UnaryKind, WordKind};
 use rtl_bits::{Bit, Memory};
@@ -39,11 +39,8 @@ impl Operands {
     ) -> Result<Operands, Memory>
         ensures value { IfOk result (λ o. o ≡ operands_of shape.now a b s inverted inner) }
     {
-        let signed = meant_signed(shape);
-        let (wide, high) = (a.as_slice().len(), b.as_slice().len());
-        let width = meant_width(shape.kind, wide, high, shape.widths.y as usize);
-        let left = extended(alloc, a.as_slice(), width, signed)?;
-        let right = extended(alloc, b.as_slice(), width, signed)?;
+        let left = meant(alloc, shape, &a, &b, &a)?;
+        let right = meant(alloc, shape, &a, &b, &b)?;
         Ok(Operands {
             a,
             b,
@@ -83,24 +80,44 @@ pub(crate) fn counted_as(kind: CellKind) -> Option<WordKind>
     }
 }
 
+/// An operand as it is meant, of a cell with these operands.
+fn meant(
+    alloc: Global,
+    shape: &Shape,
+    a: &SigSpec,
+    b: &SigSpec,
+    operand: &SigSpec,
+) -> Result<SigSpec, Memory>
+    ensures value { IfOk result (λ word. word ≡ meant_of shape.now a.now b.now operand.now) }
+{
+    match counted_as(shape.kind) {
+        Some(kind) => {
+            let (wide, high) = (a.as_slice().len(), b.as_slice().len());
+            let width = meant_width(kind, wide, high, shape.widths.y as usize);
+            extended(alloc, operand.as_slice(), width, meant_signed(kind, shape))
+        }
+        None => Ok(SigSpec::make(alloc)),
+    }
+}
+
 /// The width to which operands are extended, by their own widths and that of Y.
-fn meant_width(kind: CellKind, a: usize, b: usize, y: usize) -> usize
+fn meant_width(kind: WordKind, a: usize, b: usize, y: usize) -> usize
     ensures value { result ≡ meant_width kind a b y }
 {
     match kind {
-        CellKind::Word(WordKind::Equal(_)) => a.max(b),
-        CellKind::Word(WordKind::Order(_)) => a.max(b),
-        CellKind::Word(WordKind::Division(_)) => a.max(b).max(y),
+        WordKind::Equal(_) => a.max(b),
+        WordKind::Order(_) => a.max(b),
+        WordKind::Division(_) => a.max(b).max(y),
         _ => y,
     }
 }
 
 /// Whether they are extended with their top bits.
-fn meant_signed(shape: &Shape) -> bool
-    ensures value { result ≡ meant_signed shape.now.kind shape.now }
+fn meant_signed(kind: WordKind, shape: &Shape) -> bool
+    ensures value { result ≡ meant_signed kind shape.now }
 {
-    match shape.kind {
-        CellKind::Word(WordKind::Unary(_)) => shape.signs.a,
+    match kind {
+        WordKind::Unary(_) => shape.signs.a,
         _ => shape.signs.a && shape.signs.b,
     }
 }
