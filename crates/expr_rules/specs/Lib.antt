@@ -1,0 +1,5 @@
+pub mod Signals
+pub mod Operands
+pub mod Change
+pub mod Rules
+pub mod Laws
