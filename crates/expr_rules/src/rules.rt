@@ -9,9 +9,10 @@ mod mux;
 mod wiring;
 
 ghost use Rattle.std.specs.Prelude.{◌≡◌, IfOk, None, Some};
-ghost use Rattle.expr_rules.specs.Laws.{IsComputed};
-ghost use Rattle.expr_rules.specs.Operands.{counted_as};
+ghost use Rattle.expr_rules.specs.Laws.{IsComputed, Refines};
+ghost use Rattle.expr_rules.specs.Operands.{IsMeant, counted_as};
 ghost use Rattle.expr_rules.specs.Rules.{change_of, first_of, result_as, result_by, result_of, result_of_gate, rules_in_order};
+ghost use Rattle.expr_rules.specs.declared.change.Change.{Change};
 
 use crate::change::Change;
 use crate::operands::{Operands, counted_as};
@@ -195,7 +196,8 @@ fn first_of(
 }
 
 /// What comes in the place of a combinational cell of this shape with these operands, by the first rule that fits. A
-/// signal that it gives is as wide as Y.
+/// signal that it gives is as wide as Y. In the Yosys manual, "opt_expr".
+#[tactic(auto, using(crate::proofs::RuleLaws::change_refines))]
 pub fn first_fit(
     alloc: Global,
     shape: &Shape,
@@ -203,6 +205,8 @@ pub fn first_fit(
 ) -> Result<Option<Change>, Memory>
     requires computed { IsComputed shape.now.kind shape.now operands.now }
     ensures exact { IfOk result (λ change. change ≡ change_of shape.now operands.now) }
+    ensures refines { IfOk result (λ found. IsMeant shape.now operands.now →
+        (change : Change) → found ≡ Some change → Refines shape.now operands.now change) }
 {
     match first_of(alloc, &RULES, shape, operands)? {
         Some(change) => Ok(Some(change.fitted(shape.widths.y)?)),
