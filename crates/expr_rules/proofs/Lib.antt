@@ -15,4 +15,7 @@ pub mod ArithLaws
 pub mod CompareLaws
 pub mod DivisionLaws
 pub mod FoldLaws
+pub mod Meant
+pub mod Distances
+pub mod ShiftLaws
 pub mod RuleLaws

@@ -36,6 +36,7 @@ use Rattle.expr_rules.specs.Rules.Compare.{compare}
 use Rattle.expr_rules.specs.Rules.Fold.{one_bit}
 use Rattle.expr_rules.specs.Rules.Logic.{and_with_ones, double_not, equal_operands, equal_parity, or_with_zeros, xor_with_ones}
 use Rattle.expr_rules.specs.Rules.Mux.{equal_arms, inverted_select, known_select, select_inverse, select_itself, unknown_arm}
+use Rattle.expr_rules.specs.Rules.Shift.{known_shift}
 use Rattle.expr_rules.specs.Rules.Wiring.{buffer, wiring}
 use Rattle.expr_rules.specs.declared.change.Change.{Change}
 use Rattle.expr_rules.specs.declared.change.Change.TheVariants.{Gives, Becomes}
@@ -52,6 +53,7 @@ use Rattle.expr_rules.proofs.LogicLaws.{and_with_ones_says, double_not_says, equ
 use Rattle.expr_rules.proofs.MuxLaws.{equal_arms_says, inverted_select_says, known_select_says, mux_bit, select_inverse_says, select_itself_says, unknown_arm_says}
 use Rattle.expr_rules.proofs.Reading.{extended_below, extended_bit, read_word, word_at}
 use Rattle.expr_rules.proofs.Says.{IsMeantAs, IsNarrow, RuleSays, WordSays, bit_of}
+use Rattle.expr_rules.proofs.ShiftLaws.{known_shift_says}
 use Rattle.expr_rules.proofs.WiringLaws.{buffer_says, wiring_says}
 
 narrow_of : (kind : CellKind) (shape : Shape) (o : Operands) → IsComputed kind shape o → IsNarrow kind shape.widths.y
@@ -157,6 +159,7 @@ module _ (f : SigBit → Bit) (fixed : IsReading f) (shape : Shape) (o : Operand
     word_rule_says By.MulByBit kind c change e = by_kind (λ kind. mul_by_bit kind shape o) (mul_by_bit_says f fixed shape o) kind c change e
     word_rule_says By.MulByPower kind c change e = by_kind (λ kind. mul_by_power kind o) (mul_by_power_says f fixed shape o) kind c change e
     word_rule_says By.DivideByPower kind c change e = by_kind (λ kind. divide_by_power kind shape o) (divide_by_power_says f fixed shape o) kind c change e
+    word_rule_says By.KnownShift kind c change e = by_kind (λ kind. known_shift kind shape o) (known_shift_says f fixed shape o) kind c change e
     word_rule_says By.Compare kind c change e = by_kind (λ kind. compare kind shape.kind shape o) (compare_says f fixed shape o shape.kind narrow) kind c change e
     word_rule_says By.OneBit kind c change e = by_kind (λ kind. one_bit kind shape.kind shape o) (one_bit_says f fixed shape o shape.kind narrow) kind c change e
 

@@ -6,6 +6,7 @@ mod constants;
 mod fold;
 mod logic;
 mod mux;
+mod shift;
 mod wiring;
 
 ghost use Rattle.std.specs.Prelude.{◌≡◌, IfOk, None, Some};
@@ -26,6 +27,7 @@ use crate::rules::logic::{
 use crate::rules::mux::{
     equal_arms, inverted_select, known_select, select_inverse, select_itself, unknown_arm,
 };
+use crate::rules::shift::known_shift;
 use crate::rules::wiring::{buffer, wiring};
 use cell_types::{Shape, WordKind};
 use rtl_bits::Memory;
@@ -76,6 +78,8 @@ pub enum Rule {
     MulByPower,
     /// A division cell with a constant power of two below.
     DivideByPower,
+    /// A shift by a known number of places.
+    KnownShift,
     /// A compare of equal operands, or of one bit with a constant.
     Compare,
     /// A fold of one bit, a `$pmux` of one part.
@@ -83,7 +87,7 @@ pub enum Rule {
 }
 
 /// The order of the rules.
-pub const RULES: [Rule; 23] = [
+pub const RULES: [Rule; 24] = [
     Rule::ConstantInputs,
     Rule::KnownValue,
     Rule::Buffer,
@@ -105,6 +109,7 @@ pub const RULES: [Rule; 23] = [
     Rule::MulByBit,
     Rule::MulByPower,
     Rule::DivideByPower,
+    Rule::KnownShift,
     Rule::Compare,
     Rule::OneBit,
 ];
@@ -129,6 +134,7 @@ impl Rule {
     /// The same of a cell that counts as a word cell of this kind.
     #[rattlefmt::skip]
     fn of_word(self, alloc: Global, kind: WordKind, shape: &Shape, operands: &Operands) -> Result<Option<Change>, Memory>
+        requires counted { counted_as shape.now.kind ≡ Some kind }
         requires computed { IsComputed shape.now.kind shape.now operands.now }
         ensures exact { IfOk result (λ change. change ≡ result_by self kind shape.now operands.now) }
     {
@@ -154,6 +160,7 @@ impl Rule {
             Rule::MulByBit => mul_by_bit(alloc, kind, shape, operands),
             Rule::MulByPower => mul_by_power(alloc, kind, operands),
             Rule::DivideByPower => divide_by_power(alloc, kind, shape, operands),
+            Rule::KnownShift => known_shift(alloc, kind, shape, operands),
             Rule::Compare => compare(alloc, kind, shape, operands),
             Rule::OneBit => one_bit(alloc, kind, shape, operands),
         }
