@@ -5,3 +5,17 @@ pub mod Reading
 pub mod Tables
 pub mod Says
 pub mod MuxLaws
+pub mod LogicLaws
+pub mod WiringLaws
+pub mod ConstantLaws
+pub mod Integers
+pub mod Digits
+pub mod ConstantWords
+pub mod ArithLaws
+pub mod CompareLaws
+pub mod DivisionLaws
+pub mod FoldLaws
+pub mod Meant
+pub mod Distances
+pub mod ShiftLaws
+pub mod RuleLaws

@@ -29,7 +29,7 @@ use Rattle.expr_rules.proofs.Tables.{mux_inverse, mux_itself, mux_left, mux_none
 
 module _ (f : SigBit → Bit) (fixed : IsReading f) (shape : Shape) (o : Operands) where
   -- a bit of the output
-  mux_bit : (at : ℕ) → at < shape.widths.y → bit_of f shape o Word.Mux at ≡ mux_of (read_at f o.a at) (read_at f o.b at) (read_at f o.s 0)
+  pub mux_bit : (at : ℕ) → at < shape.widths.y → bit_of f shape o Word.Mux at ≡ mux_of (read_at f o.a at) (read_at f o.b at) (read_at f o.s 0)
   mux_bit at h =
       word_at (λ at. mux_of (slice_index_or (map f o.a) at X) (slice_index_or (map f o.b) at X) (slice_index_or (map f o.s) 0 X)) shape.widths.y at h
       ∙ ap (λ z. mux_of z (slice_index_or (map f o.b) at X) (slice_index_or (map f o.s) 0 X)) (read_word f fixed o.a at)

@@ -28,7 +28,7 @@ named_code Z = refl
 named_code M = refl
 named_code Dash = refl
 
-equal_numbers : (m n : ℕ) → (m == n) ≡ true → m ≡ n
+pub equal_numbers : (m n : ℕ) → (m == n) ≡ true → m ≡ n
 equal_numbers m n e = grind (arith, nat_tests)
 
 pub same_is : (a b : SigBit) → same a b ≡ true → a ≡ b

@@ -4,6 +4,7 @@ pub mod Wiring
 pub mod Mux
 pub mod Logic
 pub mod Arith
+pub mod Shift
 pub mod Compare
 pub mod Fold
 use Rattle.std.specs.Prelude.{List, [], ◌∷◌, Option, Some, None}
@@ -19,6 +20,7 @@ use Rattle.expr_rules.specs.Rules.Constants.{constant_inputs, known_value}
 use Rattle.expr_rules.specs.Rules.Fold.{one_bit}
 use Rattle.expr_rules.specs.Rules.Logic.{and_with_ones, double_not, equal_operands, equal_parity, or_with_zeros, xor_with_ones}
 use Rattle.expr_rules.specs.Rules.Mux.{equal_arms, inverted_select, known_select, select_inverse, select_itself, unknown_arm}
+use Rattle.expr_rules.specs.Rules.Shift.{known_shift}
 use Rattle.expr_rules.specs.Rules.Wiring.{buffer, wiring}
 use Rattle.expr_rules.specs.declared.change.Change.{Change}
 use Rattle.expr_rules.specs.declared.operands.Operands.{Operands}
@@ -48,6 +50,7 @@ result_by By.EqualDifference kind shape o = equal_difference kind shape o
 result_by By.MulByBit kind shape o = mul_by_bit kind shape o
 result_by By.MulByPower kind shape o = mul_by_power kind o
 result_by By.DivideByPower kind shape o = divide_by_power kind shape o
+result_by By.KnownShift kind shape o = known_shift kind shape o
 result_by By.Compare kind shape o = compare kind shape.kind shape o
 result_by By.OneBit kind shape o = one_bit kind shape.kind shape o
 
@@ -90,6 +93,7 @@ rules_in_order =
     ∷ By.MulByBit
     ∷ By.MulByPower
     ∷ By.DivideByPower
+    ∷ By.KnownShift
     ∷ By.Compare
     ∷ By.OneBit
     ∷ []

@@ -1,8 +1,8 @@
 //! The operands of a cell, as they stand and as the rules mean them.
 
 ghost use Rattle.std.specs.Prelude.{◌≡◌, IfOk};
-ghost use Rattle.rtl_sig.specs.Signal.{extended};
-ghost use Rattle.expr_rules.specs.Operands.{counted_as, counted_gate, meant_of, meant_signed, meant_width, operands_of};
+ghost use Rattle.rtl_sig.specs.Signal.{extended, fill_of};
+ghost use Rattle.expr_rules.specs.Operands.{IsMeant, counted_as, counted_gate, meant_of, meant_signed, meant_width, operands_of};
 
 use cell_types::{BitwiseKind, CellKind, GateKind, Shape, UnaryKind, WordKind};
 use rtl_bits::{Bit, Memory};
@@ -28,6 +28,7 @@ pub struct Operands {
 
 impl Operands {
     /// The operands of a cell of a shape, with these signals at A, B and S, and these signals of inverters below it.
+    #[tactic(auto, using(crate::proofs::Meant::operands_meant))]
     pub fn of(
         alloc: Global,
         shape: &Shape,
@@ -38,6 +39,7 @@ impl Operands {
         inner: Option<SigSpec>,
     ) -> Result<Operands, Memory>
         ensures value { IfOk result (λ o. o ≡ operands_of shape.now a b s inverted inner) }
+        ensures meant { IfOk result (IsMeant shape.now) }
     {
         let left = meant(alloc, shape, &a, &b, &a)?;
         let right = meant(alloc, shape, &a, &b, &b)?;
@@ -131,11 +133,18 @@ fn extended(
 ) -> Result<SigSpec, Memory>
     ensures value { IfOk result (λ sig. sig ≡ extended bits.now width signed) }
 {
-    let fill = match bits.last() {
-        Some(top) if signed => *top,
-        _ => SigBit::Fixed(Bit::S0),
-    };
+    let fill = fill_of(bits, signed);
     let mut wide = Vec::from_slice(alloc, bits)?;
     wide.resize(width, fill)?;
     Ok(SigSpec::from_vec(wide))
+}
+
+/// What fills a signal up: its top bit where it is signed, else 0.
+pub(crate) fn fill_of(bits: &[SigBit], signed: bool) -> SigBit
+    ensures value { result ≡ fill_of bits.now signed }
+{
+    match bits.last() {
+        Some(top) if signed => *top,
+        _ => SigBit::Fixed(Bit::S0),
+    }
 }

@@ -6,12 +6,14 @@ mod constants;
 mod fold;
 mod logic;
 mod mux;
+mod shift;
 mod wiring;
 
 ghost use Rattle.std.specs.Prelude.{◌≡◌, IfOk, None, Some};
-ghost use Rattle.expr_rules.specs.Laws.{IsComputed};
-ghost use Rattle.expr_rules.specs.Operands.{counted_as};
+ghost use Rattle.expr_rules.specs.Laws.{IsComputed, Refines};
+ghost use Rattle.expr_rules.specs.Operands.{IsMeant, counted_as};
 ghost use Rattle.expr_rules.specs.Rules.{change_of, first_of, result_as, result_by, result_of, result_of_gate, rules_in_order};
+ghost use Rattle.expr_rules.specs.declared.change.Change.{Change};
 
 use crate::change::Change;
 use crate::operands::{Operands, counted_as};
@@ -25,6 +27,7 @@ use crate::rules::logic::{
 use crate::rules::mux::{
     equal_arms, inverted_select, known_select, select_inverse, select_itself, unknown_arm,
 };
+use crate::rules::shift::known_shift;
 use crate::rules::wiring::{buffer, wiring};
 use cell_types::{Shape, WordKind};
 use rtl_bits::Memory;
@@ -75,6 +78,8 @@ pub enum Rule {
     MulByPower,
     /// A division cell with a constant power of two below.
     DivideByPower,
+    /// A shift by a known number of places.
+    KnownShift,
     /// A compare of equal operands, or of one bit with a constant.
     Compare,
     /// A fold of one bit, a `$pmux` of one part.
@@ -82,7 +87,7 @@ pub enum Rule {
 }
 
 /// The order of the rules.
-pub const RULES: [Rule; 23] = [
+pub const RULES: [Rule; 24] = [
     Rule::ConstantInputs,
     Rule::KnownValue,
     Rule::Buffer,
@@ -104,6 +109,7 @@ pub const RULES: [Rule; 23] = [
     Rule::MulByBit,
     Rule::MulByPower,
     Rule::DivideByPower,
+    Rule::KnownShift,
     Rule::Compare,
     Rule::OneBit,
 ];
@@ -128,6 +134,7 @@ impl Rule {
     /// The same of a cell that counts as a word cell of this kind.
     #[rattlefmt::skip]
     fn of_word(self, alloc: Global, kind: WordKind, shape: &Shape, operands: &Operands) -> Result<Option<Change>, Memory>
+        requires counted { counted_as shape.now.kind ≡ Some kind }
         requires computed { IsComputed shape.now.kind shape.now operands.now }
         ensures exact { IfOk result (λ change. change ≡ result_by self kind shape.now operands.now) }
     {
@@ -153,6 +160,7 @@ impl Rule {
             Rule::MulByBit => mul_by_bit(alloc, kind, shape, operands),
             Rule::MulByPower => mul_by_power(alloc, kind, operands),
             Rule::DivideByPower => divide_by_power(alloc, kind, shape, operands),
+            Rule::KnownShift => known_shift(alloc, kind, shape, operands),
             Rule::Compare => compare(alloc, kind, shape, operands),
             Rule::OneBit => one_bit(alloc, kind, shape, operands),
         }
@@ -195,7 +203,8 @@ fn first_of(
 }
 
 /// What comes in the place of a combinational cell of this shape with these operands, by the first rule that fits. A
-/// signal that it gives is as wide as Y.
+/// signal that it gives is as wide as Y. In the Yosys manual, "opt_expr".
+#[tactic(auto, using(crate::proofs::RuleLaws::change_refines))]
 pub fn first_fit(
     alloc: Global,
     shape: &Shape,
@@ -203,6 +212,8 @@ pub fn first_fit(
 ) -> Result<Option<Change>, Memory>
     requires computed { IsComputed shape.now.kind shape.now operands.now }
     ensures exact { IfOk result (λ change. change ≡ change_of shape.now operands.now) }
+    ensures refines { IfOk result (λ found. IsMeant shape.now operands.now →
+        (change : Change) → found ≡ Some change → Refines shape.now operands.now change) }
 {
     match first_of(alloc, &RULES, shape, operands)? {
         Some(change) => Ok(Some(change.fitted(shape.widths.y)?)),
