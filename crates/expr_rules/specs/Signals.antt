@@ -1,0 +1,78 @@
+-- Words of constants and of bits of wires, and the tests that the rules make.
+use Rattle.std.specs.Prelude.{ℕ, suc, ◌+◌, ◌==◌, ◌&&◌, Bool, true, false, List, [], ◌∷◌, length, map, replicate, slice_index_or, Option, Some, None, if◌then◌else◌}
+use Rattle.std.specs.Option.{option_map}
+use Rattle.std.specs.List.{list_all, range_with_len}
+use Rattle.rtl_bits.specs.declared.bit.Bit.{Bit}
+use Rattle.rtl_bits.specs.declared.bit.Bit.TheVariants.{S0, S1, X, Z, M, Dash}
+use Rattle.rtl_bits.specs.Knowledge.{is_known}
+use Rattle.rtl_sig.specs.declared.sig.SigBit.{SigBit}
+use Rattle.rtl_sig.specs.declared.sig.SigBit.TheVariants.{Fixed, Wire as OnWire}
+
+-- a constant as itself, any other bit as x
+abbrev pub constant_of : SigBit → Bit
+constant_of (Fixed b) = b
+constant_of (OnWire b) = X
+
+-- the bits of a word, those that are not constant as x
+abbrev pub constants_of : List SigBit → List Bit
+constants_of word = map constant_of word
+
+-- a bit is the constant 0
+abbrev pub is_zero : SigBit → Bool
+is_zero (Fixed S0) = true
+is_zero b = false
+
+-- a bit is the constant 1
+abbrev pub is_one : SigBit → Bool
+is_one (Fixed S1) = true
+is_one b = false
+
+-- a bit is the constant 0 or 1
+abbrev pub is_known_constant : SigBit → Bool
+is_known_constant (Fixed b) = is_known b
+is_known_constant (OnWire b) = false
+
+-- a bit is a constant that is neither
+abbrev pub is_unknown_constant : SigBit → Bool
+is_unknown_constant (Fixed S0) = false
+is_unknown_constant (Fixed S1) = false
+is_unknown_constant (Fixed b) = true
+is_unknown_constant (OnWire b) = false
+
+-- the numbers of the six values
+abbrev pub code_of : Bit → ℕ
+code_of S0 = 0
+code_of S1 = 1
+code_of X = 2
+code_of Z = 3
+code_of M = 4
+code_of Dash = 5
+
+-- two bits are one: one constant, where x and z differ, or one bit of a wire
+abbrev pub same : SigBit → SigBit → Bool
+same (Fixed a) (Fixed b) = code_of a == code_of b
+same (OnWire a) (OnWire b) = (a.wire == b.wire) && (a.at == b.at)
+same a b = false
+
+-- two words are one, place by place
+abbrev pub same_word : List SigBit → List SigBit → Bool
+same_word [] [] = true
+same_word [] (b ∷ bs) = false
+same_word (a ∷ as') [] = false
+same_word (a ∷ as') (b ∷ bs) = same a b && same_word as' bs
+
+-- a word is this one constant
+abbrev pub is_bit : Bit → List SigBit → Bool
+is_bit b word = same_word word (Fixed b ∷ [])
+
+-- the lowest bit of a word
+abbrev pub first_bit : List SigBit → SigBit
+first_bit word = slice_index_or word 0 (Fixed X)
+
+-- a word of one constant
+abbrev pub filled : ℕ → Bit → List SigBit
+filled width b = replicate width (Fixed b)
+
+-- the bits of a word from a place on
+abbrev pub part_of : List SigBit → ℕ → ℕ → List SigBit
+part_of word offset width = map (λ at. slice_index_or word (offset + at) (Fixed X)) (range_with_len 0 width)

@@ -1,0 +1,13 @@
+pub mod Chars
+pub mod Widths
+pub mod Rows
+pub mod Inverting
+pub mod Others
+pub mod Known
+pub mod Forming
+pub mod Making
+pub mod Fitting
+pub mod Visiting
+pub mod Ruling
+pub mod Sweeping
+pub mod Steps

@@ -1,0 +1,215 @@
+-- The widths of the pins of a cell that fits its kind.
+use Rattle.std.proofs.Common.{◌≡◌, ℕ, ◌≤◌, Bool, true, false, not, ◌||◌, List, [], ◌∷◌, length, Some, None, inl, inr, refl, sym, ◌∙◌, ap, subst, arith}
+use Rattle.std.specs.Prelude.{if◌then◌else◌, ◌==◌, ◌&&◌, ◌+◌, cond, find}
+use Rattle.std.specs.List.{count_by, fold, list_all, list_any}
+use Rattle.std.specs.Option.{option_map_or}
+use Rattle.std.specs.Str.{bytes_eq}
+use Rattle.std.proofs.lemmas.Bool.{true≢false, and_parts, eqb-true, ltb-false}
+use Rattle.cell_types.specs.declared.given.Param.{Param}
+use Rattle.cell_types.specs.declared.given.PinWidth.{PinWidth}
+use Rattle.cell_types.specs.declared.kind.CellKind.{CellKind}
+use Rattle.cell_types.specs.declared.pin_name.PinName.{PinName}
+use Rattle.cell_types.specs.declared.kind.CellKind.TheVariants as Cells
+use Rattle.cell_types.specs.declared.pin_name.PinName.TheVariants.{A, B, S, Y}
+use Rattle.cell_types.specs.declared.word.UnaryKind.TheVariants.{Not, Pos, Neg}
+use Rattle.cell_types.specs.declared.word.WordKind.{WordKind}
+use Rattle.cell_types.specs.declared.word.WordKind.TheVariants.{Unary, Fold, Bitwise, Logic, Equal, Order, Arith, Division, Shift, Mux, Pmux, Slice, Concat}
+use Rattle.cell_types.specs.declared.fault.CellFault.TheVariants.{Bad, Wide, Width}
+use Rattle.cell_types.specs.Fault.{are_params_good, are_pins_good, fault_of, fits, has_no_meaning, has_other_width, has_pin, has_width, is_bad, is_joined, is_wide, is_wide_pin, limit_of, may_lack}
+use Rattle.cell_types.specs.Shape.{small}
+use Rattle.cell_word.specs.Values.{IsWithin}
+use Rattle.rtl_bits.specs.declared.bit.Bit.{Bit}
+use Rattle.cell_types.specs.PinName.{pin_text}
+use Rattle.cell_types.specs.Pins.{pins_of}
+use Rattle.cell_types.specs.Widths.{pin_width}
+use Rattle.rtl_ir.specs.declared.cell.Cell.{Cell}
+use Rattle.rtl_ir.specs.declared.cell.Pin.{Pin}
+use Rattle.rtl_ir.specs.Faults.Cells.{misfit, pin_widths}
+use Rattle.rtl_ir.specs.Flat.Cell.{cell_shape}
+use Rattle.rtl_ir.specs.Parameters.{given_params, signal_at}
+use Rattle.net_model.specs.Lists.{In}
+use Rattle.opt_expr.specs.Places.{combinational}
+
+not_false : (a : Bool) → not a ≡ false → a ≡ true
+not_false true e = refl
+not_false false e = absurd (true≢false e)
+
+-- a cell without fault is neither bad nor too wide, and each pin has its width
+pub faultless : (kind : CellKind) (params : List Param) (pins : List PinWidth) → fault_of kind params pins ≡ None → (is_wide kind params ≡ false) × (list_all (has_width kind params pins) (pins_of kind) ≡ true)
+faultless kind params pins e =
+    by (is_bad kind params pins) (is_wide kind params) (has_other_width kind params pins) refl refl refl
+  where
+    by : (bad wide other : Bool) → is_bad kind params pins ≡ bad → is_wide kind params ≡ wide → has_other_width kind params pins ≡ other → (is_wide kind params ≡ false) × (list_all (has_width kind params pins) (pins_of kind) ≡ true)
+    by true wide other b w o = absurd (let none : fault_of kind params pins ≡ None = e in cc)
+    by false true other b w o = absurd (let none : fault_of kind params pins ≡ None = e in cc)
+    by false false true b w o = absurd (let none : fault_of kind params pins ≡ None = e in cc)
+    by false false false b w o = (w, not_false (list_all (has_width kind params pins) (pins_of kind)) o)
+
+-- the signal at a pin is no wider than the pin of that name
+pub signal_width : (kind : CellKind) (params : List Param) (pins : List Pin) (name : PinName) → has_width kind params (pin_widths pins) name ≡ true → length (signal_at pins (pin_text name)) ≤ pin_width kind params name
+signal_width kind params [] name e = omega arith
+signal_width kind params (p ∷ pins) name e =
+    let both = and_parts (fits kind params name (record { name = p.name; width = length p.sig })) (has_width kind params (pin_widths pins) name) e in
+    by (signal_width kind params pins name both.1) both.0 (bytes_eq p.name (pin_text name)) refl
+  where
+    by : length (signal_at pins (pin_text name)) ≤ pin_width kind params name → fits kind params name (record { name = p.name; width = length p.sig }) ≡ true → (t : Bool) → bytes_eq p.name (pin_text name) ≡ t → length (signal_at (p ∷ pins) (pin_text name)) ≤ pin_width kind params name
+    by rest h true f =
+        let here : (length p.sig == pin_width kind params name) ≡ true = subst (λ z. (not z || (length p.sig == pin_width kind params name)) ≡ true) f h in
+        let same : length p.sig ≡ pin_width kind params name = eqb-true (length p.sig) (pin_width kind params name) here in
+        subst (λ z. length (option_map_or (λ (q : Pin). q.sig) (if z then Some p else find (λ (q : Pin). bytes_eq q.name (pin_text name)) pins) []) ≤ pin_width kind params name) (sym f) (omega (arith, same))
+    by rest h false f =
+        subst (λ z. length (option_map_or (λ (q : Pin). q.sig) (if z then Some p else find (λ (q : Pin). bytes_eq q.name (pin_text name)) pins) []) ≤ pin_width kind params name) (sym f) rest
+
+-- the pins of a cell that fits its kind have their widths
+pub widths_fit : (kind : CellKind) (c : Cell) → misfit kind c ≡ None → list_all (has_width kind (given_params c.params) (pin_widths c.pins)) (pins_of kind) ≡ true
+unfolding misfit
+widths_fit kind c e = (faultless kind (given_params c.params) (pin_widths c.pins) e).1
+
+-- and are not too wide
+pub not_wide : (kind : CellKind) (c : Cell) → misfit kind c ≡ None → is_wide kind (given_params c.params) ≡ false
+unfolding misfit
+not_wide kind c e = (faultless kind (given_params c.params) (pin_widths c.pins) e).0
+
+-- how many pins have this name
+abbrev named_so : List ℕ → List Pin → ℕ
+named_so name [] = 0
+named_so name (p ∷ ps) = cond (bytes_eq p.name name) 1 0 + named_so name ps
+
+counted : (name : List ℕ) (n : ℕ) (ps : List Pin) → fold (λ k (p : PinWidth). k + cond (bytes_eq p.name name) 1 0) n (pin_widths ps) ≡ n + named_so name ps
+counted name n [] = omega arith
+counted name n (p ∷ ps) = omega (arith, counted name (n + cond (bytes_eq p.name name) 1 0) ps)
+
+-- the signal at a pin that is there has its width
+pub signal_fits : (kind : CellKind) (params : List Param) (pins : List Pin) (name : PinName) → has_width kind params (pin_widths pins) name ≡ true → named_so (pin_text name) pins ≡ 1 → length (signal_at pins (pin_text name)) ≡ pin_width kind params name
+signal_fits kind params [] name e one = absurd (omega arith)
+signal_fits kind params (p ∷ pins) name e one =
+    let both = and_parts (fits kind params name (record { name = p.name; width = length p.sig })) (has_width kind params (pin_widths pins) name) e in
+    by (signal_fits kind params pins name both.1) both.0 one (bytes_eq p.name (pin_text name)) refl
+  where
+    by : (named_so (pin_text name) pins ≡ 1 → length (signal_at pins (pin_text name)) ≡ pin_width kind params name) → fits kind params name (record { name = p.name; width = length p.sig }) ≡ true → named_so (pin_text name) (p ∷ pins) ≡ 1 → (t : Bool) → bytes_eq p.name (pin_text name) ≡ t → length (signal_at (p ∷ pins) (pin_text name)) ≡ pin_width kind params name
+    by rest h once true f =
+        let here : (length p.sig == pin_width kind params name) ≡ true = subst (λ z. (not z || (length p.sig == pin_width kind params name)) ≡ true) f h in
+        let same : length p.sig ≡ pin_width kind params name = eqb-true (length p.sig) (pin_width kind params name) here in
+        subst (λ z. length (option_map_or (λ (q : Pin). q.sig) (if z then Some p else find (λ (q : Pin). bytes_eq q.name (pin_text name)) pins) []) ≡ pin_width kind params name) (sym f) same
+    by rest h once false f =
+        let later : cond false 1 0 + named_so (pin_text name) pins ≡ 1 = subst (λ z. cond z 1 0 + named_so (pin_text name) pins ≡ 1) f once in
+        let there : named_so (pin_text name) pins ≡ 1 = omega (arith, later) in
+        subst (λ z. length (option_map_or (λ (q : Pin). q.sig) (if z then Some p else find (λ (q : Pin). bytes_eq q.name (pin_text name)) pins) []) ≡ pin_width kind params name) (sym f) (rest there)
+
+-- a width within a limit is not cut off
+pub not_cut : (n : ℕ) → n ≤ 4096 → small n ≡ n
+not_cut n le = omega arith
+
+any_false : (a b : Bool) → (a || b) ≡ false → (a ≡ false) × (b ≡ false)
+any_false true b e = absurd (true≢false e)
+any_false false b e = (refl, e)
+
+-- a pin of a word cell is within the limit of its kind
+pub record IsLimited (kind : WordKind) (params : List Param) (pins : List Pin) (name : PinName) : Type 0 where
+  pub signal : length (signal_at pins (pin_text name)) ≤ limit_of kind
+  pub width : pin_width (Cells.Word kind) params name ≤ limit_of kind
+
+limited : (kind : WordKind) (params : List Param) (pins : List Pin) (name : PinName) → has_width (Cells.Word kind) params (pin_widths pins) name ≡ true → is_wide_pin kind params name ≡ false → IsLimited kind params pins name
+limited kind params pins name h w =
+    let narrow : pin_width (Cells.Word kind) params name ≤ limit_of kind = ltb-false (limit_of kind) (pin_width (Cells.Word kind) params name) w in
+    let fits : length (signal_at pins (pin_text name)) ≤ pin_width (Cells.Word kind) params name = signal_width (Cells.Word kind) params pins name h in
+    record { signal = omega arith; width = narrow }
+
+-- each of some pins is
+abbrev AreLimited : WordKind → List Param → List Pin → List PinName → Type 0
+AreLimited kind params pins [] = Unit {0}
+AreLimited kind params pins (name ∷ names) = IsLimited kind params pins name × AreLimited kind params pins names
+
+all_limited : (kind : WordKind) (params : List Param) (pins : List Pin) (names : List PinName) → list_all (has_width (Cells.Word kind) params (pin_widths pins)) names ≡ true → list_any (is_wide_pin kind params) names ≡ false → AreLimited kind params pins names
+all_limited kind params pins [] h w = tt
+all_limited kind params pins (name ∷ names) h w =
+    let hs = and_parts (has_width (Cells.Word kind) params (pin_widths pins) name) (list_all (has_width (Cells.Word kind) params (pin_widths pins)) names) h in
+    let ws = any_false (is_wide_pin kind params name) (list_any (is_wide_pin kind params) names) w in
+    (limited kind params pins name hs.0 ws.0, all_limited kind params pins names hs.1 ws.1)
+
+-- the words at the pins of a cell that fits its kind are within the widths that its value is computed for
+module _ (c : Cell) (a b s : List Bit) (wide : length a ≡ length (signal_at c.pins (pin_text A))) (high : length b ≡ length (signal_at c.pins (pin_text B))) (long : length s ≡ length (signal_at c.pins (pin_text S))) where
+  three : (kind : WordKind) → limit_of kind ≡ 128 → IsLimited kind (given_params c.params) c.pins A → IsLimited kind (given_params c.params) c.pins B → IsLimited kind (given_params c.params) c.pins Y → (length a ≤ 128) × (length b ≤ 128) × (small (pin_width (Cells.Word kind) (given_params c.params) Y) ≤ 128)
+  three kind limit p q r = let x = p.signal in let y = q.signal in let z = r.width in (omega arith, omega arith, omega arith)
+
+  pub computed : (kind : WordKind) → misfit (Cells.Word kind) c ≡ None → IsWithin kind a b s (cell_shape (Cells.Word kind) c.params).widths.y
+  unfolding cell_shape
+  computed (Unary Not) fit = tt
+  computed (Unary Pos) fit = tt
+  computed (Unary Neg) fit =
+      let l = all_limited (Unary Neg) (given_params c.params) c.pins (A ∷ Y ∷ []) (widths_fit (Cells.Word (Unary Neg)) c fit) (not_wide (Cells.Word (Unary Neg)) c fit) in
+      let x = l.0.signal in
+      let z = l.1.0.width in
+      (omega arith, omega arith)
+  computed (Fold kind) fit = tt
+  computed (Bitwise kind) fit = tt
+  computed (Logic kind) fit = tt
+  computed (Equal kind) fit = tt
+  computed (Order kind) fit =
+      let l = all_limited (Order kind) (given_params c.params) c.pins (A ∷ B ∷ Y ∷ []) (widths_fit (Cells.Word (Order kind)) c fit) (not_wide (Cells.Word (Order kind)) c fit) in
+      let x = l.0.signal in
+      let y = l.1.0.signal in
+      (omega arith, omega arith)
+  computed (Arith kind) fit =
+      let l = all_limited (Arith kind) (given_params c.params) c.pins (A ∷ B ∷ Y ∷ []) (widths_fit (Cells.Word (Arith kind)) c fit) (not_wide (Cells.Word (Arith kind)) c fit) in
+      three (Arith kind) refl l.0 l.1.0 l.1.1.0
+  computed (Division kind) fit =
+      let l = all_limited (Division kind) (given_params c.params) c.pins (A ∷ B ∷ Y ∷ []) (widths_fit (Cells.Word (Division kind)) c fit) (not_wide (Cells.Word (Division kind)) c fit) in
+      three (Division kind) refl l.0 l.1.0 l.1.1.0
+  computed (Shift kind) fit =
+      let l = all_limited (Shift kind) (given_params c.params) c.pins (A ∷ B ∷ Y ∷ []) (widths_fit (Cells.Word (Shift kind)) c fit) (not_wide (Cells.Word (Shift kind)) c fit) in
+      let x = l.0.signal in
+      omega arith
+  computed Mux fit = tt
+  computed Pmux fit =
+      let l = all_limited Pmux (given_params c.params) c.pins (A ∷ B ∷ S ∷ Y ∷ []) (widths_fit (Cells.Word Pmux) c fit) (not_wide (Cells.Word Pmux) c fit) in
+      let x = l.1.1.0.signal in
+      omega arith
+  computed Slice fit = tt
+  computed Concat fit = tt
+
+-- each pin of a combinational cell that fits its kind stands there once
+pins_good : (kind : CellKind) (c : Cell) → misfit kind c ≡ None → are_pins_good kind (pin_widths c.pins) ≡ true
+unfolding misfit
+pins_good kind c e =
+    by (are_params_good kind (given_params c.params)) (are_pins_good kind (pin_widths c.pins)) (has_no_meaning kind (given_params c.params)) (is_wide kind (given_params c.params)) (has_other_width kind (given_params c.params) (pin_widths c.pins)) e
+  where
+    by : (a b d f g : Bool) → (if ((not a || not b) || d) then Some Bad else if f then Some Wide else if g then Some Width else None) ≡ None → b ≡ true
+    by a true d f g h = refl
+    by true false d f g h = absurd (cc)
+    by false false d f g h = absurd (cc)
+
+joined_in : (kind : CellKind) (pins : List PinWidth) (name : PinName) (names : List PinName) → In name names → list_all (is_joined kind pins) names ≡ true → is_joined kind pins name ≡ true
+joined_in kind pins name [] i e = absurd i
+joined_in kind pins name (n ∷ ns) (inl here) e =
+    ap (is_joined kind pins) here ∙ (and_parts (is_joined kind pins n) (list_all (is_joined kind pins) ns) e).0
+joined_in kind pins name (n ∷ ns) (inr i) e =
+    joined_in kind pins name ns i (and_parts (is_joined kind pins n) (list_all (is_joined kind pins) ns) e).1
+
+joined_once : (t u : Bool) → (t || (u && false)) ≡ true → t ≡ true
+joined_once true u e = refl
+joined_once false true e = absurd (cc)
+joined_once false false e = absurd (cc)
+
+all_in : {A : Type 0} (test : A → Bool) (x : A) (xs : List A) → In x xs → list_all test xs ≡ true → test x ≡ true
+all_in test x [] i e = absurd i
+all_in test x (y ∷ ys) (inl here) e = ap test here ∙ (and_parts (test y) (list_all test ys) e).0
+all_in test x (y ∷ ys) (inr i) e = all_in test x ys i (and_parts (test y) (list_all test ys) e).1
+
+lacks_none : (kind : CellKind) → combinational (Some kind) ≡ Some kind → (name : PinName) → may_lack kind name ≡ false
+lacks_none (Cells.Word kind) word name = refl
+lacks_none (Cells.Gate kind) word name = refl
+lacks_none (Cells.Storage kind) word name = absurd (cc)
+lacks_none (Cells.StorageGate kind) word name = absurd (cc)
+lacks_none (Cells.Memory kind) word name = absurd (cc)
+
+-- and has its width
+pub pin_fits : (kind : CellKind) (c : Cell) (name : PinName) → combinational (Some kind) ≡ Some kind → misfit kind c ≡ None → In name (pins_of kind) → length (signal_at c.pins (pin_text name)) ≡ pin_width kind (given_params c.params) name
+pin_fits kind c name word fit i =
+    let pins : List PinWidth = pin_widths c.pins in
+    let number : ℕ = count_by (λ (pin : PinWidth). bytes_eq pin.name (pin_text name)) pins in
+    let good : list_all (is_joined kind pins) (pins_of kind) ≡ true = (and_parts (list_all (is_joined kind pins) (pins_of kind)) (list_all (has_pin kind) pins) (pins_good kind c fit)).0 in
+    let joined : ((number == 1) || ((number == 0) && may_lack kind name)) ≡ true = joined_in kind pins name (pins_of kind) i good in
+    let once : number ≡ 1 = eqb-true number 1 (joined_once (number == 1) (number == 0) (ap (λ t. (number == 1) || ((number == 0) && t)) (sym (lacks_none kind word name)) ∙ joined)) in
+    let one : named_so (pin_text name) c.pins ≡ 1 = omega (arith, once, counted (pin_text name) 0 c.pins) in
+    signal_fits kind (given_params c.params) c.pins name (all_in (has_width kind (given_params c.params) (pin_widths c.pins)) name (pins_of kind) i (widths_fit kind c fit)) one

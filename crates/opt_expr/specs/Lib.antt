@@ -1,0 +1,4 @@
+pub mod Places
+pub mod Inverters
+pub mod Formed
+pub mod Sweep
