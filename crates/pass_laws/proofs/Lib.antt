@@ -9,3 +9,5 @@ pub mod Rewriting
 pub mod Outputs
 pub mod Placing
 pub mod Widening
+pub mod Driving
+pub mod Giving
