@@ -11,3 +11,4 @@ pub mod Placing
 pub mod Widening
 pub mod Driving
 pub mod Giving
+pub mod Promised
