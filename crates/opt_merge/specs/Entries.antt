@@ -1,0 +1,64 @@
+-- The cells that a table has by their traits.
+use Rattle.std.specs.Prelude.{◌≡◌, ◌⊎◌, ◌≤◌, ℕ, List, [], Option, Some, None, option_map, slice_get, slice_index_or}
+use Rattle.std.specs.Option.{option_map_or}
+use Rattle.rtl_bits.specs.declared.bit.Bit.{Bit}
+use Rattle.rtl_sig.specs.declared.sig.SigBit.{SigBit}
+use Rattle.cell_types.specs.declared.kind.CellKind.{CellKind}
+use Rattle.rtl_ir.specs.declared.cell.Cell.{Cell}
+use Rattle.rtl_ir.specs.declared.module.Link.{Link}
+use Rattle.rtl_ir.specs.declared.wire.Wire.{Wire}
+use Rattle.rtl_ir.specs.Flat.Start.{start_of}
+use Rattle.rtl_ir.specs.Follow.{follow}
+use Rattle.net_model.specs.Lists.{In}
+use Rattle.opt_merge.specs.declared.entries.Entries.{Entries}
+use Rattle.opt_merge.specs.declared.table.Table.{Table}
+use Rattle.opt_merge.specs.Merge.{traits_by}
+use Rattle.opt_merge.specs.Rows.{row_of}
+use Rattle.opt_merge.specs.Table.{at_row}
+use Rattle.opt_merge.specs.Traits.{Traits, merging_kind, traits_of}
+use Rattle.opt_merge.specs.View.{IsView}
+
+-- the traits of the cell at a place, if it may be merged
+abbrev pub traits_at : (SigBit → Bit) → List Link → List Cell → ℕ → Option Traits
+traits_at start links cells at = option_map_or (traits_by start links) (slice_get cells at) None
+
+-- the kind of the cell at a place, if it may be merged
+abbrev pub kind_at : List Cell → ℕ → Option CellKind
+kind_at cells at = option_map_or merging_kind (slice_get cells at) None
+
+-- the traits of the cell at a place, as one of a kind
+abbrev pub kind_traits : (SigBit → Bit) → List Link → CellKind → List Cell → ℕ → Option Traits
+kind_traits start links kind cells at = option_map (traits_of start links kind) (slice_get cells at)
+
+-- the traits of the cell at a place, if its kind is noted there
+abbrev pub noted_at : (SigBit → Bit) → List Link → List (Option CellKind) → List Cell → ℕ → Option Traits
+noted_at start links kinds cells at =
+    option_map_or (λ kind. kind_traits start links kind cells at) (slice_index_or kinds at None) None
+
+-- each input of these traits is where it leads back to
+abbrev pub AreEnds : List Link → Traits → Type 0
+AreEnds links t = (signal : List SigBit) → In signal t.inputs → (s : SigBit) → In s signal → follow links s ≡ s
+
+-- a place is at this row, and none behind it
+abbrev pub HasBefore : Table → List ℕ → ℕ → Type 0
+HasBefore table row at = (first : ℕ) × (at_row table row ≡ Some first) × (first ≤ at)
+
+-- the table has the first of the places whose cells have these traits
+pub record IsTable (traits : ℕ → Option Traits) (links : List Link) (places : List ℕ) (table : Table) : Type 0 where
+  pub sound :
+      (t : Traits) → AreEnds links t → (at : ℕ) → at_row table (row_of t) ≡ Some at → In at places × (traits at ≡ Some t)
+  pub full :
+      (t : Traits) → AreEnds links t → (at : ℕ) → In at places → traits at ≡ Some t → HasBefore table (row_of t) at
+
+-- cells with these traits were put into a table, those at the places of the list among them
+pub record Enters (traits : ℕ → Option Traits) (old new : Table) (places : List ℕ) : Type 0 where
+  pub sound :
+      (t : Traits) (at : ℕ) → at_row new (row_of t) ≡ Some at → (at_row old (row_of t) ≡ Some at) ⊎ (traits at ≡ Some t)
+  pub stays : (row : List ℕ) (at : ℕ) → at_row old row ≡ Some at → HasBefore new row at
+  pub full : (at : ℕ) → In at places → (t : Traits) → traits at ≡ Some t → HasBefore new (row_of t) at
+
+-- the entries after a connection more: they see these connections, and the cells at these places were put into the table
+pub record JoinsEntries (old new : Entries) (wires : List Wire) (links : List Link) (cells : List Cell) (places : List ℕ) : Type 0 where
+  pub view : IsView new.view wires links
+  pub kinds : new.kinds ≡ old.kinds
+  pub enters : Enters (noted_at (start_of wires []) links old.kinds.items cells) old.table new.table places

@@ -1,0 +1,9 @@
+pub mod Traits
+pub mod Merge
+pub mod Rows
+pub mod View
+pub mod Table
+pub mod Readers
+pub mod Reading
+pub mod Entries
+pub mod State

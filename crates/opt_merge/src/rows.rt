@@ -1,0 +1,232 @@
+//! What a cell is compared by, as a row of numbers.
+
+ghost use Rattle.std.specs.Prelude.{◌≡◌, ◌++◌, ◌∷◌, List, [], IfOk, OnOk, length, map, flat_map};
+ghost use Rattle.rtl_ir.specs.declared.module.Link.{Link};
+ghost use Rattle.rtl_ir.specs.declared.wire.Wire.{Wire};
+ghost use Rattle.rtl_ir.specs.Flat.Cell.{cell_shape};
+ghost use Rattle.rtl_ir.specs.Flat.Start.{start_of};
+ghost use Rattle.rtl_ir.specs.Follow.{follow};
+ghost use Rattle.net_alias.specs.Aliases.{IsAliases};
+ghost use Rattle.opt_merge.specs.Traits.{bit_number, flag_number, inputs_of, level_number, plain_numbers, shape_numbers, starts_of, traits_of};
+ghost use Rattle.opt_merge.specs.Rows.{bits_numbers, inits_of, lists_numbers, place_numbers, row_of, signal_numbers, signals_numbers, sized};
+ghost use Rattle.opt_merge.specs.View.{IsView};
+
+use crate::attributes::start;
+use crate::signals::{input_pins, output_of, signal_at};
+use cell_types::{CellFault, CellKind, Level, PinName, Shape};
+use net_alias::Aliases;
+use net_index::cell_shape;
+use rtl_bits::{Bit, Bits, Memory};
+use rtl_ir::{Cell, Pin};
+use rtl_sig::SigBit;
+use std::alloc::Global;
+
+/// What is known of a module where its cells are compared: the start values of its wires, and where bits lead back to.
+#[derive(Drop)]
+pub(crate) struct View {
+    pub(crate) alloc: Global,
+    pub(crate) inits: Vec<Bits>,
+    pub(crate) aliases: Aliases,
+}
+
+impl View {
+    /// What a cell of a kind is compared by. A cell that does not fit its kind is taken for want of memory.
+    pub(crate) fn row(&mut self, kind: CellKind, cell: &Cell) -> Result<Vec<u64>, Memory>
+        ensures value { IfOk result (λ row. (wires : List Wire) (links : List Link) → IsView self.old wires links → row.items ≡ row_of (traits_of (start_of wires []) links kind cell.now)) }
+        ensures keeps { (wires : List Wire) (links : List Link) → IsView self.old wires links → IsView self.new wires links }
+    {
+        let mut row = Vec::new(self.alloc);
+        row.push(output_of(kind, cell).len() as u64)?;
+        push_bytes(&mut row, cell.kind_name.as_slice())?;
+        push_shape(&mut row, &shape_of(self.alloc, kind, cell)?)?;
+        push_inputs(
+            &mut row,
+            &mut self.aliases,
+            input_pins(kind),
+            cell.pins.as_slice(),
+        )?;
+        push_starts(&mut row, self.inits.as_slice(), kind, cell)?;
+        Ok(row)
+    }
+}
+
+/// The shape of the cell.
+fn shape_of(alloc: Global, kind: CellKind, cell: &Cell) -> Result<Shape, Memory>
+    ensures value { IfOk result (λ shape. shape ≡ cell_shape kind cell.now.params) }
+{
+    match cell_shape(alloc, kind, cell) {
+        Ok(shape) => Ok(shape),
+        Err(_) => Err(Memory),
+    }
+}
+
+/// The bytes behind their length.
+fn push_bytes(row: &mut Vec<u64>, bytes: &[u8]) -> Result<(), Memory>
+    ensures ok { OnOk result (row.new.items ≡ row.old.items ++ sized bytes.now) }
+{
+    row.push(bytes.len() as u64)?;
+    for byte in bytes {
+        row.push(u64::from(*byte))?;
+    }
+    Ok(())
+}
+
+/// The bits as numbers, behind their length.
+fn push_bits(row: &mut Vec<u64>, bits: &[Bit]) -> Result<(), Memory>
+    ensures ok { OnOk result (row.new.items ≡ row.old.items ++ bits_numbers bits.now) }
+{
+    row.push(bits.len() as u64)?;
+    for bit in bits {
+        row.push(bit_number(*bit))?;
+    }
+    Ok(())
+}
+
+/// What the parameters of a cell say.
+fn push_shape(row: &mut Vec<u64>, shape: &Shape) -> Result<(), Memory>
+    ensures ok { OnOk result (row.new.items ≡ row.old.items ++ lists_numbers (shape_numbers shape.now)) }
+{
+    row.push(5)?;
+    push_numbers(row, shape)?;
+    push_bits(row, shape.resets.arst.as_slice())?;
+    push_bits(row, shape.resets.srst.as_slice())?;
+    push_bits(row, shape.port.mask.as_slice())?;
+    push_bits(row, shape.port.priority.as_slice())?;
+    Ok(())
+}
+
+/// The numbers among them.
+fn push_numbers(row: &mut Vec<u64>, shape: &Shape) -> Result<(), Memory>
+    ensures ok { OnOk result (row.new.items ≡ row.old.items ++ sized (plain_numbers shape.now)) }
+{
+    let widths = shape.widths;
+    let levels = shape.levels;
+    let numbers = [
+        19,
+        u64::from(widths.a),
+        u64::from(widths.b),
+        u64::from(widths.s),
+        u64::from(widths.y),
+        u64::from(shape.signs.a),
+        u64::from(shape.signs.b),
+        u64::from(shape.offset),
+        u64::from(shape.width),
+        level_number(levels.clk),
+        level_number(levels.en),
+        level_number(levels.arst),
+        level_number(levels.srst),
+        level_number(levels.aload),
+        level_number(levels.set),
+        level_number(levels.clr),
+        u64::from(shape.port.address),
+        u64::from(shape.port.clocked),
+        u64::from(shape.port.number),
+        u64::from(shape.port.words),
+    ];
+    row.extend_from_slice(&numbers)?;
+    Ok(())
+}
+
+/// The signals at these pins, followed, behind their number.
+fn push_inputs(
+    row: &mut Vec<u64>,
+    aliases: &mut Aliases,
+    names: &[PinName],
+    pins: &[Pin],
+) -> Result<(), Memory>
+    ensures ok { OnOk result ((links : List Link) → IsAliases aliases.old links → row.new.items ≡ row.old.items ++ signals_numbers (inputs_of links names.now pins.now)) }
+    ensures keeps { (links : List Link) → IsAliases aliases.old links → IsAliases aliases.new links }
+{
+    row.push(names.len() as u64)?;
+    for name in names {
+        push_signal(row, aliases, signal_at(pins, name.text()))?;
+    }
+    Ok(())
+}
+
+/// The signal, followed, behind its length.
+fn push_signal(row: &mut Vec<u64>, aliases: &mut Aliases, signal: &[SigBit]) -> Result<(), Memory>
+    ensures ok { OnOk result ((links : List Link) → IsAliases aliases.old links → row.new.items ≡ row.old.items ++ signal_numbers (map (follow links) signal.now)) }
+    ensures keeps { (links : List Link) → IsAliases aliases.old links → IsAliases aliases.new links }
+{
+    row.push(signal.len() as u64)?;
+    for bit in signal {
+        let end = aliases.follow(*bit);
+        push_place(row, end)?;
+    }
+    Ok(())
+}
+
+/// A bit of a signal, as two numbers.
+fn push_place(row: &mut Vec<u64>, bit: SigBit) -> Result<(), Memory>
+    ensures ok { OnOk result (row.new.items ≡ row.old.items ++ place_numbers bit) }
+{
+    match bit {
+        SigBit::Fixed(bit) => {
+            row.push(0)?;
+            row.push(bit_number(bit))?;
+        }
+        SigBit::Wire(bit) => {
+            row.push(u64::from(bit.wire) + 1)?;
+            row.push(u64::from(bit.at))?;
+        }
+    }
+    Ok(())
+}
+
+/// The start values of what the cell keeps, behind their number.
+fn push_starts(
+    row: &mut Vec<u64>,
+    inits: &[Bits],
+    kind: CellKind,
+    cell: &Cell,
+) -> Result<(), Memory>
+    ensures ok { OnOk result ((wires : List Wire) → inits.now ≡ inits_of wires → row.new.items ≡ row.old.items ++ bits_numbers (starts_of (start_of wires []) kind cell.now)) }
+{
+    match kind {
+        CellKind::Storage(_) | CellKind::StorageGate(_) => push_start_bits(
+            row,
+            inits,
+            output_of(kind, cell),
+        ),
+        _ => {
+            row.push(0)?;
+            Ok(())
+        }
+    }
+}
+
+/// The start values of these bits, behind their number.
+fn push_start_bits(row: &mut Vec<u64>, inits: &[Bits], signal: &[SigBit]) -> Result<(), Memory>
+    ensures ok { OnOk result ((wires : List Wire) → inits.now ≡ inits_of wires → row.new.items ≡ row.old.items ++ bits_numbers (map (start_of wires []) signal.now)) }
+{
+    row.push(signal.len() as u64)?;
+    for bit in signal {
+        row.push(bit_number(start(inits, *bit)))?;
+    }
+    Ok(())
+}
+
+/// A bit as a number.
+fn bit_number(bit: Bit) -> u64
+    ensures value { result ≡ bit_number bit }
+{
+    match bit {
+        Bit::S0 => 0,
+        Bit::S1 => 1,
+        Bit::X => 2,
+        Bit::Z => 3,
+        Bit::M => 4,
+        Bit::Dash => 5,
+    }
+}
+
+/// A level as a number.
+fn level_number(level: Level) -> u64
+    ensures value { result ≡ level_number level }
+{
+    match level {
+        Level::Low => 0,
+        Level::High => 1,
+    }
+}
