@@ -18,16 +18,13 @@ use Rattle.rtl_write.specs.Text.{body_text}
 use Rattle.rtl_write.specs.Ports.{ports_text}
 use Rattle.rtl_ir.specs.Types.{table_ports}
 use Rattle.net_model.specs.Lists.{In}
-use Rattle.tech_map.specs.Techmap.{beside, techmap_of}
-use Rattle.tech_map.proofs.Faultless.{plain}
-use Rattle.tech_map.proofs.Forming.{techmap_faultless}
 use Rattle.script_core.specs.declared.key.Key.{Key}
 use Rattle.script_core.specs.declared.outcome.Outcome.{Outcome}
 use Rattle.script_core.specs.declared.word.Word.{Word}
 use Rattle.script_core.specs.declared.word.Word.TheVariants.{Proc, OptExpr, OptMerge, OptClean, Opt, Fsm, Memory, Techmap}
 use Rattle.script_core.specs.Built.{body_name, unnamed, IsValueOf, IsAcceptedKey}
 use Rattle.script_core.specs.Cold.{table_of}
-use Rattle.script_core.specs.Fold.{fold_script, is_within, AfterWord, MayBeGiven}
+use Rattle.script_core.specs.Fold.{fold_script, MayBeGiven}
 use Rattle.script_core.specs.Keys.{body_text_at, key_of}
 use Rattle.script_core.proofs.BuildLemmas.{IsAt, module_at, readable_in}
 use Rattle.script_core.proofs.Given.{given_alone}
