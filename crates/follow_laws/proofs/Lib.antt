@@ -1,0 +1,13 @@
+pub mod Pairs
+pub mod Following
+pub mod Carrying
+pub mod Reading
+pub mod Meeting
+pub mod Signals
+pub mod Faultless
+pub mod Apart
+pub mod Rows
+pub mod Standing
+pub mod Forming
+pub mod Passing
+pub mod Tables
