@@ -1,0 +1,9 @@
+pub mod Keep
+pub mod Runs
+pub mod Kept
+pub mod Least
+pub mod Wires
+pub mod Linked
+pub mod Marking
+pub mod Moving
+pub mod Clean

@@ -1,0 +1,138 @@
+//! The pass `opt_clean`: cells, connections and wires that the outside does not need go.
+#![tactic(auto)]
+
+mod followed;
+mod inside;
+mod keep;
+mod kept;
+pub mod laws;
+mod links;
+mod values;
+mod wires;
+
+ghost use Rattle.std.specs.Prelude.{◌≡◌, [], ◌∷◌, ◌++◌, IfOk, OnOk, if◌then◌else◌};
+ghost use Rattle.rtl_ir.specs.Flat.Cell.{Ports, instances};
+ghost use Rattle.rtl_ir.specs.Flat.Tree as tree;
+ghost use Rattle.rtl_ir.specs.Ports.{ports_of};
+ghost use Rattle.rtl_ir.specs.Types as rtl;
+ghost use Rattle.rtl_ir.specs.Types.{table_ports};
+ghost use Rattle.net_index.specs.Index.{IsIndex};
+ghost use Rattle.net_index.specs.Types.{AreTypes};
+ghost use Rattle.net_model.specs.Refine.{AgreeOn, IsWellDriven, RefinesIn};
+ghost use Rattle.follow_laws.specs.Inputs.{followed};
+ghost use Rattle.pass_laws.specs.Ready.{IsReady};
+ghost use Rattle.opt_clean.specs.Clean.{clean_of, reduced};
+ghost use Rattle.opt_clean.specs.Kept.{marked};
+ghost use Rattle.opt_clean.specs.Linked.{IsOnce};
+ghost use Rattle.opt_clean.specs.Wires.{trimmed};
+
+use crate::followed::followed_cells;
+use crate::inside::is_all_inside;
+use crate::keep::shown_wires;
+use crate::kept::kept_marks;
+use crate::links::links_of;
+use crate::wires::{Moves, marked_wires, wire_marks};
+use net_index::{Index, Types};
+use rtl_bits::{Copied, Memory, Seq};
+use rtl_ir::{Cell, Link, Module, PortTable};
+use std::alloc::Global;
+
+/// The module with what the outside needs: the cells that are kept, with followed inputs, one connection for each run of
+/// connected bits of an output port or a wire with `\keep`, and the wires that are left. In the Yosys manual, the command
+/// `opt_clean`.
+pub fn apply(alloc: Global, module: &Module, ports: &PortTable) -> Result<Module, Memory>
+    requires ready { IsReady (table_ports ports.now.modules) «module».now }
+    ensures exact { IfOk result (λ after. after ≡ clean_of (table_ports ports.now.modules) «module».now) }
+    ensures refines { IfOk result (λ after. RefinesIn «module».now after ports.now) }
+    ensures well_driven { IfOk result (λ after. (over : Ports) → AgreeOn (tree.table_ports ports.now) over (instances «module».now.cells) → IsWellDriven over «module».now → IsWellDriven over after) }
+    ensures well_formed { IfOk result (λ after. IsReady (table_ports ports.now.modules) after) }
+    ensures same_id { IfOk result (λ after. after.id ≡ «module».now.id) }
+    ensures same_ports { IfOk result (λ after. ports_of after.wires ≡ ports_of «module».now.wires) }
+    ensures same_instances { IfOk result (λ after. instances after.cells ≡ instances «module».now.cells) }
+{
+    cleaned(alloc, module, ports)
+}
+
+/// The module with what the outside needs, or as it is where it names a bit that no wire has.
+fn cleaned(alloc: Global, module: &Module, ports: &PortTable) -> Result<Module, Memory>
+    requires ready { IsReady (table_ports ports.now.modules) «module».now }
+    ensures exact { IfOk result (λ after. after ≡ clean_of (table_ports ports.now.modules) «module».now) }
+{
+    if !is_all_inside(module) {
+        return module.copy();
+    }
+    let types = Types::of_table(alloc, ports)?;
+    let index = Index::of(alloc, module, ports)?;
+    let after = with_kept(alloc, module, &types, &index)?;
+    Ok(after)
+}
+
+/// The module with what the outside needs, by the types of its cells and its index.
+fn with_kept(alloc: Global, module: &Module, types: &Types, index: &Index) -> Result<Module, Memory>
+    ensures exact { IfOk result (λ after. (ports : rtl.Ports) → AreTypes types.now ports → IsIndex index.now ports «module».now → IsOnce ports «module».now → after ≡ trimmed (reduced ports (followed ports «module».now))) }
+{
+    let wires = module.wires.as_slice();
+    let shown = shown_wires(alloc, wires)?;
+    let links = links_of(alloc, wires, shown.as_slice(), index)?;
+    let cells = followed_cells(alloc, module.cells.as_slice(), types, index)?;
+    let marks = kept_marks(
+        alloc,
+        shown.as_slice(),
+        cells.as_slice(),
+        links.as_slice(),
+        types,
+        index,
+    )?;
+    let cells = marked_cells(alloc, cells, marks.as_slice())?;
+    let after = with_wires_left(alloc, module, cells, links.as_slice())?;
+    Ok(after)
+}
+
+/// The marked cells.
+fn marked_cells(alloc: Global, cells: Vec<Cell>, marks: &[bool]) -> Result<Vec<Cell>, Memory>
+    ensures value { IfOk result (λ kept. kept.items ≡ marked marks.now cells.items) }
+{
+    let mut kept = Vec::new(alloc);
+    let mut place = 0;
+    for cell in cells {
+        if place < marks.len() {
+            add_if_marked(&mut kept, cell, marks[place])?;
+            place += 1;
+        }
+    }
+    Ok(kept)
+}
+
+/// Puts the cell last, where it is marked.
+fn add_if_marked(kept: &mut Vec<Cell>, cell: Cell, mark: bool) -> Result<(), Memory>
+    ensures value { OnOk result (kept.new.items ≡ kept.old.items ++ (if mark then cell ∷ [] else [])) }
+{
+    if mark {
+        kept.push(cell)?;
+    }
+    Ok(())
+}
+
+/// The module with these cells and connections, and the wires that are left.
+fn with_wires_left(
+    alloc: Global,
+    module: &Module,
+    cells: Vec<Cell>,
+    links: &[Link],
+) -> Result<Module, Memory>
+    ensures exact { IfOk result (λ after. after ≡ trimmed (record «module».now { cells = cells.items; links = links.now })) }
+{
+    let wires = module.wires.as_slice();
+    let marks = wire_marks(alloc, wires, cells.as_slice(), links)?;
+    let moves = Moves::of(alloc, marks.as_slice())?;
+    Ok(Module {
+        id: module.id.copy()?,
+        attributes: module.attributes.copy()?,
+        parameters: module.parameters.copy()?,
+        wires: Seq::from_vec(marked_wires(alloc, wires, marks.as_slice())?),
+        memories: module.memories.copy()?,
+        cells: Seq::from_vec(moves.cells(alloc, cells)?),
+        processes: module.processes.copy()?,
+        links: Seq::from_vec(moves.links(alloc, links)?),
+    })
+}
