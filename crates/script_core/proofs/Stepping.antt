@@ -8,6 +8,14 @@ use Rattle.rtl_ir.specs.declared.ports.PortTable.{PortTable}
 use Rattle.net_index.specs.Builder.{IsInLimits}
 use Rattle.pass_laws.specs.Pass.{IsPass}
 use Rattle.pass_laws.proofs.Passes.{IsPass_refl, IsPass_trans}
+use Rattle.opt_expr.specs.Sweep.{expr_of}
+use Rattle.opt_merge.specs.Merge.{merge_of}
+use Rattle.opt_clean.specs.Clean.{clean_of}
+use Rattle.opt_rounds.specs.Rounds.{opt_of}
+use Rattle.opt_expr.proofs.Sweeping.{expr_passes}
+use Rattle.opt_merge.proofs.Refining.{merge_pass}
+use Rattle.opt_clean.proofs.Cleaning.{clean_pass}
+use Rattle.opt_rounds.proofs.Rounding.{opt_pass}
 use Rattle.tech_map.specs.Techmap.{beside, techmap_of}
 use Rattle.tech_map.proofs.Driving.{techmap_driven}
 use Rattle.tech_map.proofs.Forming.{takable, techmap_ready}
@@ -20,6 +28,9 @@ use Rattle.script_core.proofs.FoldLemmas.{within_limits}
 
 same_pass : (table : PortTable) (m n : Module) → Some m ≡ Some n → IsPass table m n
 same_pass table m n e = let same : m ≡ n = cc in subst (IsPass table m) same (IsPass_refl table m)
+
+given_pass : (table : PortTable) (m k n : Module) → IsPass table m k → Some k ≡ Some n → IsPass table m n
+given_pass table m k n p e = let same : k ≡ n = cc in subst (IsPass table m) same p
 
 -- `techmap` within the limits
 techmap_pass : (table : PortTable) (m : Module) → MayBeGiven table m → IsInLimits (beside m) → IsPass table m (techmap_of m)
@@ -37,10 +48,10 @@ techmap_pass table m h limits =
 -- a word that has a pass
 pub pass_is : (table : PortTable) (word : Word) (m n : Module) → HasPass word → MayBeGiven table m → pass_of table word m ≡ Some n → IsPass table m n
 pass_is table Proc m n has h e = same_pass table m n e
-pass_is table OptExpr m n has h e = absurd has
-pass_is table OptMerge m n has h e = absurd has
-pass_is table OptClean m n has h e = absurd has
-pass_is table Opt m n has h e = absurd has
+pass_is table OptExpr m n has h e = given_pass table m (expr_of (table_ports table.modules) m) n (expr_passes table m h) e
+pass_is table OptMerge m n has h e = given_pass table m (merge_of m) n (merge_pass table m h) e
+pass_is table OptClean m n has h e = given_pass table m (clean_of (table_ports table.modules) m) n (clean_pass table m h) e
+pass_is table Opt m n has h e = given_pass table m (opt_of (table_ports table.modules) m) n (opt_pass table m h) e
 pass_is table Fsm m n has h e = absurd has
 pass_is table Memory m n has h e = absurd has
 pass_is table Techmap m n has h e = by (is_within (beside m)) refl e

@@ -6,6 +6,10 @@ use Rattle.rtl_ir.specs.Build.{Building}
 use Rattle.rtl_ir.specs.Types.{table_ports}
 use Rattle.net_index.specs.Numbering.{bit_count, widths_of}
 use Rattle.pass_laws.specs.Ready.{IsReady}
+use Rattle.opt_expr.specs.Sweep.{expr_of}
+use Rattle.opt_merge.specs.Merge.{merge_of}
+use Rattle.opt_clean.specs.Clean.{clean_of}
+use Rattle.opt_rounds.specs.Rounds.{opt_of}
 use Rattle.tech_map.specs.Techmap.{beside, techmap_of}
 use Rattle.script_core.specs.declared.outcome.Outcome.{Outcome}
 use Rattle.script_core.specs.declared.outcome.Outcome.TheVariants.{Done, Over}
@@ -24,10 +28,10 @@ techmap_within m = if is_within (beside m) then Some (techmap_of m) else None
 -- processes is what `proc` gives; some passes are not there yet: no script of this stage has their words
 abbrev pub pass_of : PortTable → Word → Module → Option Module
 pass_of table Proc m = Some m
-pass_of table OptExpr m = Some m
-pass_of table OptMerge m = Some m
-pass_of table OptClean m = Some m
-pass_of table Opt m = Some m
+pass_of table OptExpr m = Some (expr_of (table_ports table.modules) m)
+pass_of table OptMerge m = Some (merge_of m)
+pass_of table OptClean m = Some (clean_of (table_ports table.modules) m)
+pass_of table Opt m = Some (opt_of (table_ports table.modules) m)
 pass_of table Fsm m = Some m
 pass_of table Memory m = Some m
 pass_of table Techmap m = techmap_within m
@@ -59,10 +63,10 @@ AreApplicable (word ∷ words) table m = MayBeGiven table m × AfterWord (AreApp
 -- the words whose passes are there
 abbrev pub HasPass : Word → Type 0
 HasPass Proc = Unit {0}
-HasPass OptExpr = ⊥
-HasPass OptMerge = ⊥
-HasPass OptClean = ⊥
-HasPass Opt = ⊥
+HasPass OptExpr = Unit {0}
+HasPass OptMerge = Unit {0}
+HasPass OptClean = Unit {0}
+HasPass Opt = Unit {0}
 HasPass Fsm = ⊥
 HasPass Memory = ⊥
 HasPass Techmap = Unit {0}

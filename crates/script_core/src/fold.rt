@@ -26,8 +26,12 @@ fn pass(alloc: Global, word: Word, module: Module, ports: &PortTable) -> Result<
     ensures over { result ≡ Err PassFault.Over → pass_of ports.now word «module» ≡ None }
 {
     match word {
+        Word::OptExpr => Ok(opt_expr::apply(alloc, &module, ports)?),
+        Word::OptMerge => Ok(opt_merge::apply(alloc, &module, ports)?),
+        Word::OptClean => Ok(opt_clean::apply(alloc, &module, ports)?),
+        Word::Opt => Ok(opt_rounds::apply(alloc, module, ports)?),
         Word::Techmap => mapped(alloc, &module, ports),
-        _ => Ok(module),
+        Word::Proc | Word::Fsm | Word::Memory => Ok(module),
     }
 }
 
