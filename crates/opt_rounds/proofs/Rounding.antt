@@ -20,18 +20,34 @@ use Rattle.opt_clean.proofs.Cleaning.{clean_pass}
 use Rattle.opt_rounds.specs.Rounds.{opt_of, round_of, rounds_of}
 
 module _ (P : types.Ports) where
-  -- a round of those that are left
-  pub rounds_next : (r : ℕ) (m : Module) → r < 32 → rounds_of P (32 - r) m ≡ rounds_of P (32 - (r + 1)) (round_of P m)
-  rounds_next r m h = let e : 32 - r ≡ suc (32 - (r + 1)) = omega (arith, h) in ap (λ n. rounds_of P n m) e
-
   -- behind a round that changes nothing none does
-  pub rounds_stay : (n : ℕ) (m : Module) → round_of P m ≡ m → rounds_of P n m ≡ m
+  rounds_stay : (n : ℕ) (m : Module) → round_of P m ≡ m → rounds_of P n m ≡ m
+  unfolding rounds_of
   rounds_stay zero m e = refl
   rounds_stay (suc n) m e = ap (rounds_of P n) e ∙ rounds_stay n m e
 
   rounds_more : (n k : ℕ) (m : Module) → rounds_of P (n + k) m ≡ rounds_of P k (rounds_of P n m)
-  rounds_more zero k m = refl
-  rounds_more (suc n) k m = rounds_more n k (round_of P m)
+  unfolding rounds_of
+  rounds_more zero k m = let e : zero + k ≡ k = omega arith in ap (λ j. rounds_of P j m) e
+  rounds_more (suc n) k m =
+      let e : suc n + k ≡ suc (n + k) = omega arith in
+      ap (λ j. rounds_of P j m) e ∙ rounds_more n k (round_of P m)
+
+  -- the rounds that are left make of the module what all make of the first: at the start, behind a round that changes
+  -- something, and where no round is left
+  pub all_left : (m : Module) → rounds_of P (32 - 0) m ≡ opt_of P m
+  unfolding opt_of
+  all_left m = refl
+
+  pub fewer_left : (r : ℕ) (m after all : Module) → r < 32 → after ≡ round_of P m → rounds_of P (32 - r) m ≡ all → rounds_of P (32 - (r + 1)) after ≡ all
+  unfolding rounds_of
+  fewer_left r m after all h e f =
+      let one : 32 - r ≡ suc (32 - (r + 1)) = omega (arith, h) in
+      ap (rounds_of P (32 - (r + 1))) e ∙ sym (ap (λ n. rounds_of P n m) one) ∙ f
+
+  pub none_left : (r : ℕ) (m all : Module) → 32 ≤ r → rounds_of P (32 - r) m ≡ all → m ≡ all
+  unfolding rounds_of
+  none_left r m all h f = let e : 32 - r ≡ zero = omega (arith, h) in sym (ap (λ n. rounds_of P n m) e) ∙ f
 
   pub opt_stops : (n : ℕ) (m : Module) → n ≤ 32 → round_of P (rounds_of P n m) ≡ rounds_of P n m → opt_of P m ≡ rounds_of P n m
   unfolding opt_of
@@ -61,12 +77,20 @@ module _ (P : types.Ports) where
   unfolding round_of
   round_frame m = cleaned_frame (merge_of (expr_of P m)) ∙ merged_frame (expr_of P m)
 
+  -- a round, of what the three passes give
+  pub one_round : (m folded merged : Module) → folded ≡ expr_of P m → merged ≡ merge_of folded → (r : Result Module Memory) → IfOk r (λ after. after ≡ clean_of P merged) → IfOk r (λ after. after ≡ round_of P m)
+  unfolding round_of
+  one_round m folded merged e f (Ok after) g = g ∙ ap (clean_of P) (f ∙ ap merge_of e)
+  one_round m folded merged e f (Err fault) g = tt
+
   same_parts : (a b : Module) → frame a ≡ frame b → a.wires ≡ b.wires → a.cells ≡ b.cells → a.links ≡ b.links → a ≡ b
   same_parts a b f w c l = λ i. record (f i) { wires = w i; cells = c i; links = l i }
 
-  -- so where these are the same, it changes nothing
-  pub round_same : (after m : Module) → after ≡ round_of P m → after.wires ≡ m.wires → after.cells ≡ m.cells → after.links ≡ m.links → after ≡ m
-  round_same after m e w c l = same_parts after m (ap frame e ∙ round_frame m) w c l
+  -- where these are the same, the round changes nothing, and is the last that counts
+  pub last_round : (r : ℕ) (m after all : Module) → after ≡ round_of P m → after.wires ≡ m.wires → after.cells ≡ m.cells → after.links ≡ m.links → rounds_of P (32 - r) m ≡ all → after ≡ all
+  last_round r m after all e w c l f =
+      let same : after ≡ m = same_parts after m (ap frame e ∙ round_frame m) w c l in
+      same ∙ sym (rounds_stay (32 - r) m (sym e ∙ same)) ∙ f
 
 module _ (table : PortTable) where
   abbrev P : types.Ports
@@ -81,6 +105,7 @@ module _ (table : PortTable) where
       IsPass_trans table m (merge_of (expr_of P m)) (round_of P m) (IsPass_trans table m (expr_of P m) (merge_of (expr_of P m)) one two) three
 
   rounds_pass : (n : ℕ) (m : Module) → IsReady P m → IsPass table m (rounds_of P n m)
+  unfolding rounds_of
   rounds_pass zero m h = IsPass_refl table m
   rounds_pass (suc n) m h =
       let one = round_pass m h in

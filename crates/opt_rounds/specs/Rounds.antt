@@ -11,7 +11,7 @@ unfoldable pub round_of : Ports → Module → Module
 round_of ports m = clean_of ports (merge_of (expr_of ports m))
 
 -- so many rounds; behind one that changes nothing none changes anything
-abbrev pub rounds_of : Ports → ℕ → Module → Module
+unfoldable pub rounds_of : Ports → ℕ → Module → Module
 rounds_of ports zero m = m
 rounds_of ports (suc n) m = rounds_of ports n (round_of ports m)
 

@@ -22,7 +22,7 @@ const MAX_ROUNDS: u32 = 32;
 
 /// The module after at most 32 rounds of `opt_expr`, `opt_merge` and `opt_clean`, up to the first that changes nothing. In
 /// the Yosys manual, "Optimization passes", the section "The opt pass".
-#[tactic(auto, using(crate::proofs::Rounding::answers_refine, crate::proofs::Rounding::answers_ready, crate::proofs::Rounding::answers_pass))]
+#[tactic(auto, using(crate::proofs::Rounding::answers_refine, crate::proofs::Rounding::answers_pass))]
 pub fn apply(alloc: Global, module: Module, ports: &PortTable) -> Result<Module, Memory>
     requires ready { IsReady (table_ports ports.now.modules) «module» }
     ensures exact { IfOk result (λ after. after ≡ opt_of (table_ports ports.now.modules) «module») }
@@ -34,7 +34,7 @@ pub fn apply(alloc: Global, module: Module, ports: &PortTable) -> Result<Module,
 }
 
 /// Rounds, until one changes nothing.
-#[tactic(auto, unfolding(crate::specs::Rounds::opt_of), using(crate::proofs::Rounding::rounds_next, crate::proofs::Rounding::rounds_stay, crate::proofs::Rounding::round_same, crate::proofs::Rounding::round_ready))]
+#[tactic(auto, using(crate::proofs::Rounding::all_left))]
 fn rounds(alloc: Global, module: Module, ports: &PortTable) -> Result<Module, Memory>
     requires ready { IsReady (table_ports ports.now.modules) «module» }
     ensures exact { IfOk result (λ after. after ≡ opt_of (table_ports ports.now.modules) «module») }
@@ -51,7 +51,6 @@ fn rounds(alloc: Global, module: Module, ports: &PortTable) -> Result<Module, Me
 }
 
 /// One round.
-#[tactic(auto, unfolding(crate::specs::Rounds::round_of))]
 fn round(alloc: Global, module: &Module, ports: &PortTable) -> Result<Module, Memory>
     requires ready { IsReady (table_ports ports.now.modules) «module».now }
     ensures exact { IfOk result (λ after. after ≡ round_of (table_ports ports.now.modules) «module».now) }
