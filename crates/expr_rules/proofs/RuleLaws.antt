@@ -73,6 +73,7 @@ module _ (f : SigBit → Bit) (fixed : IsReading f) (shape : Shape) (o : Operand
     where
       a : Below (slice_index_or (map f o.a) 0 X) (extended_at (both_signed shape) (map f o.a) 0)
       a = input_below (both_signed shape) o.a
+
       b : Below (slice_index_or (map f o.b) 0 X) (extended_at (both_signed shape) (map f o.b) 0)
       b = input_below (both_signed shape) o.b
 
@@ -192,3 +193,7 @@ module _ (f : SigBit → Bit) (fixed : IsReading f) (shape : Shape) (o : Operand
 -- what comes in the place of a cell refines it
 pub change_refines : (shape : Shape) (o : Operands) → IsComputed shape.kind shape o → IsMeant shape o → (change : Change) → change_of shape o ≡ Some change → Refines shape o change
 change_refines shape o c m change e f fixed knows = all_say f fixed shape o (narrow_of shape.kind shape o c) m knows change e
+
+-- and so does what one rule puts there
+pub rule_refines : (rule : Rule) (shape : Shape) (o : Operands) → IsComputed shape.kind shape o → IsMeant shape o → (change : Change) → result_of rule shape o ≡ Some change → Refines shape o change
+rule_refines rule shape o c m change e f fixed knows = rule_says f fixed shape o (narrow_of shape.kind shape o c) m knows rule change e
