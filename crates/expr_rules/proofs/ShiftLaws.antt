@@ -1,5 +1,5 @@
 -- The rule for shifts says no less.
-use Rattle.std.proofs.Common.{◌≡◌, refl, sym, ◌∙◌, ap, subst, inl, inr, ℕ, zero, suc, ◌+◌, ◌-◌, ◌<◌, max, Bool, true, false, List, [], ◌∷◌, map, length, arith, ℤ, pos, negsuc, ◌+ℤ◌, Option, Some, None}
+use Rattle.std.proofs.Common.{◌≡◌, refl, sym, ◌∙◌, ap, subst, inl, inr, ℕ, zero, suc, ◌-◌, max, Bool, true, false, List, [], ◌∷◌, map, length, arith, ℤ, pos, negsuc, ◌+ℤ◌}
 use Rattle.std.specs.Prelude.{nat_lt, if◌then◌else◌, slice_get, slice_index_or, unwrap_or}
 use Rattle.std.specs.List.{list_all, range_with_len}
 use Rattle.std.proofs.lemmas.Bool.{and_parts}
@@ -17,7 +17,6 @@ use Rattle.rtl_sig.specs.declared.sig.SigBit.TheVariants.{Fixed, Wire as OnWire}
 use Rattle.cell_types.specs.declared.shape.Shape.{Shape}
 use Rattle.cell_types.specs.declared.word.ShiftKind.{ShiftKind}
 use Rattle.cell_types.specs.declared.word.ShiftKind.TheVariants.{Sshr, Shiftx}
-use Rattle.cell_types.specs.declared.word.WordKind.{WordKind}
 use Rattle.cell_types.specs.declared.word.WordKind.TheVariants.{Shift}
 use Rattle.cell_word.specs.Shifts as words
 use Rattle.cell_word.specs.Shifts.{below_of, distance_of, moved_of, read_of}
@@ -26,7 +25,6 @@ use Rattle.net_model.specs.Within.{Each}
 use Rattle.expr_rules.specs.Laws.{IsReading}
 use Rattle.expr_rules.specs.Rules.Shift.{known_shift, moved_signal, signal_at, signal_from}
 use Rattle.expr_rules.specs.Signals.{constant_of, constants_of, is_known_constant}
-use Rattle.expr_rules.specs.declared.change.Change.{Change}
 use Rattle.expr_rules.specs.declared.change.Change.TheVariants.{Gives}
 use Rattle.expr_rules.specs.declared.operands.Operands.{Operands}
 use Rattle.expr_rules.proofs.Cases.{when_case}
