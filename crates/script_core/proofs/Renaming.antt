@@ -1,5 +1,5 @@
 -- No pass looks at the name of a module.
-use Rattle.std.proofs.Common.{◌≡◌, ℕ, suc, List, [], ◌∷◌, ◌++◌, Bool, true, false, cond, Option, Some, None, refl, ap, ◌∙◌}
+use Rattle.std.proofs.Common.{◌≡◌, ℕ, zero, suc, List, [], ◌∷◌, ◌++◌, Bool, true, false, cond, Option, Some, None, refl, ap, ◌∙◌}
 use Rattle.std.specs.Option.{option_map}
 use Rattle.cell_types.specs.declared.kind.CellKind.{CellKind}
 use Rattle.cell_types.specs.declared.kind.CellKind.TheVariants.{Word}
@@ -13,6 +13,13 @@ use Rattle.rtl_ir.specs.declared.module.Module.{Module}
 use Rattle.rtl_ir.specs.declared.ports.PortTable.{PortTable}
 use Rattle.rtl_ir.specs.Build.{Building, building_of}
 use Rattle.rtl_ir.specs.Flat.Cell.{cell_kind, cell_shape}
+use Rattle.rtl_ir.specs.Types.{Ports, table_ports}
+use Rattle.follow_laws.specs.Inputs.{followed}
+use Rattle.opt_expr.specs.Sweep.{expr_of}
+use Rattle.opt_merge.specs.Merge.{drives_own, merge_of, merging_of, with_merging}
+use Rattle.opt_clean.specs.Clean.{clean_of, is_all_inside, reduced}
+use Rattle.opt_clean.specs.Wires.{trimmed}
+use Rattle.opt_rounds.specs.Rounds.{opt_of, round_of, rounds_of}
 use Rattle.map_gates.specs.Expand.{gates_of}
 use Rattle.map_gates.specs.Gates.{each_bit, pin_signal}
 use Rattle.map_laws.specs.Expansion.{cells_added}
@@ -78,12 +85,39 @@ module _ (id : List ℕ) where
       by true = refl
       by false = refl
 
+  merge_renamed : (m : Module) → merge_of (under m) ≡ under (merge_of m)
+  merge_renamed m = by (drives_own m)
+    where
+      by : (t : Bool) → cond t (under (with_merging m (merging_of m))) (under m) ≡ under (cond t (with_merging m (merging_of m)) m)
+      by true = refl
+      by false = refl
+
+  clean_renamed : (P : Ports) (m : Module) → clean_of P (under m) ≡ under (clean_of P m)
+  clean_renamed P m = by (is_all_inside m)
+    where
+      by : (t : Bool) → cond t (under (trimmed (reduced P (followed P m)))) (under m) ≡ under (cond t (trimmed (reduced P (followed P m))) m)
+      by true = refl
+      by false = refl
+
+  round_renamed : (P : Ports) (m : Module) → round_of P (under m) ≡ under (round_of P m)
+  unfolding round_of
+  round_renamed P m = ap (clean_of P) (merge_renamed (expr_of P m)) ∙ clean_renamed P (merge_of (expr_of P m))
+
+  rounds_renamed : (P : Ports) (n : ℕ) (m : Module) → rounds_of P n (under m) ≡ under (rounds_of P n m)
+  unfolding rounds_of
+  rounds_renamed P zero m = refl
+  rounds_renamed P (suc n) m = ap (rounds_of P n) (round_renamed P m) ∙ rounds_renamed P n (round_of P m)
+
+  opt_renamed : (P : Ports) (m : Module) → opt_of P (under m) ≡ under (opt_of P m)
+  unfolding opt_of
+  opt_renamed P m = rounds_renamed P 32 m
+
   pass_renamed : (table : PortTable) (word : words.Word) (m : Module) → pass_of table word (under m) ≡ option_map under (pass_of table word m)
   pass_renamed table Proc m = refl
   pass_renamed table OptExpr m = refl
-  pass_renamed table OptMerge m = refl
-  pass_renamed table OptClean m = refl
-  pass_renamed table Opt m = refl
+  pass_renamed table OptMerge m = ap Some (merge_renamed m)
+  pass_renamed table OptClean m = ap Some (clean_renamed (table_ports table.modules) m)
+  pass_renamed table Opt m = ap Some (opt_renamed (table_ports table.modules) m)
   pass_renamed table Fsm m = refl
   pass_renamed table Memory m = refl
   pass_renamed table Techmap m = within_renamed m
