@@ -1,5 +1,5 @@
 -- What a build reads of a key.
-use Rattle.std.proofs.Common.{◌≡◌, ℕ, suc, zero, ◌<◌, List, [], ◌∷◌, length, Bool, true, false, cond, Option, Some, None, Result, Ok, Err, inl, inr, refl, sym, ap, subst, ◌∙◌, arith}
+use Rattle.std.proofs.Common.{◌≡◌, ℕ, suc, zero, ◌<◌, List, [], ◌∷◌, length, Option, Some, Result, Ok, Err, inl, inr, refl, sym, ap, subst, ◌∙◌, arith}
 use Rattle.std.specs.Prelude.{slice_get, IfOk, unwrap_or, map}
 use Rattle.std.specs.List.{All}
 use Rattle.std.specs.Option.{option_map}
@@ -9,24 +9,14 @@ use Rattle.rtl_ir.specs.Faults.{faults_within}
 use Rattle.rtl_ir.specs.Scope.{cells_alone}
 use Rattle.rtl_trip.specs.Readable.{IsReadable}
 use Rattle.rtl_ir.specs.declared.module.Module.{Module}
-use Rattle.rtl_ir.specs.declared.ports.PortTable.{PortTable}
 use Rattle.rtl_ir.specs.Ports.{instances_of, ports_by_module, port_table_of}
-use Rattle.rtl_trip.specs.Readable.{IsReadableModule}
-use Rattle.rtl_trip.specs.PortTables.{ArePorts}
-use Rattle.rtl_trip.proofs.PortTableLemmas.{readable_table}
 use Rattle.rtl_write.specs.Text.{body_text}
-use Rattle.rtl_write.specs.Ports.{ports_text}
-use Rattle.rtl_ir.specs.Types.{table_ports}
 use Rattle.net_model.specs.Lists.{In}
 use Rattle.script_core.specs.declared.key.Key.{Key}
-use Rattle.script_core.specs.declared.outcome.Outcome.{Outcome}
 use Rattle.script_core.specs.declared.word.Word.{Word}
-use Rattle.script_core.specs.declared.word.Word.TheVariants.{Proc, OptExpr, OptMerge, OptClean, Opt, Fsm, Memory, Techmap}
-use Rattle.script_core.specs.Built.{body_name, unnamed, IsValueOf, IsAcceptedKey}
+use Rattle.script_core.specs.Built.{IsAcceptedKey}
 use Rattle.script_core.specs.Cold.{table_of}
-use Rattle.script_core.specs.Fold.{fold_script}
 use Rattle.script_core.specs.Keys.{body_text_at, key_of}
-use Rattle.script_core.proofs.Faultless.{faultless_alone}
 
 -- the module at a place of a design, with its table
 pub record IsAt (modules : List Module) (at : ℕ) : Type 0 where

@@ -1,32 +1,21 @@
 -- What is read of the texts of a key.
-use Rattle.std.proofs.Common.{◌≡◌, ℕ, suc, zero, ◌<◌, List, [], ◌∷◌, length, Bool, true, false, cond, Option, Some, None, Result, Ok, Err, inl, inr, refl, sym, ap, subst, ◌∙◌, arith}
-use Rattle.std.specs.Prelude.{slice_get, IfOk, unwrap_or, map}
-use Rattle.std.specs.List.{All}
-use Rattle.std.specs.Option.{option_map}
-use Rattle.std.proofs.lemmas.List.Elements.{All-head, All-tail}
-use Rattle.rtl_ir.specs.declared.module.Design.{Design}
-use Rattle.rtl_ir.specs.Faults.{faults_within}
-use Rattle.rtl_ir.specs.Scope.{cells_alone}
-use Rattle.rtl_trip.specs.Readable.{IsReadable}
+use Rattle.std.proofs.Common.{◌≡◌, List, Result, Ok, Err, sym, ap, subst, ◌∙◌}
+use Rattle.std.specs.Prelude.{IfOk}
 use Rattle.rtl_ir.specs.declared.module.Module.{Module}
 use Rattle.rtl_ir.specs.declared.ports.PortTable.{PortTable}
-use Rattle.rtl_ir.specs.Ports.{instances_of, ports_by_module, port_table_of}
+use Rattle.rtl_ir.specs.Ports.{port_table_of}
 use Rattle.rtl_trip.specs.Readable.{IsReadableModule}
 use Rattle.rtl_trip.specs.PortTables.{ArePorts}
 use Rattle.rtl_trip.proofs.PortTableLemmas.{readable_table}
 use Rattle.rtl_write.specs.Text.{body_text}
 use Rattle.rtl_write.specs.Ports.{ports_text}
-use Rattle.rtl_ir.specs.Types.{table_ports}
-use Rattle.net_model.specs.Lists.{In}
 use Rattle.script_core.specs.declared.key.Key.{Key}
 use Rattle.script_core.specs.declared.outcome.Outcome.{Outcome}
 use Rattle.script_core.specs.declared.word.Word.{Word}
-use Rattle.script_core.specs.declared.word.Word.TheVariants.{Proc, OptExpr, OptMerge, OptClean, Opt, Fsm, Memory, Techmap}
 use Rattle.script_core.specs.Built.{body_name, unnamed, IsValueOf, IsAcceptedKey}
 use Rattle.script_core.specs.Cold.{table_of}
 use Rattle.script_core.specs.Fold.{fold_script, MayBeGiven}
-use Rattle.script_core.specs.Keys.{body_text_at, key_of}
-use Rattle.script_core.proofs.BuildLemmas.{IsAt, module_at, readable_in}
+use Rattle.script_core.proofs.BuildLemmas.{module_at, readable_in}
 use Rattle.script_core.proofs.Given.{given_alone}
 
 -- what is read of the texts of an accepted key

@@ -1,19 +1,17 @@
 -- What a script makes of a module without faults refines it, and so the cold run of a design refines the design.
-use Rattle.std.proofs.Common.{◌≡◌, ℕ, suc, zero, List, [], ◌∷◌, Bool, true, false, cond, Option, Some, None, inl, inr, refl, sym, ap, subst, ◌∙◌}
+use Rattle.std.proofs.Common.{◌≡◌, ℕ, suc, zero, List, [], ◌∷◌, Option, Some, inl, inr, refl, sym, ap, subst, ◌∙◌}
 use Rattle.std.specs.Prelude.{slice_get, map, unwrap_or}
 use Rattle.std.specs.Option.{option_map}
 use Rattle.rtl_ir.specs.declared.module.Design.{Design}
 use Rattle.rtl_ir.specs.declared.module.Module.{Module}
 use Rattle.rtl_ir.specs.declared.ports.ModulePorts.{ModulePorts}
-use Rattle.rtl_ir.specs.declared.ports.PortTable.{PortTable}
 use Rattle.rtl_ir.specs.Faults.{faults_within}
 use Rattle.rtl_ir.specs.Flat.Cell.{Ports, instances}
 use Rattle.rtl_ir.specs.Flat.Place.{Frame}
 use Rattle.rtl_ir.specs.Flat.Tree.{design_ports}
 use Rattle.rtl_ir.specs.Flat.Tree.{table_ports as flat_ports}
-use Rattle.rtl_ir.specs.Ports.{ports_of, instances_of, ports_by_module, port_table_of}
+use Rattle.rtl_ir.specs.Ports.{instances_of, ports_by_module, port_table_of}
 use Rattle.rtl_ir.specs.Scope.{cells_alone}
-use Rattle.rtl_ir.specs.Types as types
 use Rattle.rtl_trip.specs.Readable.{IsReadable, IsReadableModule}
 use Rattle.rtl_trip.specs.PortTables.{ArePorts}
 use Rattle.rtl_trip.proofs.BodyLaws.{readable_named, body_kept}
@@ -29,7 +27,6 @@ use Rattle.pass_laws.specs.Pass.{IsPass}
 use Rattle.script_core.specs.declared.outcome.Outcome.{Outcome}
 use Rattle.script_core.specs.declared.outcome.Outcome.TheVariants.{Done}
 use Rattle.script_core.specs.declared.word.Word.{Word}
-use Rattle.script_core.specs.declared.word.Word.TheVariants.{Proc, OptExpr, OptMerge, OptClean, Opt, Fsm, Memory, Techmap}
 use Rattle.script_core.specs.Built.{body_name, unnamed, IsValueOf}
 use Rattle.script_core.specs.Cold.{named, table_of, outcome_of, cold, IsNetlist}
 use Rattle.script_core.specs.Fold.{fold_script, IsStageScript}

@@ -12,7 +12,7 @@ use Rattle.rtl_ir.specs.declared.cell.Cell.{Cell}
 use Rattle.rtl_ir.specs.declared.module.Module.{Module}
 use Rattle.rtl_ir.specs.declared.ports.PortTable.{PortTable}
 use Rattle.rtl_ir.specs.Build.{Building, building_of}
-use Rattle.rtl_ir.specs.Flat.Cell.{cell_kind, cell_shape}
+use Rattle.rtl_ir.specs.Flat.Cell.{cell_shape}
 use Rattle.rtl_ir.specs.Types.{Ports, table_ports}
 use Rattle.follow_laws.specs.Inputs.{followed}
 use Rattle.opt_expr.specs.Sweep.{expr_of}
