@@ -1,5 +1,5 @@
 -- The rules for sums and products say no less.
-use Rattle.std.proofs.Common.{◌≡◌, ◌⊎◌, inl, inr, ⊎_elim, ℕ, zero, suc, ◌+◌, ◌-◌, ◌*◌, ◌/◌, ◌%◌, ◌^◌, ◌<◌, ◌≤◌, Bool, true, false, List, [], ◌∷◌, ◌++◌, length, map, replicate, Option, Some, None, refl, sym, ◌∙◌, ap, subst, arith, ℤ, pos, ◌+ℤ◌, ◌-ℤ◌, ◌*ℤ◌}
+use Rattle.std.proofs.Common.{◌≡◌, ⊎_elim, ℕ, zero, ◌+◌, ◌-◌, ◌*◌, ◌/◌, ◌%◌, ◌^◌, ◌<◌, ◌≤◌, Bool, true, false, List, length, map, Option, Some, refl, sym, ◌∙◌, ap, subst, arith, ℤ, pos, ◌+ℤ◌, ◌-ℤ◌, ◌*ℤ◌}
 use Rattle.std.specs.Prelude.{slice_index_or, ◌&&◌, if◌then◌else◌}
 use Rattle.std.specs.Option.{option_map}
 use Rattle.std.specs.List.{list_all}
@@ -13,7 +13,7 @@ use Rattle.std.proofs.Math.Pow.{shl-shr, shr-shr}
 use Rattle.rtl_bits.specs.Knowledge.{AreKnown, Below, all_known}
 use Rattle.rtl_bits.specs.Numbers.{bits_of, low_bit_of}
 use Rattle.rtl_bits.specs.declared.bit.Bit.{Bit}
-use Rattle.rtl_bits.specs.declared.bit.Bit.TheVariants.{S0, S1, X}
+use Rattle.rtl_bits.specs.declared.bit.Bit.TheVariants.{S0, X}
 use Rattle.rtl_bits.proofs.Lists.{all_known_true}
 use Rattle.rtl_bits.proofs.Orders.{Below_from_equal}
 use Rattle.rtl_sig.specs.declared.sig.SigBit.{SigBit}
@@ -21,15 +21,14 @@ use Rattle.rtl_sig.specs.declared.sig.SigBit.TheVariants.{Fixed}
 use Rattle.cell_types.specs.declared.shape.Shape.{Shape}
 use Rattle.cell_types.specs.declared.word.ArithKind.{ArithKind}
 use Rattle.cell_types.specs.declared.word.ArithKind.TheVariants.{Add, Sub, Mul}
-use Rattle.cell_types.specs.declared.word.WordKind.{WordKind}
 use Rattle.cell_types.specs.declared.word.WordKind.TheVariants.{Arith}
 use Rattle.cell_word.specs.Arithmetic.{result_of}
 use Rattle.cell_word.specs.Integers.{integer_bits, integer_in}
 use Rattle.cell_word.specs.Values.{both_signed}
 use Rattle.cell_word.specs.Words.{unknown_of}
 use Rattle.cell_word.proofs.Residues.{bits_of_wrapped}
-use Rattle.expr_rules.specs.Change.{first_some, when}
-use Rattle.expr_rules.specs.Laws.{IsReading, read_at}
+use Rattle.expr_rules.specs.Change.{when}
+use Rattle.expr_rules.specs.Laws.{IsReading}
 use Rattle.expr_rules.specs.Rules.Arith.{add_zero, equal_difference, moved_up, mul_by_bit, mul_by_power, power_of, times_small}
 use Rattle.expr_rules.specs.Rules.Logic.{beside_zeros}
 use Rattle.expr_rules.specs.Signals.{filled, is_zero, same_word}

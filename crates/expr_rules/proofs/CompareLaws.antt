@@ -1,8 +1,8 @@
 -- The rule for compares says no less.
-use Rattle.std.proofs.Common.{◌≡◌, ◌⊎◌, inl, inr, ⊎_elim, ℕ, zero, suc, ◌+◌, ◌-◌, ◌*◌, ◌%◌, ◌^◌, ◌<◌, ◌≤◌, max, Bool, true, false, List, [], ◌∷◌, length, map, Option, Some, None, refl, sym, ◌∙◌, ap, subst, arith, ℤ, pos, negsuc, neg_ℤ, ◌+ℤ◌, ◌-ℤ◌, ◌*ℤ◌, ◌<ℤ◌, ◌≤ℤ◌}
+use Rattle.std.proofs.Common.{◌≡◌, ℕ, zero, suc, ◌+◌, ◌-◌, ◌*◌, ◌^◌, ◌<◌, ◌≤◌, max, Bool, true, false, List, [], ◌∷◌, length, map, Some, None, refl, sym, ◌∙◌, ap, subst, arith, ℤ, pos, negsuc, neg_ℤ, ◌+ℤ◌, ◌*ℤ◌, ◌<ℤ◌, ◌≤ℤ◌}
 use Rattle.std.specs.Prelude.{slice_index_or, ◌&&◌, ◌==◌, if◌then◌else◌, int_lt, not}
 use Rattle.std.specs.List.{fold, range_with_len}
-use Rattle.std.proofs.lemmas.Bool.{and_parts, cases_lt}
+use Rattle.std.proofs.lemmas.Bool.{and_parts}
 use Rattle.std.proofs.lemmas.Bool.Decides.{nat_tests}
 use Rattle.std.proofs.lemmas.Int.{ints}
 use Rattle.std.proofs.lemmas.List.{length-map}
@@ -10,10 +10,10 @@ use Rattle.std.proofs.lemmas.Nat.{pow_pos}
 use Rattle.std.proofs.Math.Nat.{mod-eq_of_lt, pow-le-pow_right, pow-succ'}
 use Rattle.rtl_bits.proofs.Lists.{all_known_true}
 use Rattle.rtl_bits.proofs.Numbers.{integer_of_greatest, integer_of_least, number_of_bits_of, number_of_small}
-use Rattle.rtl_bits.proofs.Orders.{Below_from_equal, Below_refl, Below_trans}
+use Rattle.rtl_bits.proofs.Orders.{Below_from_equal}
 use Rattle.rtl_bits.proofs.Tables.{and_of_mono, not_of_mono}
 use Rattle.rtl_bits.specs.Knowledge.{AreKnown, Below, all_known}
-use Rattle.rtl_bits.specs.Numbers.{bits_of, integer_of, number_of}
+use Rattle.rtl_bits.specs.Numbers.{integer_of, number_of}
 use Rattle.rtl_bits.specs.Tables.{and_of, not_of, xor_of}
 use Rattle.rtl_bits.specs.declared.bit.Bit.{Bit}
 use Rattle.rtl_bits.specs.declared.bit.Bit.TheVariants.{S0, S1, X}
@@ -26,7 +26,6 @@ use Rattle.cell_types.specs.declared.word.EqualKind.{EqualKind}
 use Rattle.cell_types.specs.declared.word.EqualKind.TheVariants.{Eq, Ne}
 use Rattle.cell_types.specs.declared.word.OrderKind.{OrderKind}
 use Rattle.cell_types.specs.declared.word.OrderKind.TheVariants.{Lt, Le, Ge, Gt}
-use Rattle.cell_types.specs.declared.word.WordKind.{WordKind}
 use Rattle.cell_types.specs.declared.word.WordKind.TheVariants.{Equal, Order}
 use Rattle.cell_word.specs.Arithmetic.{is_ordered, order_of}
 use Rattle.cell_word.specs.Folds.{all_of, equal_of, equality_of}
@@ -46,7 +45,7 @@ use Rattle.expr_rules.proofs.FoldLaws.{bit_says, inverse_says, one_of}
 use Rattle.expr_rules.proofs.Integers.{AreCongruent, bits_congruent}
 use Rattle.expr_rules.proofs.Reading.{extended_length, extended_read}
 use Rattle.expr_rules.proofs.Sameness.{equal_numbers, same_word_is}
-use Rattle.expr_rules.proofs.Says.{IsMeantAs, IsNarrow, RuleSays, WordSays, becomes_inverter, bit_of}
+use Rattle.expr_rules.proofs.Says.{IsMeantAs, IsNarrow, RuleSays, WordSays, becomes_inverter}
 use Rattle.expr_rules.proofs.Tables.{xnor_same}
 
 never_less : (z : ℤ) → int_lt z z ≡ false

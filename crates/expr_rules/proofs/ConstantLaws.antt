@@ -1,10 +1,10 @@
 -- The rules for cells whose value is a constant say no less.
-use Rattle.std.proofs.Common.{◌≡◌, ℕ, zero, suc, ◌<◌, Bool, true, false, List, [], ◌∷◌, length, map, Option, Some, None, refl, sym, ◌∙◌, ap, subst, arith}
+use Rattle.std.proofs.Common.{◌≡◌, ℕ, zero, suc, ◌<◌, true, List, [], ◌∷◌, map, Some, refl, sym, ◌∙◌, ap, subst, arith}
 use Rattle.std.specs.Prelude.{slice_index_or, ◌&&◌}
 use Rattle.std.specs.List.{list_all}
 use Rattle.std.proofs.lemmas.Bool.{and_parts}
-use Rattle.rtl_bits.proofs.Lists.{AreBelow_known, AreBelow_refl, all_known_true}
-use Rattle.rtl_bits.proofs.Orders.{Below_from_equal, Below_refl, Below_trans}
+use Rattle.rtl_bits.proofs.Lists.{AreBelow_known, all_known_true}
+use Rattle.rtl_bits.proofs.Orders.{Below_from_equal}
 use Rattle.rtl_bits.specs.Knowledge.{AreBelow, Below, all_known}
 use Rattle.rtl_bits.specs.declared.bit.Bit.{Bit}
 use Rattle.rtl_bits.specs.declared.bit.Bit.TheVariants.{S0, X}
@@ -12,11 +12,11 @@ use Rattle.rtl_sig.specs.declared.sig.SigBit.{SigBit}
 use Rattle.rtl_sig.specs.declared.sig.SigBit.TheVariants.{Fixed, Wire as OnWire}
 use Rattle.rtl_ir.specs.Signals.{is_all_constant, is_constant}
 use Rattle.cell_types.specs.declared.kind.CellKind.{CellKind}
-use Rattle.cell_types.specs.declared.kind.CellKind.TheVariants.{Word, Gate}
+use Rattle.cell_types.specs.declared.kind.CellKind.TheVariants.{Gate}
 use Rattle.cell_types.specs.declared.shape.Shape.{Shape}
 use Rattle.cell_gate.proofs.Monotone.{output_below}
 use Rattle.cell_word.proofs.Monotone.{word_value_below}
-use Rattle.cell_word.specs.Values.{InputsBelow, input_of}
+use Rattle.cell_word.specs.Values.{InputsBelow}
 use Rattle.net_model.specs.Value.{worked_of}
 use Rattle.expr_rules.specs.Laws.{IsReading, SaysAll, output_at, words_read}
 use Rattle.expr_rules.specs.Rules.Constants.{constant_inputs, constant_value, known_value, value_by}

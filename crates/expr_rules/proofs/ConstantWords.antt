@@ -1,6 +1,6 @@
 -- The numbers of words of constants, and the integers of extended operands.
-use Rattle.std.proofs.Common.{◌≡◌, ℕ, zero, suc, ◌+◌, ◌-◌, ◌*◌, ◌/◌, ◌%◌, ◌^◌, ◌<◌, ◌≤◌, Bool, true, false, List, [], ◌∷◌, length, map, replicate, Option, Some, None, refl, sym, ◌∙◌, ap, subst, arith, pos}
-use Rattle.std.specs.Prelude.{slice_index_or, if◌then◌else◌, ◌==◌}
+use Rattle.std.proofs.Common.{◌≡◌, ℕ, zero, suc, ◌*◌, ◌/◌, ◌%◌, ◌^◌, ◌<◌, Bool, true, false, List, [], ◌∷◌, length, map, Some, None, refl, sym, ◌∙◌, ap, subst, arith}
+use Rattle.std.specs.Prelude.{if◌then◌else◌, ◌==◌}
 use Rattle.std.specs.Option.{option_map}
 use Rattle.std.specs.List.{list_all}
 use Rattle.std.proofs.lemmas.Bool.{and_parts}
@@ -17,7 +17,7 @@ use Rattle.rtl_sig.specs.declared.sig.SigBit.TheVariants.{Fixed}
 use Rattle.cell_word.specs.Integers.{integer_bits, integer_in}
 use Rattle.cell_word.specs.Words.{extended_at, word_of}
 use Rattle.expr_rules.specs.Change.{when}
-use Rattle.expr_rules.specs.Laws.{IsReading, read_at}
+use Rattle.expr_rules.specs.Laws.{IsReading}
 use Rattle.expr_rules.specs.Rules.Arith.{power_of}
 use Rattle.expr_rules.specs.Signals.{filled, is_one, is_zero}
 use Rattle.expr_rules.proofs.Cases.{map_case, when_case}

@@ -1,21 +1,21 @@
 -- The bits of numbers, place by place, and words as the low bits of their integers.
-use Rattle.std.proofs.Common.{◌≡◌, ◌⊎◌, inl, inr, ⊎_elim, ℕ, zero, suc, ◌+◌, ◌-◌, ◌*◌, ◌/◌, ◌%◌, ◌^◌, ◌<◌, ◌≤◌, Bool, true, false, List, [], ◌∷◌, length, map, refl, sym, ◌∙◌, ap, subst, arith, ℤ, pos, negsuc, ◌-ℤ◌}
-use Rattle.std.specs.Prelude.{slice_index_or, if◌then◌else◌, ◌==◌}
+use Rattle.std.proofs.Common.{◌≡◌, inl, inr, ⊎_elim, ℕ, zero, suc, ◌+◌, ◌/◌, ◌^◌, ◌<◌, ◌≤◌, Bool, true, false, List, [], ◌∷◌, length, map, refl, sym, ◌∙◌, ap, subst, arith, pos, negsuc, ◌-ℤ◌}
+use Rattle.std.specs.Prelude.{slice_index_or, if◌then◌else◌}
 use Rattle.std.proofs.lemmas.Bool.{cases_lt, cases_Bool}
 use Rattle.std.proofs.lemmas.Int.{ints}
-use Rattle.std.proofs.lemmas.List.{ext_get_or, length-map}
+use Rattle.std.proofs.lemmas.List.{ext_get_or}
 use Rattle.std.proofs.lemmas.List.FromFn.{length-map-range_with_len}
 use Rattle.std.proofs.Math.ListN.{get_or-eq_default, get_or-map}
-use Rattle.std.proofs.Math.Nat.{div-eq_of_lt, div-one, pow-succ', pow-le-pow_right, zero-div}
+use Rattle.std.proofs.Math.Nat.{div-eq_of_lt, div-one, pow-succ', pow-le-pow_right}
 use Rattle.std.proofs.Math.Pow.{shr-shr}
-use Rattle.rtl_bits.specs.Knowledge.{AreKnown, IsKnown}
-use Rattle.rtl_bits.specs.Numbers.{bits_of, digit_of, integer_of, is_one, low_bit_of, number_of, top_of}
+use Rattle.rtl_bits.specs.Knowledge.{AreKnown}
+use Rattle.rtl_bits.specs.Numbers.{bits_of, is_one, low_bit_of, number_of, top_of}
 use Rattle.rtl_bits.specs.Tables.{not_of}
 use Rattle.rtl_bits.specs.declared.bit.Bit.{Bit}
 use Rattle.rtl_bits.specs.declared.bit.Bit.TheVariants.{S0, S1, X}
-use Rattle.rtl_bits.proofs.Numbers.{bits_of_length, bits_of_number_of, number_of_small}
+use Rattle.rtl_bits.proofs.Numbers.{bits_of_number_of, number_of_small}
 use Rattle.cell_word.specs.Integers.{integer_bits, integer_in}
-use Rattle.cell_word.specs.Words.{extended_at, fill_of, word_of}
+use Rattle.cell_word.specs.Words.{extended_at, word_of}
 use Rattle.cell_word.proofs.Monotone.{integer_bits_length}
 use Rattle.expr_rules.proofs.Reading.{default_at, word_at}
 

@@ -1,5 +1,5 @@
 -- The rule for the division cells says no less.
-use Rattle.std.proofs.Common.{◌≡◌, ◌⊎◌, inl, inr, ⊎_elim, ℕ, zero, suc, ◌+◌, ◌-◌, ◌*◌, ◌/◌, ◌%◌, ◌^◌, ◌<◌, ◌≤◌, max, Bool, true, false, List, [], ◌∷◌, length, map, take, drop, Option, Some, None, refl, sym, ◌∙◌, ap, subst, arith, ℤ, pos, ◌+ℤ◌, ◌-ℤ◌}
+use Rattle.std.proofs.Common.{◌≡◌, ⊎_elim, ℕ, ◌+◌, ◌/◌, ◌%◌, ◌^◌, ◌<◌, ◌≤◌, max, Bool, true, false, length, map, take, drop, Some, None, refl, sym, ◌∙◌, ap, subst, arith, pos, ◌+ℤ◌, ◌-ℤ◌}
 use Rattle.std.specs.Prelude.{slice_index_or, ◌&&◌, ◌==◌, if◌then◌else◌, not, int_lt, int_div, int_rem, unsigned_abs}
 use Rattle.std.specs.Option.{option_map}
 use Rattle.std.proofs.lemmas.Bool.{and_parts, cases_lt}
@@ -22,24 +22,22 @@ use Rattle.rtl_sig.specs.declared.sig.SigBit.TheVariants.{Fixed}
 use Rattle.cell_types.specs.declared.shape.Shape.{Shape}
 use Rattle.cell_types.specs.declared.word.DivisionKind.{DivisionKind}
 use Rattle.cell_types.specs.declared.word.DivisionKind.TheVariants.{Div, Mod, DivFloor, ModFloor}
-use Rattle.cell_types.specs.declared.word.WordKind.{WordKind}
 use Rattle.cell_types.specs.declared.word.WordKind.TheVariants.{Division}
-use Rattle.cell_word.specs.Arithmetic.{division_of, floor_div, floor_rem, quotient_bits_of, quotient_of, rounds_up, same_sign}
-use Rattle.cell_word.specs.Integers.{integer_bits, integer_in}
+use Rattle.cell_word.specs.Arithmetic.{division_of, quotient_bits_of, quotient_of, rounds_up, same_sign}
+use Rattle.cell_word.specs.Integers.{integer_bits}
 use Rattle.cell_word.specs.Values.{both_signed}
-use Rattle.cell_word.specs.Words.{extended_at, unknown_of}
+use Rattle.cell_word.specs.Words.{unknown_of}
 use Rattle.cell_word.proofs.Residues.{bits_of_wrapped}
 use Rattle.cell_word.proofs.Signs.{below_zero, quotient_of_signs, remainder_of_signs}
-use Rattle.expr_rules.specs.Laws.{IsReading, read_at}
+use Rattle.expr_rules.specs.Laws.{IsReading}
 use Rattle.expr_rules.specs.Rules.Arith.{divide_by_power, power_of, quotient_by}
-use Rattle.expr_rules.specs.declared.change.Change.{Change}
 use Rattle.expr_rules.specs.declared.change.Change.TheVariants.{Gives}
 use Rattle.expr_rules.specs.declared.operands.Operands.{Operands}
 use Rattle.expr_rules.proofs.Cases.{if_case, map_case}
-use Rattle.expr_rules.proofs.ConstantWords.{IsPower, meant_bits, power_bits}
+use Rattle.expr_rules.proofs.ConstantWords.{meant_bits, power_bits}
 use Rattle.expr_rules.proofs.Digits.{bits_at, known_bits, past_bits}
 use Rattle.expr_rules.proofs.Reading.{extended_length, extended_read}
-use Rattle.expr_rules.proofs.Says.{IsMeantAs, RuleSays, WordSays, bit_of}
+use Rattle.expr_rules.proofs.Says.{RuleSays, WordSays}
 
 -- numbers have one sign: a quotient of theirs is not rounded up
 not_negative : (n : ℕ) → int_lt (pos n) (pos 0) ≡ false

@@ -1,9 +1,9 @@
 -- The rule for folds of one bit, and for `$pmux` of one, says no less.
-use Rattle.std.proofs.Common.{◌≡◌, ℕ, zero, suc, ◌+◌, ◌-◌, ◌*◌, ◌<◌, Bool, true, false, List, [], ◌∷◌, length, map, replicate, Option, Some, None, refl, sym, ◌∙◌, ap, subst, arith}
+use Rattle.std.proofs.Common.{◌≡◌, ℕ, zero, suc, ◌+◌, ◌-◌, ◌*◌, ◌<◌, List, [], ◌∷◌, length, map, Some, refl, sym, ◌∙◌, ap, subst, arith}
 use Rattle.std.specs.Prelude.{slice_index_or, ◌&&◌, ◌==◌}
 use Rattle.std.proofs.lemmas.Bool.{and_parts}
 use Rattle.std.proofs.lemmas.List.{get_or-replicate}
-use Rattle.rtl_bits.proofs.Orders.{Below_from_equal, Below_refl, Below_trans}
+use Rattle.rtl_bits.proofs.Orders.{Below_from_equal}
 use Rattle.rtl_bits.proofs.Tables.{not_of_mono}
 use Rattle.rtl_bits.specs.Knowledge.{Below}
 use Rattle.rtl_bits.specs.Tables.{mux_of, not_of, seen_of}
@@ -15,9 +15,8 @@ use Rattle.cell_types.specs.declared.kind.CellKind.{CellKind}
 use Rattle.cell_types.specs.declared.shape.Shape.{Shape}
 use Rattle.cell_types.specs.declared.word.FoldKind.{FoldKind}
 use Rattle.cell_types.specs.declared.word.FoldKind.TheVariants as Fold
-use Rattle.cell_types.specs.declared.word.WordKind.{WordKind}
 use Rattle.cell_types.specs.declared.word.WordKind.TheVariants as Word
-use Rattle.cell_word.specs.Choice.{part_of, picked_of}
+use Rattle.cell_word.specs.Choice.{picked_of}
 use Rattle.cell_word.specs.Folds.{folded_of}
 use Rattle.cell_word.specs.Words.{one_bit_of}
 use Rattle.expr_rules.specs.Change.{chooser, inverter, when}
@@ -29,7 +28,7 @@ use Rattle.expr_rules.specs.declared.operands.Operands.{Operands}
 use Rattle.expr_rules.proofs.Cases.{when_case}
 use Rattle.expr_rules.proofs.Reading.{read_word, word_at}
 use Rattle.expr_rules.proofs.Sameness.{equal_numbers}
-use Rattle.expr_rules.proofs.Says.{IsNarrow, RuleSays, WordSays, becomes_chooser, becomes_inverter, bit_of}
+use Rattle.expr_rules.proofs.Says.{IsNarrow, RuleSays, WordSays, becomes_chooser, becomes_inverter}
 use Rattle.expr_rules.proofs.Tables.{one_and, zero_or, zero_xor}
 
 -- a word of one bit

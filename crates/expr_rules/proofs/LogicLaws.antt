@@ -1,25 +1,21 @@
 -- The rules for cells that work bit by bit say no less.
-use Rattle.std.proofs.Common.{◌≡◌, ℕ, ◌<◌, Bool, true, false, List, [], ◌∷◌, length, map, Option, Some, None, refl, sym, ◌∙◌, ap, subst, arith}
+use Rattle.std.proofs.Common.{◌≡◌, ℕ, ◌<◌, Bool, true, List, length, map, Option, Some, None, refl, sym, ◌∙◌, ap, subst}
 use Rattle.std.specs.Prelude.{slice_index_or, ◌&&◌, ◌==◌}
 use Rattle.std.specs.Option.{option_map, option_map_or}
 use Rattle.std.specs.List.{list_all}
 use Rattle.std.proofs.lemmas.Bool.{and_parts}
-use Rattle.std.proofs.lemmas.Bool.Decides.{nat_tests}
 use Rattle.std.proofs.lemmas.List.{get_or-replicate, length-map}
-use Rattle.rtl_bits.proofs.Orders.{Below_from_equal, Below_refl, Below_trans}
 use Rattle.rtl_bits.specs.Knowledge.{Below}
-use Rattle.rtl_bits.specs.Tables.{and_of, not_of, or_of, seen_of, xor_of}
+use Rattle.rtl_bits.specs.Tables.{not_of}
 use Rattle.rtl_bits.specs.declared.bit.Bit.{Bit}
 use Rattle.rtl_bits.specs.declared.bit.Bit.TheVariants.{S0, S1, X}
 use Rattle.rtl_sig.specs.declared.sig.SigBit.{SigBit}
-use Rattle.rtl_sig.specs.declared.sig.SigBit.TheVariants.{Fixed, Wire as OnWire}
-use Rattle.rtl_sig.specs.Signal.{extended}
+use Rattle.rtl_sig.specs.declared.sig.SigBit.TheVariants.{Fixed}
 use Rattle.cell_types.specs.declared.kind.CellKind.{CellKind}
 use Rattle.cell_types.specs.declared.shape.Shape.{Shape}
 use Rattle.cell_types.specs.declared.word.BitwiseKind.{BitwiseKind}
 use Rattle.cell_types.specs.declared.word.BitwiseKind.TheVariants.{And, Or, Xor, Xnor}
 use Rattle.cell_types.specs.declared.word.UnaryKind.TheVariants.{Not}
-use Rattle.cell_types.specs.declared.word.WordKind.{WordKind}
 use Rattle.cell_types.specs.declared.word.WordKind.TheVariants.{Unary, Bitwise}
 use Rattle.cell_word.specs.Bitwise.{bit_by}
 use Rattle.cell_word.specs.Values.{both_signed}
@@ -32,7 +28,7 @@ use Rattle.expr_rules.specs.Signals.{filled, is_one, is_zero, same_word}
 use Rattle.expr_rules.specs.declared.change.Change.{Change}
 use Rattle.expr_rules.specs.declared.change.Change.TheVariants.{Gives}
 use Rattle.expr_rules.specs.declared.operands.Operands.{Operands}
-use Rattle.expr_rules.proofs.Cases.{first_case, map_case, some_case, when_case}
+use Rattle.expr_rules.proofs.Cases.{first_case, map_case, when_case}
 use Rattle.expr_rules.proofs.Reading.{all_at, default_at, extended_length, extended_read, read_word, word_at}
 use Rattle.expr_rules.proofs.Sameness.{equal_numbers, same_word_is}
 use Rattle.expr_rules.proofs.Says.{IsMeantAs, IsNarrow, RuleSays, WordSays, becomes_inverter, bit_of}

@@ -1,20 +1,19 @@
 -- The rules for multiplexers say no less.
-use Rattle.std.proofs.Common.{◌≡◌, ℕ, zero, suc, ◌<◌, Bool, true, false, List, [], ◌∷◌, length, map, Option, Some, None, refl, sym, ◌∙◌, ap, subst, arith}
+use Rattle.std.proofs.Common.{◌≡◌, ℕ, zero, suc, ◌<◌, true, false, List, [], ◌∷◌, map, Some, refl, sym, ◌∙◌, ap, subst}
 use Rattle.std.specs.Prelude.{slice_index_or, ◌&&◌}
 use Rattle.std.specs.List.{list_all}
 use Rattle.std.proofs.lemmas.Bool.{and_parts}
-use Rattle.rtl_bits.proofs.Orders.{Below_from_equal, Below_refl, Below_trans}
+use Rattle.rtl_bits.proofs.Orders.{Below_trans}
 use Rattle.rtl_bits.specs.Knowledge.{Below, is_known}
-use Rattle.rtl_bits.specs.Tables.{mux_of, not_of, seen_of}
+use Rattle.rtl_bits.specs.Tables.{mux_of, not_of}
 use Rattle.rtl_bits.specs.declared.bit.Bit.{Bit}
 use Rattle.rtl_bits.specs.declared.bit.Bit.TheVariants.{S0, S1, X}
 use Rattle.rtl_sig.specs.declared.sig.SigBit.{SigBit}
 use Rattle.rtl_sig.specs.declared.sig.SigBit.TheVariants.{Fixed, Wire as OnWire}
 use Rattle.cell_types.specs.declared.kind.CellKind.{CellKind}
 use Rattle.cell_types.specs.declared.shape.Shape.{Shape}
-use Rattle.cell_types.specs.declared.word.WordKind.{WordKind}
 use Rattle.cell_types.specs.declared.word.WordKind.TheVariants as Word
-use Rattle.expr_rules.specs.Change.{chooser, first_some, inverter, when}
+use Rattle.expr_rules.specs.Change.{chooser, inverter, when}
 use Rattle.expr_rules.specs.Laws.{IsReading, KnowsInverters, read_at}
 use Rattle.expr_rules.specs.Rules.Mux.{arm_of, equal_arms, inverted_select, known_select, select_inverse, select_itself, unknown_arm}
 use Rattle.expr_rules.specs.Signals.{first_bit, is_bit, is_unknown_constant, same_word}
@@ -24,7 +23,7 @@ use Rattle.expr_rules.specs.declared.operands.Operands.{Operands}
 use Rattle.expr_rules.proofs.Cases.{first_case, map_case, some_case, when_case}
 use Rattle.expr_rules.proofs.Reading.{read_below, read_word, word_at}
 use Rattle.expr_rules.proofs.Sameness.{same_word_is}
-use Rattle.expr_rules.proofs.Says.{IsMeantAs, IsNarrow, RuleSays, WordSays, becomes_chooser, becomes_inverter, bit_of}
+use Rattle.expr_rules.proofs.Says.{IsNarrow, RuleSays, WordSays, becomes_chooser, becomes_inverter, bit_of}
 use Rattle.expr_rules.proofs.Tables.{mux_inverse, mux_itself, mux_left, mux_none, mux_right, mux_same, mux_turned, seen_below}
 
 module _ (f : SigBit → Bit) (fixed : IsReading f) (shape : Shape) (o : Operands) where

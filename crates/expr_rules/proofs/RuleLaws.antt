@@ -1,21 +1,19 @@
 -- Each rule says no less, and so does the first that fits.
-use Rattle.std.proofs.Common.{◌≡◌, ℕ, zero, suc, ◌<◌, Bool, true, false, List, [], ◌∷◌, length, map, Option, Some, None, refl, sym, ◌∙◌, ap, subst, arith}
+use Rattle.std.proofs.Common.{◌≡◌, ℕ, ◌<◌, Bool, false, List, [], ◌∷◌, map, Option, Some, None, refl, sym, ◌∙◌, ap, subst, arith}
 use Rattle.std.specs.Prelude.{slice_index_or}
-use Rattle.std.specs.Option.{option_map}
-use Rattle.rtl_bits.proofs.Orders.{Below_from_equal, Below_refl, Below_trans}
-use Rattle.rtl_bits.proofs.Tables.{and_of_mono, mux_of_mono, not_of_mono, or_of_mono, seen_of_mono, xor_of_mono}
+use Rattle.rtl_bits.proofs.Orders.{Below_from_equal, Below_trans}
+use Rattle.rtl_bits.proofs.Tables.{and_of_mono, not_of_mono, or_of_mono, seen_of_mono, xor_of_mono}
 use Rattle.rtl_bits.specs.Knowledge.{Below}
 use Rattle.rtl_bits.specs.Tables.{mux_of, not_of, seen_of}
 use Rattle.rtl_bits.specs.declared.bit.Bit.{Bit}
 use Rattle.rtl_bits.specs.declared.bit.Bit.TheVariants.{S0, X}
-use Rattle.rtl_sig.specs.Signal.{extended}
 use Rattle.rtl_sig.specs.declared.sig.SigBit.{SigBit}
 use Rattle.rtl_sig.specs.declared.sig.SigBit.TheVariants.{Fixed}
 use Rattle.cell_gate.specs.Gates.{output_of}
 use Rattle.cell_types.specs.declared.gate.GateKind.{GateKind}
 use Rattle.cell_types.specs.declared.gate.GateKind.TheVariants as GateOf
 use Rattle.cell_types.specs.declared.kind.CellKind.{CellKind}
-use Rattle.cell_types.specs.declared.kind.CellKind.TheVariants.{Word, Gate, Storage, StorageGate, Memory}
+use Rattle.cell_types.specs.declared.kind.CellKind.TheVariants.{Word, Gate}
 use Rattle.cell_types.specs.declared.shape.Shape.{Shape}
 use Rattle.cell_types.specs.declared.word.BitwiseKind.{BitwiseKind}
 use Rattle.cell_types.specs.declared.word.BitwiseKind.TheVariants as Bits
@@ -27,8 +25,8 @@ use Rattle.cell_word.specs.Values as words
 use Rattle.cell_word.specs.Values.{both_signed}
 use Rattle.cell_word.specs.Words.{extended_at}
 use Rattle.net_model.specs.Value.{worked_of}
-use Rattle.expr_rules.specs.Change.{first_some, fitted}
-use Rattle.expr_rules.specs.Laws.{IsComputed, IsReading, KnowsInverters, Refines, SaysAll, output_at, read_at, words_read}
+use Rattle.expr_rules.specs.Change.{fitted}
+use Rattle.expr_rules.specs.Laws.{IsComputed, IsReading, KnowsInverters, Refines, SaysAll, output_at, words_read}
 use Rattle.expr_rules.specs.Operands.{IsMeant, counted_as, counted_gate, meant_as}
 use Rattle.expr_rules.specs.Rules.{change_of, first_of, result_as, result_by, result_of, result_of_gate, rules_in_order}
 use Rattle.expr_rules.specs.Rules.Arith.{add_zero, divide_by_power, equal_difference, mul_by_bit, mul_by_power}
@@ -50,7 +48,7 @@ use Rattle.expr_rules.proofs.ConstantLaws.{constant_inputs_says, known_value_say
 use Rattle.expr_rules.proofs.DivisionLaws.{divide_by_power_says}
 use Rattle.expr_rules.proofs.FoldLaws.{one_bit_says}
 use Rattle.expr_rules.proofs.LogicLaws.{and_with_ones_says, double_not_says, equal_operands_says, equal_parity_says, or_with_zeros_says, xor_with_ones_says}
-use Rattle.expr_rules.proofs.MuxLaws.{equal_arms_says, inverted_select_says, known_select_says, mux_bit, select_inverse_says, select_itself_says, unknown_arm_says}
+use Rattle.expr_rules.proofs.MuxLaws.{equal_arms_says, inverted_select_says, known_select_says, select_inverse_says, select_itself_says, unknown_arm_says}
 use Rattle.expr_rules.proofs.Reading.{extended_below, extended_bit, read_word, word_at}
 use Rattle.expr_rules.proofs.Says.{IsMeantAs, IsNarrow, RuleSays, WordSays, bit_of}
 use Rattle.expr_rules.proofs.ShiftLaws.{known_shift_says}
@@ -73,6 +71,7 @@ module _ (f : SigBit → Bit) (fixed : IsReading f) (shape : Shape) (o : Operand
     where
       a : Below (slice_index_or (map f o.a) 0 X) (extended_at (both_signed shape) (map f o.a) 0)
       a = input_below (both_signed shape) o.a
+
       b : Below (slice_index_or (map f o.b) 0 X) (extended_at (both_signed shape) (map f o.b) 0)
       b = input_below (both_signed shape) o.b
 
@@ -192,3 +191,7 @@ module _ (f : SigBit → Bit) (fixed : IsReading f) (shape : Shape) (o : Operand
 -- what comes in the place of a cell refines it
 pub change_refines : (shape : Shape) (o : Operands) → IsComputed shape.kind shape o → IsMeant shape o → (change : Change) → change_of shape o ≡ Some change → Refines shape o change
 change_refines shape o c m change e f fixed knows = all_say f fixed shape o (narrow_of shape.kind shape o c) m knows change e
+
+-- and so does what one rule puts there
+pub rule_refines : (rule : Rule) (shape : Shape) (o : Operands) → IsComputed shape.kind shape o → IsMeant shape o → (change : Change) → result_of rule shape o ≡ Some change → Refines shape o change
+rule_refines rule shape o c m change e f fixed knows = rule_says f fixed shape o (narrow_of shape.kind shape o c) m knows rule change e

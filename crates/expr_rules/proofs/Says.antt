@@ -1,7 +1,7 @@
 -- What a change of a cell that counts as a word cell says, and what new cells say.
-use Rattle.std.proofs.Common.{◌≡◌, ℕ, zero, suc, ◌<◌, List, [], ◌∷◌, length, map, Option, Some, None, refl, sym, ◌∙◌, ap, subst, arith}
+use Rattle.std.proofs.Common.{◌≡◌, ℕ, ◌<◌, List, [], length, map, Option, Some, refl, sym, ◌∙◌, ap, subst, arith}
 use Rattle.std.specs.Prelude.{slice_index_or}
-use Rattle.rtl_bits.proofs.Orders.{Below_refl, Below_from_equal, Below_trans}
+use Rattle.rtl_bits.proofs.Orders.{Below_from_equal, Below_trans}
 use Rattle.rtl_bits.proofs.Tables.{not_of_mono}
 use Rattle.rtl_bits.specs.Knowledge.{Below}
 use Rattle.rtl_bits.specs.Tables.{mux_of, not_of}
@@ -20,12 +20,12 @@ use Rattle.cell_word.specs.Values.{value_by, value_of}
 use Rattle.cell_word.specs.Words.{extended_at}
 use Rattle.net_model.specs.Value.{worked_of}
 use Rattle.expr_rules.specs.Change.{chooser, chooser_kind, inverter, inverter_kind}
-use Rattle.expr_rules.specs.Laws.{IsReading, KnowsInverters, read_at, words_read}
+use Rattle.expr_rules.specs.Laws.{IsReading, read_at, words_read}
 use Rattle.expr_rules.specs.Operands.{meant_signed, meant_width}
 use Rattle.expr_rules.specs.declared.change.Change.{Change}
 use Rattle.expr_rules.specs.declared.change.Change.TheVariants.{Gives, Becomes}
 use Rattle.expr_rules.specs.declared.operands.Operands.{Operands}
-use Rattle.expr_rules.proofs.Reading.{extended_below, extended_length, extended_read, read_word, word_at}
+use Rattle.expr_rules.proofs.Reading.{extended_below, read_word, word_at}
 
 -- a gate has one bit
 abbrev pub IsNarrow : CellKind → ℕ → Type 0

@@ -1,6 +1,6 @@
 -- The rule for shifts says no less.
-use Rattle.std.proofs.Common.{◌≡◌, refl, sym, ◌∙◌, ap, subst, ℕ, zero, suc, ◌+◌, ◌<◌, max, Bool, true, false, List, [], ◌∷◌, map, length, arith, ℤ, pos, negsuc, ◌+ℤ◌, Option, Some, None}
-use Rattle.std.specs.Prelude.{nat_lt, if◌then◌else◌, slice_index_or}
+use Rattle.std.proofs.Common.{◌≡◌, refl, sym, ◌∙◌, ap, subst, inl, inr, ℕ, zero, suc, ◌-◌, max, Bool, true, false, List, [], ◌∷◌, map, length, arith, ℤ, pos, negsuc, ◌+ℤ◌}
+use Rattle.std.specs.Prelude.{nat_lt, if◌then◌else◌, slice_get, slice_index_or, unwrap_or}
 use Rattle.std.specs.List.{list_all, range_with_len}
 use Rattle.std.proofs.lemmas.Bool.{and_parts}
 use Rattle.std.proofs.lemmas.List.{length-map}
@@ -17,15 +17,14 @@ use Rattle.rtl_sig.specs.declared.sig.SigBit.TheVariants.{Fixed, Wire as OnWire}
 use Rattle.cell_types.specs.declared.shape.Shape.{Shape}
 use Rattle.cell_types.specs.declared.word.ShiftKind.{ShiftKind}
 use Rattle.cell_types.specs.declared.word.ShiftKind.TheVariants.{Sshr, Shiftx}
-use Rattle.cell_types.specs.declared.word.WordKind.{WordKind}
 use Rattle.cell_types.specs.declared.word.WordKind.TheVariants.{Shift}
 use Rattle.cell_word.specs.Shifts as words
 use Rattle.cell_word.specs.Shifts.{below_of, distance_of, moved_of, read_of}
 use Rattle.cell_word.specs.Words.{extended_at, unknown_of}
+use Rattle.net_model.specs.Within.{Each}
 use Rattle.expr_rules.specs.Laws.{IsReading}
 use Rattle.expr_rules.specs.Rules.Shift.{known_shift, moved_signal, signal_at, signal_from}
 use Rattle.expr_rules.specs.Signals.{constant_of, constants_of, is_known_constant}
-use Rattle.expr_rules.specs.declared.change.Change.{Change}
 use Rattle.expr_rules.specs.declared.change.Change.TheVariants.{Gives}
 use Rattle.expr_rules.specs.declared.operands.Operands.{Operands}
 use Rattle.expr_rules.proofs.Cases.{when_case}
@@ -82,3 +81,41 @@ module _ (f : SigBit → Bit) (fixed : IsReading f) where
         (subst (λ x. Below (read_of kind shape.signs.a (map f o.a) (max (length o.a) shape.widths.y) z) (f x)) (sym s)
         (from_below kind shape.signs.a o.a (max (length o.a) shape.widths.y) z)))
     known_shift_says kind m change e = absurd (cc)
+
+-- a moved word is made of the bits of the operand and of constants
+module _ (P : SigBit → Type 0) (constants : (c : Bit) → P (Fixed c)) where
+  at_has : (word : List SigBit) (at : ℕ) (d : SigBit) → P d → Each P word → P (slice_index_or word at d)
+  at_has [] at d p h = p
+  at_has (b ∷ word) zero d p h = h b (inl refl)
+  at_has (b ∷ word) (suc at) d p h = at_has word at d p (λ x i. h x (inr i))
+
+  got_has : (word : List SigBit) (at : ℕ) → Each P word → P (unwrap_or (slice_get word at) (Fixed S0))
+  got_has [] at h = constants S0
+  got_has (b ∷ word) zero h = h b (inl refl)
+  got_has (b ∷ word) (suc at) h = got_has word at (λ x i. h x (inr i))
+
+  fill_has : (signed : Bool) (word : List SigBit) → Each P word → P (fill_of word signed)
+  fill_has true word h = got_has word (length word - 1) h
+  fill_has false word h = constants S0
+
+  if_has : (t : Bool) (b : SigBit) → P b → P (if t then b else Fixed S0)
+  if_has true b p = p
+  if_has false b p = constants S0
+
+  place_has : (kind : ShiftKind) (signed : Bool) (a : List SigBit) (width at : ℕ) → Each P a → P (signal_at kind signed a width at)
+  place_has Sshr signed a width at h = at_has a at (fill_of a signed) (fill_has signed a h) h
+  place_has Shiftx signed a width at h = at_has a at (Fixed X) (constants X) h
+  place_has kind signed a width at h = if_has (nat_lt at width) (slice_index_or a at (fill_of a signed)) (at_has a at (fill_of a signed) (fill_has signed a h) h)
+
+  from_has : (kind : ShiftKind) (signed : Bool) (a : List SigBit) (width : ℕ) (z : ℤ) → Each P a → P (signal_from kind signed a width z)
+  from_has kind signed a width (pos at) h = place_has kind signed a width at h
+  from_has kind signed a width (negsuc n) h = constants (below_of kind)
+
+  each_place : (g : ℕ → SigBit) (places : List ℕ) → ((at : ℕ) → P (g at)) → Each P (map g places)
+  each_place g [] h x i = absurd i
+  each_place g (at ∷ places) h x (inl e) = subst P (sym e) (h at)
+  each_place g (at ∷ places) h x (inr i) = each_place g places h x i
+
+  pub moved_has : (kind : ShiftKind) (signed : Bool) (a : List SigBit) (distance : ℤ) (width : ℕ) → Each P a → Each P (moved_signal kind signed a distance width)
+  moved_has kind signed a distance width h =
+      each_place (λ at. signal_from kind signed a (max (length a) width) (pos at +ℤ distance)) (range_with_len 0 width) (λ at. from_has kind signed a (max (length a) width) (pos at +ℤ distance) h)

@@ -1,11 +1,11 @@
 -- What the functions of bits give where an argument is known.
-use Rattle.std.proofs.Common.{◌≡◌, Bool, true, false, refl, sym, ◌∙◌, ap, subst}
+use Rattle.std.proofs.Common.{◌≡◌, false, refl, sym, subst}
 use Rattle.rtl_bits.proofs.Orders.{Below_refl, Below_trans}
 use Rattle.rtl_bits.proofs.Tables.{not_of_mono}
 use Rattle.rtl_bits.specs.Knowledge.{Below, is_known}
 use Rattle.rtl_bits.specs.Tables.{and_of, merge_of, mux_of, not_of, or_of, seen_of, xor_of}
 use Rattle.rtl_bits.specs.declared.bit.Bit.{Bit}
-use Rattle.rtl_bits.specs.declared.bit.Bit.TheVariants.{S0, S1, X, Z, M, Dash}
+use Rattle.rtl_bits.specs.declared.bit.Bit.TheVariants.{S0, S1, X}
 
 pub seen_below : (a : Bit) → Below (seen_of a) a
 seen_below S0 = refl

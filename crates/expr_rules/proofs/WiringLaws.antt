@@ -1,7 +1,6 @@
 -- The rules for cells that only pass bits on say no less.
-use Rattle.std.proofs.Common.{◌≡◌, ℕ, zero, suc, ◌+◌, ◌<◌, List, [], ◌∷◌, ◌++◌, length, map, Option, Some, None, refl, sym, ◌∙◌, ap, subst, arith}
+use Rattle.std.proofs.Common.{◌≡◌, ℕ, zero, suc, ◌+◌, List, [], ◌∷◌, ◌++◌, map, refl, sym, ◌∙◌, ap, subst, arith}
 use Rattle.std.specs.Prelude.{slice_index_or}
-use Rattle.std.proofs.Math.ListN.{get_or-map}
 use Rattle.std.proofs.lemmas.List.FromFn.{get_or-map-range_with_len}
 use Rattle.rtl_bits.proofs.Orders.{Below_trans}
 use Rattle.rtl_bits.specs.Knowledge.{Below}
@@ -17,7 +16,6 @@ use Rattle.cell_word.specs.Words.{extended_at}
 use Rattle.expr_rules.specs.Laws.{IsReading, read_at}
 use Rattle.expr_rules.specs.Rules.Wiring.{buffer, wiring}
 use Rattle.expr_rules.specs.Signals.{part_of}
-use Rattle.expr_rules.specs.declared.change.Change.{Change}
 use Rattle.expr_rules.specs.declared.change.Change.TheVariants.{Gives}
 use Rattle.expr_rules.specs.declared.operands.Operands.{Operands}
 use Rattle.expr_rules.proofs.Cases.{some_case}

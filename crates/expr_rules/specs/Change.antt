@@ -9,7 +9,6 @@ use Rattle.rtl_sig.specs.Signal.{extended}
 use Rattle.rtl_sig.specs.declared.sig.SigBit.{SigBit}
 use Rattle.expr_rules.specs.declared.change.Change.{Change}
 use Rattle.expr_rules.specs.declared.change.Change.TheVariants.{Gives, Becomes}
-use Rattle.expr_rules.specs.declared.change.NewCell.{NewCell}
 
 -- where a test holds, this
 abbrev pub when : {A : Type 0} → Bool → A → Option A

@@ -125,12 +125,7 @@ fn meant_signed(kind: WordKind, shape: &Shape) -> bool
 }
 
 /// The signal cut to a width, or filled up with its top bit where it is signed, else with zeros.
-fn extended(
-    alloc: Global,
-    bits: &[SigBit],
-    width: usize,
-    signed: bool,
-) -> Result<SigSpec, Memory>
+fn extended(alloc: Global, bits: &[SigBit], width: usize, signed: bool) -> Result<SigSpec, Memory>
     ensures value { IfOk result (λ sig. sig ≡ extended bits.now width signed) }
 {
     let fill = fill_of(bits, signed);

@@ -116,7 +116,24 @@ pub const RULES: [Rule; 24] = [
 
 impl Rule {
     /// What comes in the place of a cell of this shape with these operands, where the rule fits.
+    #[tactic(auto, using(crate::proofs::RuleLaws::rule_refines))]
     pub fn result(
+        self,
+        alloc: Global,
+        shape: &Shape,
+        operands: &Operands,
+    ) -> Result<Option<Change>, Memory>
+        requires computed { IsComputed shape.now.kind shape.now operands.now }
+        ensures exact { IfOk result (λ change. change ≡ result_of self shape.now operands.now) }
+        ensures refines { IfOk result (λ found. IsMeant shape.now operands.now →
+            (change : Change) → found ≡ Some change → Refines shape.now operands.now change) }
+    {
+        let found = self.of_cell(alloc, shape, operands)?;
+        Ok(found)
+    }
+
+    /// The same by the kind of the cell.
+    fn of_cell(
         self,
         alloc: Global,
         shape: &Shape,

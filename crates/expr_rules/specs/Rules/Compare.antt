@@ -29,6 +29,7 @@ of_equals Gt = S0
 abbrev pub passing : EqualKind → Bit
 passing Eq = S1
 passing Ne = S0
+
 abbrev pub turning : EqualKind → Bit
 turning Eq = S0
 turning Ne = S1

@@ -1,5 +1,5 @@
 -- The rule for folds of one bit, and for `$pmux` of one.
-use Rattle.std.specs.Prelude.{ℕ, ◌==◌, ◌&&◌, length, Option, None}
+use Rattle.std.specs.Prelude.{◌==◌, ◌&&◌, length, Option, None}
 use Rattle.cell_types.specs.declared.kind.CellKind.{CellKind}
 use Rattle.cell_types.specs.declared.shape.Shape.{Shape}
 use Rattle.cell_types.specs.declared.word.FoldKind.{FoldKind}

@@ -1,5 +1,5 @@
 -- Rules for cells that work bit by bit.
-use Rattle.std.specs.Prelude.{◌&&◌, ◌==◌, List, length, Option, Some, None}
+use Rattle.std.specs.Prelude.{◌&&◌, ◌==◌, List, length, Option, None}
 use Rattle.std.specs.Option.{option_map, option_map_or}
 use Rattle.std.specs.List.{list_all}
 use Rattle.rtl_bits.specs.declared.bit.Bit.TheVariants.{S0, S1}

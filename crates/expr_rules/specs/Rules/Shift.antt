@@ -1,5 +1,5 @@
 -- The rule for shifts.
-use Rattle.std.specs.Prelude.{ℕ, Bool, if◌then◌else◌, nat_lt, max, ℤ, pos, negsuc, ◌+ℤ◌, List, length, map, slice_index_or, Option, Some, None}
+use Rattle.std.specs.Prelude.{ℕ, Bool, if◌then◌else◌, nat_lt, max, ℤ, pos, negsuc, ◌+ℤ◌, List, length, map, slice_index_or, Option, None}
 use Rattle.std.specs.List.{list_all, range_with_len}
 use Rattle.rtl_bits.specs.declared.bit.Bit.TheVariants.{S0, X}
 use Rattle.rtl_sig.specs.Signal.{fill_of}

@@ -49,7 +49,11 @@ fn power_of(word: &[SigBit]) -> Option<usize>
 {
     for at in 0..word.len() {
         if is_one(word[at]) {
-            return if are_zero(&word[at + 1..]) { Some(at) } else { None };
+            return if are_zero(&word[at + 1..]) {
+                Some(at)
+            } else {
+                None
+            };
         }
         if !is_zero(word[at]) {
             return None;

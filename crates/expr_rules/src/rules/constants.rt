@@ -24,7 +24,10 @@ pub(crate) fn constant_inputs(
     requires computed { IsComputed shape.now.kind shape.now o.now }
     ensures value { IfOk result (λ change. change ≡ constant_inputs shape.now o.now) }
 {
-    if are_constant(o.a.as_slice()) && are_constant(o.b.as_slice()) && are_constant(o.s.as_slice()) {
+    if are_constant(o.a.as_slice())
+        && are_constant(o.b.as_slice())
+        && are_constant(o.s.as_slice())
+    {
         let value = constant_value(alloc, shape, o)?;
         Ok(Some(Change::Gives(fixed(alloc, value.as_slice())?)))
     } else {

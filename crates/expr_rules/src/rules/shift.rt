@@ -49,7 +49,14 @@ pub(crate) fn known_shift(
             let b = constants(alloc, o.b.as_slice())?;
             let distance = read_distance(kind, shape.signs.b, b.as_slice());
             let signed = shape.signs.a;
-            let bits = moved(alloc, kind, signed, o.a.as_slice(), distance, shape.widths.y)?;
+            let bits = moved(
+                alloc,
+                kind,
+                signed,
+                o.a.as_slice(),
+                distance,
+                shape.widths.y,
+            )?;
             Ok(Some(Change::Gives(bits)))
         }
         _ => Ok(None),
