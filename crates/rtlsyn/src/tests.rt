@@ -224,8 +224,16 @@ fn operands_and_numbers(rt: HostRuntime) -> Result<(), Fail> {
             "  wire input 6 $syn$7\n",
             ["$syn$8", "$syn$10"],
         ),
-        ("ten digits do not count", "  wire input 6 $syn$1234567890\n", plain),
-        ("a leading zero does not count", "  wire input 6 $syn$07\n", plain),
+        (
+            "ten digits do not count",
+            "  wire input 6 $syn$1234567890\n",
+            plain,
+        ),
+        (
+            "a leading zero does not count",
+            "  wire input 6 $syn$07\n",
+            plain,
+        ),
     ] {
         let input = operands_text(alloc, wire)?;
         let output = operands_netlist(alloc, wire, names)?;
@@ -256,7 +264,8 @@ fn widest_gates(alloc: Global) -> Result<Vec<String>, AllocError> {
 #[test]
 fn widest_cell(rt: HostRuntime) -> Result<(), Fail> {
     let alloc = rt.alloc();
-    let wires = "  wire width 4096 input 1 \\a\n  wire width 4096 input 2 \\b\n  wire width 4096 output 3 \\y\n";
+    let wires =
+        "  wire width 4096 input 1 \\a\n  wire width 4096 input 2 \\b\n  wire width 4096 output 3 \\y\n";
     let cell = and_text(alloc, "$1", (4096, "\\a"), (4096, "\\b"), (4096, "\\y"))?;
     let gates = widest_gates(alloc)?;
     let input = module_text(alloc, wires, vec![in alloc; cell]?.as_slice())?;
