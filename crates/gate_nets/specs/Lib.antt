@@ -1,0 +1,5 @@
+pub mod Gate
+pub mod Words
+pub mod Sum
+pub mod Give
+pub mod Reading

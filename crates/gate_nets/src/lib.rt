@@ -1,0 +1,14 @@
+//! Small nets of gates, which stand for word cells are put together from.
+#![tactic(auto)]
+
+mod adder;
+mod folding;
+mod gate;
+mod output;
+mod words;
+
+pub use adder::{Total, negate, sum};
+pub use folding::fold;
+pub use gate::{Gate, add_gate};
+pub use output::give;
+pub use words::{bitwise, invert, select};
