@@ -8,7 +8,8 @@ use Rattle.rtl_ir.specs.declared.cell.CellParam.{CellParam}
 use Rattle.rtl_ir.specs.declared.cell.Pin.{Pin}
 use Rattle.rtl_sig.specs.declared.sig.SigBit.{SigBit}
 use Rattle.net_index.specs.Builder.{IsInLimits, PassesLimit}
-use Rattle.map_gates.specs.Gates.{added, each_bit}
+use Rattle.map_laws.specs.Expansion.{cells_added}
+use Rattle.map_gates.specs.Gates.{each_bit}
 
 -- the cell of a type under the fresh name of a number
 abbrev pub cell_named : List ℕ → List CellParam → List Pin → ℕ → Cell
@@ -28,7 +29,7 @@ grown cell at [] b = sym (append-nil b.body.cells)
 grown cell at (y ∷ ys) b =
     grown cell (suc at) ys (puts cell at y b) ∙ append_assoc b.body.cells (cell at b.next y ∷ []) (cells_from cell (suc at) (b.next + 1) ys)
 
-pub added_is : (cell : ℕ → ℕ → SigBit → Cell) (ys : List SigBit) (b : Building) → added b (each_bit (puts cell) 0 ys b) ≡ cells_from cell 0 b.next ys
+pub added_is : (cell : ℕ → ℕ → SigBit → Cell) (ys : List SigBit) (b : Building) → cells_added b (each_bit (puts cell) 0 ys b) ≡ cells_from cell 0 b.next ys
 added_is cell ys b = ap (drop (length b.body.cells)) (grown cell 0 ys b) ∙ drop-append_seam b.body.cells (cells_from cell 0 b.next ys)
 
 -- what is within the limits was so before

@@ -36,7 +36,8 @@ use Rattle.net_model.specs.Valuation.{Valuation, read, read_all, read_words}
 use Rattle.net_model.specs.Value.{value_of, worked_of}
 use Rattle.map_gates.specs.Bitwise.{gate_for}
 use Rattle.map_gates.specs.Expand.{gates_of}
-use Rattle.map_gates.specs.Gates.{added, bit_at, one, pin_signal}
+use Rattle.map_laws.specs.Expansion.{cells_added}
+use Rattle.map_gates.specs.Gates.{bit_at, one, pin_signal}
 use Rattle.map_gates.proofs.Adding.{cell_named}
 use Rattle.map_gates.proofs.Operands.{operand_below, operand_read, word_below}
 use Rattle.map_gates.proofs.Standing.{gate_named, gate_value, gates_stand, shape_kind, words_of}
@@ -57,7 +58,7 @@ same_gate Xnor a b s = refl
 module _ (ports : Ports) (start : SigBit → Bit) (wires : List Wire) (c : Cell) (b : Building) where
   -- what the word cell of a kind may become
   abbrev Stands : WordKind → Type 0
-  Stands kind = StandsFor ports start wires c (added b (gates_of (Word kind) (cell_shape (Word kind) c.params) c b))
+  Stands kind = StandsFor ports start wires c (cells_added b (gates_of (Word kind) (cell_shape (Word kind) c.params) c b))
 
   -- the bits at the pins A, B and S
   abbrev a_at : Bool → ℕ → SigBit
@@ -72,7 +73,7 @@ module _ (ports : Ports) (start : SigBit → Bit) (wires : List Wire) (c : Cell)
   pub inverse_stands : cell_kind c ≡ Some (Word (Unary Not)) → Stands (Unary Not)
   inverse_stands word = by (cell_shape (Word (Unary Not)) c.params) refl
     where
-      by : (shape : Shape) → shape ≡ cell_shape (Word (Unary Not)) c.params → StandsFor ports start wires c (added b (gates_of (Word (Unary Not)) shape c b))
+      by : (shape : Shape) → shape ≡ cell_shape (Word (Unary Not)) c.params → StandsFor ports start wires c (cells_added b (gates_of (Word (Unary Not)) shape c b))
       by shape e =
           gates_stand ports start wires c (Unary Not) GateOf.Not
           (λ at n y. cell_named (gate_name GateOf.Not) [] (one A (a_at shape.signs.a at) ∷ one Y y ∷ []) n)
@@ -90,7 +91,7 @@ module _ (ports : Ports) (start : SigBit → Bit) (wires : List Wire) (c : Cell)
   pub bitwise_stands : (kind : BitwiseKind) → cell_kind c ≡ Some (Word (Bitwise kind)) → Stands (Bitwise kind)
   bitwise_stands kind word = by (cell_shape (Word (Bitwise kind)) c.params) refl
     where
-      by : (shape : Shape) → shape ≡ cell_shape (Word (Bitwise kind)) c.params → StandsFor ports start wires c (added b (gates_of (Word (Bitwise kind)) shape c b))
+      by : (shape : Shape) → shape ≡ cell_shape (Word (Bitwise kind)) c.params → StandsFor ports start wires c (cells_added b (gates_of (Word (Bitwise kind)) shape c b))
       by shape e =
           gates_stand ports start wires c (Bitwise kind) (gate_for kind)
           (λ at n y. cell_named (gate_name (gate_for kind)) [] (one A (a_at (both_signed shape) at) ∷ one B (b_at (both_signed shape) at) ∷ one Y y ∷ []) n)
@@ -116,7 +117,7 @@ module _ (ports : Ports) (start : SigBit → Bit) (wires : List Wire) (c : Cell)
   pub mux_stands : cell_kind c ≡ Some (Word Mux) → Stands Mux
   mux_stands word = by (cell_shape (Word Mux) c.params) refl
     where
-      by : (shape : Shape) → shape ≡ cell_shape (Word Mux) c.params → StandsFor ports start wires c (added b (gates_of (Word Mux) shape c b))
+      by : (shape : Shape) → shape ≡ cell_shape (Word Mux) c.params → StandsFor ports start wires c (cells_added b (gates_of (Word Mux) shape c b))
       by shape e =
           gates_stand ports start wires c Mux GateOf.Mux
           (λ at n y. cell_named (gate_name GateOf.Mux) [] (one A (a_at false at) ∷ one B (b_at false at) ∷ one S s_at ∷ one Y y ∷ []) n)

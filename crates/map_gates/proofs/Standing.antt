@@ -28,7 +28,8 @@ use Rattle.net_model.specs.Run.{Time}
 use Rattle.net_model.specs.Swap.{StandsFor}
 use Rattle.net_model.specs.Valuation.{Valuation, read_words}
 use Rattle.net_model.specs.Value.{gate_input, value_of, worked_of}
-use Rattle.map_gates.specs.Gates.{added, each_bit, pin_signal}
+use Rattle.map_laws.specs.Expansion.{cells_added}
+use Rattle.map_gates.specs.Gates.{each_bit, pin_signal}
 use Rattle.map_gates.proofs.Adding.{added_is, cell_named, cells_from, puts}
 
 -- a gate is named by its kind
@@ -97,7 +98,7 @@ pub gates_stand : (ports : Ports) (start : SigBit → Bit) (wires : List Wire) (
     → ((at n : ℕ) (y : SigBit) → cell_kind (cell at n y) ≡ Some (Gate gate))
     → ((p : Path) (at n : ℕ) (y : SigBit) → cell_rows start ports p wires (cell at n y) (Some (Gate gate)) ≡ outputs (cell_shape (Gate gate) []) (bits p at) (point p wires y ∷ []) 0)
     → ((p : Path) (t : Time Place) (w : Valuation) (at : ℕ) (z : Bit) → Below (value_of (Worked (cell_shape (Gate gate) []) (bits p at) 0) t w) z → Below (value_of (Worked (cell_shape (Word kind) c.params) (words_of p wires c) at) t w) z)
-    → StandsFor ports start wires c (added b (each_bit (puts cell) 0 (pin_signal c Y) b))
+    → StandsFor ports start wires c (cells_added b (each_bit (puts cell) 0 (pin_signal c Y) b))
 gates_stand ports start wires c kind gate cell bits b word is rows says = record {
   children =
       ap instances (added_is cell (pin_signal c Y) b) ∙ no_instances cell (Gate gate) is 0 b.next (pin_signal c Y) ∙ ap (λ k. listed (instance_of c k) ++ []) (sym word);

@@ -1,5 +1,5 @@
 -- Gates that are added to a module, one for each bit of an output.
-use Rattle.std.specs.Prelude.{ℕ, suc, Bool, List, [], ◌∷◌, length, drop, slice_index_or}
+use Rattle.std.specs.Prelude.{ℕ, suc, Bool, List, [], ◌∷◌, slice_index_or}
 use Rattle.cell_types.specs.PinName.{pin_text}
 use Rattle.cell_types.specs.declared.gate.GateKind.{GateKind}
 use Rattle.cell_types.specs.declared.gate.GateKind.TheVariants.{Mux}
@@ -41,7 +41,3 @@ mux_gate a b s y = new_cell (gate_name Mux) [] (one A a ∷ one B b ∷ one S s 
 abbrev pub each_bit : (ℕ → SigBit → Building → Building) → ℕ → List SigBit → Building → Building
 each_bit gate at [] b = b
 each_bit gate at (y ∷ ys) b = each_bit gate (suc at) ys (gate at y b)
-
--- the cells that were added to a module
-abbrev pub added : Building → Building → List Cell
-added old new = drop (length old.body.cells) new.body.cells

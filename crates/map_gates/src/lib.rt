@@ -5,15 +5,14 @@ mod bitwise;
 mod gate;
 mod operand;
 
-ghost use Rattle.std.specs.Prelude.{◌≡◌, Err, List, OnOk};
+ghost use Rattle.std.specs.Prelude.{◌≡◌, Err, List, OnOk, length};
 ghost use Rattle.rtl_bits.specs.declared.bit.Bit.{Bit};
 ghost use Rattle.rtl_sig.specs.declared.sig.SigBit.{SigBit};
 ghost use Rattle.rtl_ir.specs.Flat.Cell.{Ports};
 ghost use Rattle.rtl_ir.specs.declared.wire.Wire.{Wire};
 ghost use Rattle.net_index.specs.Builder.{IsInLimits, PassesLimit};
-ghost use Rattle.net_model.specs.Swap.{StandsFor};
+ghost use Rattle.map_laws.specs.Expansion.{IsExpansion, IsWhole, StandsWith, cells_added, links_added};
 ghost use Rattle.map_gates.specs.Expand.{IsMapped, IsShapeOf, map_of};
-ghost use Rattle.map_gates.specs.Gates.{added};
 
 use crate::bitwise::{binary_gates, gate_for, mux_gates, unary_gates};
 use crate::operand::{bit_at, pin_signal};
@@ -33,9 +32,11 @@ pub fn expand(
     ensures exact { OnOk result (builder.new ≡ map_of shape.now cell.now builder.old) }
     ensures over { result ≡ Err PassFault.Over → PassesLimit (map_of shape.now cell.now builder.old) }
     ensures within { IsInLimits builder.old → OnOk result (IsInLimits builder.new) }
+    ensures expansion { OnOk result (IsShapeOf cell.now shape.now → IsMapped shape.now.kind →
+        IsWhole (length builder.old.body.wires) shape.now.kind cell.now → IsExpansion builder.old builder.new cell.now) }
     ensures refines { OnOk result (IsShapeOf cell.now shape.now → IsMapped shape.now.kind →
         (ports : Ports) (start : SigBit → Bit) (wires : List Wire) →
-        StandsFor ports start wires cell.now (added builder.old builder.new)) }
+        StandsWith ports start wires cell.now (cells_added builder.old builder.new) (links_added builder.old builder.new)) }
 {
     add_gates(alloc, cell, shape, builder)
 }

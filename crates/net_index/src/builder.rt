@@ -185,6 +185,13 @@ impl Builder {
         self.body.links.push(link)
     }
 
+    /// How many cells there are.
+    pub fn cell_count(&self) -> usize
+        ensures value { result ≡ length self.now.body.cells }
+    {
+        self.body.cells.as_slice().len()
+    }
+
     /// The module with all that was added. It takes no memory.
     pub fn finish(self) -> Module
         ensures value { result ≡ self.body }

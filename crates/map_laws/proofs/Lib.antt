@@ -1,0 +1,5 @@
+pub mod FreshNames
+pub mod Expanding
+pub mod Reordering
+pub mod Wholes
+pub mod FreshWires

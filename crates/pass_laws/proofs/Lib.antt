@@ -1,0 +1,11 @@
+pub mod Faultless
+pub mod Alone
+pub mod Counting
+pub mod Forming
+pub mod Agreeing
+pub mod Passes
+pub mod Moving
+pub mod Rewriting
+pub mod Outputs
+pub mod Placing
+pub mod Widening

@@ -1,0 +1,5 @@
+pub mod Ready
+pub mod Pass
+pub mod Stays
+pub mod Bits
+pub mod Replaces

@@ -1,0 +1,25 @@
+//! Laws of passes. Each is the contract of a function that does nothing.
+
+ghost use Rattle.std.specs.Prelude.{◌≡◌, List, ◌∷◌, ◌++◌};
+ghost use Rattle.rtl_ir.specs.Types.{table_ports};
+ghost use Rattle.pass_laws.specs.Pass.{IsPass};
+ghost use Rattle.pass_laws.specs.Ready.{IsReady};
+ghost use Rattle.pass_laws.specs.Replaces.{Replaces, replacing};
+
+use rtl_ir::{Cell, Link, Module, PortTable};
+
+/// A pass that changes nothing is one, and so are two in turn.
+pub fn passes_in_turn()
+    ensures none { (table : PortTable) (m : Module) → IsPass table m m }
+    ensures both { (table : PortTable) (a b c : Module) → IsPass table a b → IsPass table b c →
+        IsPass table a c }
+{}
+
+/// Cells may come in the place of one cell, and connections behind all others, where they drive the
+/// bits that the cell drives, have no faults, and each solution of the new rows meets those of the
+/// cell.
+pub fn cells_may_be_replaced()
+    ensures pass { (table : PortTable) (m : Module) (pre : List Cell) (c : Cell) (post here : List Cell)
+        (more : List Link) → IsReady (table_ports table.modules) m → m.cells ≡ pre ++ c ∷ post →
+        Replaces table m pre c post here more → IsPass table m (replacing pre here post more m) }
+{}
