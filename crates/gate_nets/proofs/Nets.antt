@@ -15,7 +15,7 @@ use Rattle.rtl_bits.specs.declared.bit.Bit.TheVariants.{S0, S1, X}
 use Rattle.rtl_ir.specs.Build.{Build, Building}
 use Rattle.rtl_sig.specs.declared.sig.SigBit.{SigBit}
 use Rattle.rtl_sig.specs.declared.sig.SigBit.TheVariants.{Fixed}
-use Rattle.gate_nets.specs.Gate.{◌>>=◌, pure, bit_of, gate_of, gate_for}
+use Rattle.gate_nets.specs.Gate.{after, pure, bit_of, gate_of, gate_for}
 use Rattle.gate_nets.specs.Reading.{gates_of}
 use Rattle.gate_nets.specs.Sum.{adder_of, negative_of, sum_of}
 use Rattle.gate_nets.specs.Words.{bitwise_of, fold_from, inverse_of, select_of}
@@ -117,8 +117,8 @@ module _ (l : Logic) where
   pub net_pure : {A R : Type 0} {a : A} {W : A → Type 0} → (R → W a) → Net R (pure a) W
   net_pure h = record { gates = λ b. []; is = λ b. refl; holds = λ b r o. (tt, h r) }
 
-  pub net_then : {A B R : Type 0} {m : Build A} {k : A → Build B} {W : A → Type 0} {V : B → Type 0} → Net R m W → ((a : A) → Net (R × W a) (k a) V) → Net R (m >>= k) V
-  unfolding ◌>>=◌
+  pub net_then : {A B R : Type 0} {m : Build A} {k : A → Build B} {W : A → Type 0} {V : B → Type 0} → Net R m W → ((a : A) → Net (R × W a) (k a) V) → Net R (after m k) V
+  unfolding after
   net_then {m = m} {k = k} n h = record {
     gates = λ b. n.gates b ++ (h (m b).0).gates (m b).1;
     is = λ b.

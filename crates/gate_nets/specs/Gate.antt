@@ -20,9 +20,12 @@ abbrev pub pure : {A : Type 0} → A → Build A
 pure a b = (a, b)
 
 -- one step, and then another one with the result of the first
+unfoldable pub after : {A B : Type 0} → Build A → (A → Build B) → Build B
+after m next b = next (m b).0 (m b).1
+
 infixl 10 ◌>>=◌
-unfoldable pub ◌>>=◌ : {A B : Type 0} → Build A → (A → Build B) → Build B
-◌>>=◌ m next b = next (m b).0 (m b).1
+abbrev pub ◌>>=◌ : {A B : Type 0} → Build A → (A → Build B) → Build B
+m >>= next = after m next
 
 -- the gate that does with bits what a kind does with words
 abbrev pub gate_for : BitwiseKind → GateKind

@@ -55,8 +55,8 @@ pub fn sum(
 {
     let mut bits = SigSpec::make(alloc);
     let mut carried = carry;
-    for (x, y) in a.iter().zip(b.iter()) {
-        let (bit, next) = add_digit(alloc, *x, *y, carried, builder)?;
+    for at in 0..a.len().min(b.len()) {
+        let (bit, next) = add_digit(alloc, a[at], b[at], carried, builder)?;
         bits.push(bit)?;
         carried = next;
     }

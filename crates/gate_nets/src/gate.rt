@@ -77,6 +77,7 @@ fn inputs_of(alloc: Global, gate: Gate) -> Result<Vec<Pin>, Memory>
 
 /// Puts the gate last, under the next fresh name, and a fresh wire of one bit at its output Y, under the
 /// name behind it. The answer is the wire's bit. `Over` comes where the module would pass a limit.
+#[tactic(auto, unfolding(crate::specs::Gate::gate_of))]
 pub fn add_gate(alloc: Global, gate: Gate, builder: &mut Builder) -> Result<SigBit, PassFault>
     ensures exact { IfOk result (λ bit. (bit, builder.new) ≡ gate_of gate builder.old) }
     ensures over { result ≡ Err PassFault.Over → PassesLimit (gate_of gate builder.old).1 }

@@ -36,8 +36,8 @@ pub fn bitwise(
     ensures within { IsInLimits builder.old → OnOk result (IsInLimits builder.new) }
 {
     let mut made = SigSpec::make(alloc);
-    for (x, y) in a.iter().zip(b.iter()) {
-        made.push(add_gate(alloc, Gate::Bitwise(kind, *x, *y), builder)?)?;
+    for at in 0..a.len().min(b.len()) {
+        made.push(add_gate(alloc, Gate::Bitwise(kind, a[at], b[at]), builder)?)?;
     }
     Ok(made)
 }
@@ -55,8 +55,8 @@ pub fn select(
     ensures within { IsInLimits builder.old → OnOk result (IsInLimits builder.new) }
 {
     let mut made = SigSpec::make(alloc);
-    for (x, y) in a.iter().zip(b.iter()) {
-        made.push(add_gate(alloc, Gate::Mux(*x, *y, s), builder)?)?;
+    for at in 0..a.len().min(b.len()) {
+        made.push(add_gate(alloc, Gate::Mux(a[at], b[at], s), builder)?)?;
     }
     Ok(made)
 }
