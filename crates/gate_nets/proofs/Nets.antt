@@ -28,7 +28,7 @@ gates-append [] ys b = refl
 gates-append (x ∷ xs) ys b = gates-append xs ys (gate_of x b).1
 
 -- a gate brings one wire
-one_wire : (g : Gate) (b : Building) → length (gate_of g b).1.body.wires ≡ length b.body.wires + 1
+pub one_wire : (g : Gate) (b : Building) → length (gate_of g b).1.body.wires ≡ length b.body.wires + 1
 unfolding gate_of
 one_wire g b = length-append b.body.wires _
 
@@ -39,10 +39,10 @@ wires_after (g ∷ gates) b = omega (arith, wires_after gates (gate_of g b).1, o
 no_length : (n : ℕ) → suc n ≡ 0 → ⊥
 no_length n e = omega arith
 
-same_rest : (m n : ℕ) → suc m ≡ suc n → m ≡ n
+pub same_rest : (m n : ℕ) → suc m ≡ suc n → m ≡ n
 same_rest m n e = omega arith
 
-length-replicate : {A : Type 0} (n : ℕ) (x : A) → length (replicate n x) ≡ n
+pub length-replicate : {A : Type 0} (n : ℕ) (x : A) → length (replicate n x) ≡ n
 length-replicate zero x = refl
 length-replicate (suc n) x = ap suc (length-replicate n x)
 

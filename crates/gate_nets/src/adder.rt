@@ -22,6 +22,7 @@ pub struct Total {
 }
 
 /// A bit of a sum, and the carry.
+#[tactic(auto, using(crate::proofs::Added::one_limits), unfolding(crate::specs::Gate::after))]
 fn add_digit(
     alloc: Global,
     a: SigBit,
@@ -42,6 +43,7 @@ fn add_digit(
 }
 
 /// The sum of two words and a carry, as far as both words go.
+#[tactic(auto, using(crate::proofs::Limits::sum_over))]
 pub fn sum(
     alloc: Global,
     a: &[SigBit],
@@ -75,6 +77,7 @@ fn zeros(alloc: Global, width: usize) -> Result<SigSpec, Memory>
 }
 
 /// The two's complement of a word: the sum of its inverse and 1.
+#[tactic(auto, using(crate::proofs::Limits::sum_limits), unfolding(crate::specs::Gate::after))]
 pub fn negate(alloc: Global, bits: &[SigBit], builder: &mut Builder) -> Result<SigSpec, PassFault>
     ensures exact { IfOk result (λ word. (word, builder.new) ≡ negative_of bits.now builder.old) }
     ensures over { result ≡ Err PassFault.Over → PassesLimit (negative_of bits.now builder.old).1 }

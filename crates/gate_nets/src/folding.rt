@@ -22,6 +22,7 @@ fn neutral(kind: BitwiseKind) -> SigBit
 }
 
 /// The first bit joined with the others, from the lowest up.
+#[tactic(auto, using(crate::proofs::Steps::fold_step, crate::proofs::Limits::fold_over))]
 fn fold_from(
     alloc: Global,
     kind: BitwiseKind,
