@@ -1,7 +1,6 @@
 -- What gates add to a module: a cell and a wire each.
-use Rattle.std.proofs.Common.{◌≡◌, ℕ, ◌+◌, List, [], ◌∷◌, ◌++◌, length, refl, sym, ◌∙◌, ap, subst, arith}
+use Rattle.std.proofs.Common.{◌≡◌, ℕ, ◌+◌, List, [], ◌∷◌, ◌++◌, length, refl, sym, subst, arith}
 use Rattle.std.proofs.lemmas.List.{append-nil}
-use Rattle.cell_types.specs.PinName.{pin_text}
 use Rattle.cell_types.specs.declared.pin_name.PinName.TheVariants.{Y}
 use Rattle.rtl_ir.specs.Build.{Building, inner_wire, made_name}
 use Rattle.rtl_ir.specs.declared.cell.Cell.{Cell}
@@ -46,7 +45,7 @@ adds_gate g b = record {
   next = omega arith;
 }
 
-next_number : (g : Gate) (b : Building) → (gate_of g b).1.next ≡ b.next + 1 + 1
+pub next_number : (g : Gate) (b : Building) → (gate_of g b).1.next ≡ b.next + 1 + 1
 unfolding gate_of
 next_number g b = refl
 

@@ -1,11 +1,10 @@
 -- The bits of a sum are those of the sum of the numbers.
-use Rattle.std.proofs.Common.{◌≡◌, ℕ, zero, suc, ◌+◌, ◌*◌, ◌/◌, ◌%◌, ◌^◌, Bool, true, false, List, [], ◌∷◌, ◌++◌, length, refl, sym, ◌∙◌, ap, subst, arith}
+use Rattle.std.proofs.Common.{◌≡◌, ℕ, zero, suc, ◌+◌, ◌*◌, ◌^◌, Bool, true, false, List, [], ◌∷◌, length, refl, sym, ◌∙◌, ap, subst, arith}
 use Rattle.std.specs.Prelude.{map}
 use Rattle.std.specs.List.{range_with_len}
 use Rattle.cell_word.specs.Words.{word_of}
-use Rattle.rtl_bits.proofs.Numbers.{bits_of_length, bits_of_number_of, number_of_small}
 use Rattle.rtl_bits.specs.Knowledge.{AreKnown, IsKnown}
-use Rattle.rtl_bits.specs.Numbers.{bits_of, digit_of, number_of}
+use Rattle.rtl_bits.specs.Numbers.{digit_of, number_of}
 use Rattle.rtl_bits.specs.Tables.{not_of}
 use Rattle.rtl_bits.specs.declared.bit.Bit.{Bit}
 use Rattle.rtl_bits.specs.declared.bit.Bit.TheVariants.{S0, S1, X, Z, M, Dash}

@@ -1,15 +1,10 @@
 -- Nets: steps that add gates alone, and what their results have under a reading.
 use Rattle.std.specs.Prelude.{replicate}
 use Rattle.std.proofs.Common.{◌≡◌, ℕ, zero, suc, ◌+◌, List, [], ◌∷◌, ◌++◌, length, refl, sym, ◌∙◌, ap, subst, arith, length-append}
-use Rattle.cell_gate.proofs.Monotone.{output_below}
 use Rattle.cell_gate.specs.Gates.{output_of}
-use Rattle.cell_types.specs.declared.gate.GateKind.TheVariants as Kind
 use Rattle.cell_types.specs.declared.word.BitwiseKind.{BitwiseKind}
 use Rattle.cell_types.specs.declared.word.BitwiseKind.TheVariants.{And, Or, Xor}
-use Rattle.rtl_bits.proofs.Orders.{Below_trans}
-use Rattle.rtl_bits.specs.Knowledge.{Below}
 use Rattle.rtl_bits.specs.declared.bit.Bit.{Bit}
-use Rattle.rtl_bits.proofs.Tables.{mux_of_mono, not_of_mono}
 use Rattle.rtl_bits.specs.Tables.{and_of, mux_of, not_of, or_of, xor_of}
 use Rattle.rtl_bits.specs.declared.bit.Bit.TheVariants.{S0, S1, X}
 use Rattle.rtl_ir.specs.Build.{Build, Building}

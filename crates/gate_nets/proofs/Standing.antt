@@ -1,43 +1,34 @@
 -- Nets that stand for word cells: what a net gives to the output of a cell is at least the cell's value.
-use Rattle.std.proofs.Common.{◌≡◌, ◌<◌, ◌≤◌, ℕ, zero, suc, ◌+◌, ◌-◌, Bool, true, false, not, List, [], ◌∷◌, ◌++◌, length, Some, inl, inr, refl, sym, ◌∙◌, ap, subst, arith}
-use Rattle.std.specs.Prelude.{replicate, slice_index_or, take, ◌==◌, map}
+use Rattle.std.proofs.Common.{◌≡◌, ◌<◌, ℕ, zero, suc, ◌+◌, ◌-◌, false, List, [], ◌∷◌, ◌++◌, length, Some, inl, inr, refl, sym, ◌∙◌, ap, subst, arith, length-append}
+use Rattle.std.specs.Prelude.{replicate, slice_index_or, take}
+use Rattle.std.proofs.lemmas.List.{length-take}
 use Rattle.cell_gate.proofs.Monotone.{output_below}
 use Rattle.cell_gate.specs.Gates.{output_of}
-use Rattle.cell_types.specs.declared.gate.GateKind.TheVariants as Kind
-use Rattle.cell_types.specs.PinName.{pin_text}
 use Rattle.cell_types.specs.declared.kind.CellKind.{CellKind}
-use Rattle.cell_types.specs.declared.kind.CellKind.TheVariants.{Gate as GateCell, Word}
-use Rattle.cell_types.specs.declared.pin_name.PinName.TheVariants.{A, B, S, Y}
+use Rattle.cell_types.specs.declared.kind.CellKind.TheVariants.{Gate as GateCell}
 use Rattle.cell_types.specs.declared.shape.Shape.{Shape}
-use Rattle.cell_types.specs.declared.word.WordKind.{WordKind}
-use Rattle.cell_word.specs.Values as word_values
-use Rattle.cell_word.specs.Values.{value_by}
 use Rattle.rtl_bits.proofs.Orders.{Below_from_equal, Below_trans}
 use Rattle.rtl_bits.proofs.Tables.{mux_of_mono, not_of_mono}
 use Rattle.rtl_bits.specs.Knowledge.{Below}
 use Rattle.rtl_bits.specs.Tables.{mux_of, not_of}
 use Rattle.rtl_bits.specs.declared.bit.Bit.{Bit}
 use Rattle.rtl_bits.specs.declared.bit.Bit.TheVariants.{S0, S1, X, Z, M, Dash}
-use Rattle.rtl_ir.specs.Build.{Build, Building}
-use Rattle.rtl_ir.specs.Flat.Cell.{Ports, cell_kind, cell_rows, cell_shape, cells_rows, instance_of, instances, listed, outputs}
+use Rattle.rtl_ir.specs.Flat.Cell.{Ports, cell_kind, cell_rows, cell_shape, cells_rows, outputs}
 use Rattle.rtl_ir.specs.Flat.Driver.{Driven, Worked, Joined}
-use Rattle.rtl_ir.specs.Flat.Link.{joins, link_rows}
+use Rattle.rtl_ir.specs.Flat.Link.{joins}
 use Rattle.rtl_ir.specs.Flat.Place.{Path, Place}
-use Rattle.rtl_ir.specs.Flat.Point.{Point, Constant, At, bit_place, pin_points, point, points}
-use Rattle.rtl_ir.specs.Parameters.{signal_at}
-use Rattle.rtl_ir.specs.declared.cell.Cell.{Cell}
+use Rattle.rtl_ir.specs.Flat.Point.{Point, Constant, At, bit_place, point, points}
 use Rattle.rtl_ir.specs.declared.cell.CellParam.{CellParam}
-use Rattle.rtl_ir.specs.declared.module.Link.{Link}
 use Rattle.rtl_ir.specs.declared.wire.Wire.{Wire}
 use Rattle.rtl_sig.specs.Signal.{extended}
 use Rattle.rtl_sig.specs.declared.sig.SigBit.{SigBit}
-use Rattle.rtl_sig.specs.declared.sig.SigBit.TheVariants.{Fixed, Wire as OnWire}
+use Rattle.rtl_sig.specs.declared.sig.SigBit.TheVariants.{Fixed}
 use Rattle.net_model.proofs.Members.{In-left, In-right}
 use Rattle.net_model.specs.Lists.{In}
 use Rattle.net_model.specs.Refine.{IsMet}
 use Rattle.net_model.specs.Run.{Time}
-use Rattle.net_model.specs.Valuation.{Valuation, passed_of, read, read_all, read_words}
-use Rattle.net_model.specs.Value.{gate_input, value_of as driver_value, worked_of}
+use Rattle.net_model.specs.Valuation.{Valuation, passed_of, read, read_words}
+use Rattle.net_model.specs.Value.{value_of as driver_value, worked_of}
 use Rattle.gate_nets.specs.Gate.{bit_of, gate_for, kind_of}
 use Rattle.gate_nets.specs.Reading.{IsReading, value_of}
 use Rattle.gate_nets.specs.declared.gate.Gate.{Gate}
@@ -60,7 +51,7 @@ reads f is = record {
       (tt, λ at made. Below_trans (mux_of u v c) (mux_of (f a) (f b) (f s)) (f (bit_of at)) (mux_of_mono u (f a) v (f b) c (f s) h k j) made);
 }
 
-shape_kind : (kind : CellKind) (params : List CellParam) → (cell_shape kind params).kind ≡ kind
+pub shape_kind : (kind : CellKind) (params : List CellParam) → (cell_shape kind params).kind ≡ kind
 unfolding cell_shape
 shape_kind kind params = refl
 
@@ -130,9 +121,9 @@ module _ (ports : Ports) (start : SigBit → Bit) (p : Path) (wires : List Wire)
   outputs_met shape words (y ∷ ys) (r ∷ rs) at e says met d i =
       by (point p wires y)
       (λ more.
-          outputs_met shape words ys rs (suc at) (same_rest (length rs) (length ys) e)
-          (λ k lt. let n : at + suc k ≡ suc at + k = omega arith in subst (λ z. Below (driver_value (Worked shape words z) t w) (here (slice_index_or rs k (Fixed S0)))) n (says (suc k) (omega arith)))
-          more d)
+      outputs_met shape words ys rs (suc at) (same_rest (length rs) (length ys) e)
+      (λ k lt. let n : at + suc k ≡ suc at + k = omega arith in subst (λ z. Below (driver_value (Worked shape words z) t w) (here (slice_index_or rs k (Fixed S0)))) n (says (suc k) (omega arith)))
+      more d)
       met i
     where
       first : Below (driver_value (Worked shape words at) t w) (here r)

@@ -1,11 +1,11 @@
 -- Loops that make nets: what is made so far, below the net of what is left, is the whole net.
-use Rattle.std.proofs.Common.{◌≡◌, ⊎_elim, min, ℕ, suc, ◌+◌, ◌<◌, ◌≤◌, List, [], ◌∷◌, ◌++◌, length, drop, get_or, refl, sym, ◌∙◌, ap, subst, arith, append_assoc, drop-cons}
+use Rattle.std.proofs.Common.{◌≡◌, ⊎_elim, min, ℕ, suc, ◌+◌, ◌<◌, List, [], ◌∷◌, ◌++◌, length, drop, get_or, refl, sym, ◌∙◌, ap, arith, append_assoc, drop-cons}
 use Rattle.std.proofs.lemmas.Bool.{cases_lt}
 use Rattle.std.proofs.lemmas.List.{drop_all}
 use Rattle.cell_types.specs.declared.word.BitwiseKind.{BitwiseKind}
 use Rattle.rtl_ir.specs.Build.{Building}
 use Rattle.rtl_sig.specs.declared.sig.SigBit.{SigBit}
-use Rattle.gate_nets.specs.Gate.{after, gate_of, pure}
+use Rattle.gate_nets.specs.Gate.{after, gate_of}
 use Rattle.gate_nets.specs.Sum.{adder_of, sum_of}
 use Rattle.gate_nets.specs.Words.{each_of, fold_from, pairs_of}
 use Rattle.gate_nets.specs.declared.adder.Total.{Total}

@@ -2,9 +2,7 @@
 use Rattle.std.proofs.Common.{◌≡◌, ◌<◌, ◌≤◌, ℕ, ◌+◌, ◌*◌, false, List, [], ◌∷◌, ◌++◌, length, Some, None, inl, inr, refl, sym, ◌∙◌, ap, subst, arith}
 use Rattle.std.specs.Prelude.{flat_map, map}
 use Rattle.cell_types.specs.declared.kind.CellKind.TheVariants.{Gate as GateCell}
-use Rattle.cell_types.specs.declared.pin_name.PinName.TheVariants.{Y}
 use Rattle.cell_types.specs.declared.word.BitwiseKind.TheVariants.{And, Or, Xor, Xnor}
-use Rattle.rtl_ir.specs.Build.{made_name}
 use Rattle.rtl_ir.specs.Faults.Cells.{has_constant_output, misfit}
 use Rattle.rtl_ir.specs.Types.{Library}
 use Rattle.rtl_ir.specs.Flat.Cell.{cell_kind, instance_of, instances, listed}
@@ -12,7 +10,6 @@ use Rattle.rtl_ir.specs.declared.cell.Cell.{Cell}
 use Rattle.rtl_ir.specs.declared.cell.Pin.{Pin}
 use Rattle.rtl_ir.specs.declared.wire.Wire.{Wire}
 use Rattle.rtl_sig.specs.declared.sig.SigBit.{SigBit}
-use Rattle.net_model.specs.Lists.{In}
 use Rattle.net_model.specs.Within.{BitIn, CellIn, Each, SigIn}
 use Rattle.map_laws.specs.Expansion.{AreRising, IsBare, IsWholeGate, bits_from, cell_bits, kind_bits}
 use Rattle.gate_nets.specs.Gate.{bit_of, kind_of}

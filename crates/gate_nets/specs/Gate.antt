@@ -1,5 +1,5 @@
 -- Gates with fresh wires of one bit at their outputs.
-use Rattle.std.specs.Prelude.{ℕ, List, [], ◌∷◌, length, codes}
+use Rattle.std.specs.Prelude.{ℕ, List, [], ◌∷◌, length}
 use Rattle.cell_types.specs.PinName.{pin_text}
 use Rattle.cell_types.specs.declared.gate.GateKind.{GateKind}
 use Rattle.cell_types.specs.declared.gate.GateKind.TheVariants as Kind
@@ -7,7 +7,7 @@ use Rattle.cell_types.specs.declared.pin_name.PinName.{PinName}
 use Rattle.cell_types.specs.declared.pin_name.PinName.TheVariants.{A, B, S, Y}
 use Rattle.cell_types.specs.declared.word.BitwiseKind.{BitwiseKind}
 use Rattle.cell_types.specs.declared.word.BitwiseKind.TheVariants.{And, Or, Xor, Xnor}
-use Rattle.rtl_ir.specs.Build.{Build, Building, new_driver, pin_of}
+use Rattle.rtl_ir.specs.Build.{Build, new_driver, pin_of}
 use Rattle.rtl_ir.specs.declared.cell.Pin.{Pin}
 use Rattle.rtl_sig.specs.declared.sig.SigBit.{SigBit}
 use Rattle.rtl_sig.specs.declared.sig.SigBit.TheVariants.{Wire as OnWire}

@@ -25,4 +25,3 @@ value_of f (Mux a b s) = output_of Kind.Mux (f a) (f b) (f s)
 abbrev pub gates_of : List Gate → Building → Building
 gates_of [] b = b
 gates_of (g ∷ gates) b = gates_of gates (gate_of g b).1
-

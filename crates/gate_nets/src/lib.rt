@@ -1,4 +1,4 @@
-//! Small nets of gates, which stand for word cells are put together from.
+//! Small nets of gates that the expansions of word cells are put together from.
 #![tactic(auto)]
 
 mod adder;

@@ -1,4 +1,4 @@
-use Rattle.std.proofs.Common.{rules, ◌≡◌, min, length, List, sym, ◌∙◌, ap, drop, ◌+◌, arith}
+use Rattle.std.proofs.Common.{◌≡◌, min, length, sym, ◌∙◌, ap, drop, ◌+◌, arith}
 use Rattle.std.proofs.lemmas.List.{append-nil}
 use Rattle.rtl_bits.specs.declared.bit.Bit.TheVariants.{S0}
 use Rattle.rtl_sig.specs.declared.sig.SigBit.TheVariants.{Fixed}
