@@ -5,7 +5,6 @@ use Rattle.std.proofs.lemmas.Bool.Decides.{nat_tests}
 use Rattle.std.proofs.lemmas.List.{append-nil}
 use Rattle.cell_types.specs.PinName.{pin_text}
 use Rattle.cell_types.specs.declared.kind.CellKind.TheVariants.{Word}
-use Rattle.cell_types.specs.declared.pin_name.PinName.{PinName}
 use Rattle.cell_types.specs.declared.pin_name.PinName.TheVariants.{A, B, S, Y}
 use Rattle.cell_types.specs.declared.shape.Shape.{Shape}
 use Rattle.cell_types.specs.declared.word.WordKind.{WordKind}
@@ -20,7 +19,6 @@ use Rattle.rtl_ir.specs.Flat.Driver.{Driven, Worked}
 use Rattle.rtl_ir.specs.Flat.Link.{joins, link_rows}
 use Rattle.rtl_ir.specs.Flat.Place.{Path, Place}
 use Rattle.rtl_ir.specs.Flat.Point.{Point, pin_points, point, points}
-use Rattle.rtl_ir.specs.Parameters.{signal_at}
 use Rattle.rtl_ir.specs.Signals.{has_constant, wire_bits}
 use Rattle.rtl_ir.specs.declared.cell.Cell.{Cell}
 use Rattle.rtl_ir.specs.declared.module.Link.{Link}
@@ -44,16 +42,13 @@ use Rattle.map_laws.specs.Expansion.{Adds, IsExpansion, IsWhole, IsWholeLink, St
 use Rattle.pass_laws.proofs.Outputs.{output_wires}
 use Rattle.gate_nets.specs.Gate.{gate_of}
 use Rattle.gate_nets.specs.Give.{give_to}
+use Rattle.gate_nets.specs.Operand.{pin_signal}
 use Rattle.gate_nets.specs.Reading.{IsReading, gates_of}
 use Rattle.gate_nets.specs.declared.gate.Gate.{Gate}
 use Rattle.gate_nets.proofs.Added.{adds_gates, cells_of, next_number, wires_of}
 use Rattle.gate_nets.proofs.Nets.{Net}
 use Rattle.gate_nets.proofs.Standing.{at_extended, fair_rows, here, here_reads, length-extended, outputs_met, reads, shape_kind}
 use Rattle.gate_nets.proofs.Wholes.{cell_names, fair_names, gates_bits, gates_whole, names, no_instances, wire_names, wires_bare}
-
--- the signal at a pin of a cell
-abbrev pub pin_signal : Cell → PinName → List SigBit
-pin_signal c name = signal_at c.pins (pin_text name)
 
 -- the connection of an output to bits
 abbrev pub line_of : List SigBit → List SigBit → Link

@@ -6,3 +6,4 @@ pub mod Limits
 pub mod Wholes
 pub mod Standing
 pub mod Expanding
+pub mod Residues

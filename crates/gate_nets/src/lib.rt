@@ -4,11 +4,13 @@
 mod adder;
 mod folding;
 mod gate;
+mod operand;
 mod output;
 mod words;
 
 pub use adder::{Total, negate, sum};
 pub use folding::fold;
 pub use gate::{Gate, add_gate};
+pub use operand::{extended, pin_signal};
 pub use output::give;
 pub use words::{bitwise, invert, select};
