@@ -51,6 +51,7 @@ fn greater_width(cell: &Cell) -> usize
 }
 
 /// The bit of an order cell.
+#[tactic(auto, unfolding(gate_nets::specs::Gate::after))]
 fn ordered(
     alloc: Global,
     kind: OrderKind,
