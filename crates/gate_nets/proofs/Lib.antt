@@ -7,3 +7,4 @@ pub mod Wholes
 pub mod Standing
 pub mod Expanding
 pub mod Residues
+pub mod Lawful

@@ -1,5 +1,5 @@
 -- Numbers that stand for integers modulo a power of two, and the numbers of extended words.
-use Rattle.std.proofs.Common.{◌≡◌, ℕ, zero, suc, ◌+◌, ◌-◌, ◌*◌, ◌/◌, ◌%◌, ◌^◌, ◌<◌, ◌≤◌, Bool, true, false, cond, List, [], ◌∷◌, length, refl, sym, ◌∙◌, ap, subst, arith, ℤ, pos, negsuc, neg_ℤ, ◌+ℤ◌, ◌-ℤ◌}
+use Rattle.std.proofs.Common.{◌≡◌, ℕ, zero, suc, ◌+◌, ◌-◌, ◌*◌, ◌/◌, ◌%◌, ◌^◌, ◌<◌, Bool, true, false, List, [], ◌∷◌, length, sym, ◌∙◌, ap, subst, arith, ℤ, pos, negsuc, neg_ℤ, ◌+ℤ◌, ◌-ℤ◌}
 use Rattle.std.specs.Prelude.{if◌then◌else◌, map, slice_index_or}
 use Rattle.std.proofs.Math.Nat.{add-mul-mod_self_right, mod-mod}
 use Rattle.std.proofs.lemmas.Int.{ints}
@@ -7,9 +7,7 @@ use Rattle.std.proofs.lemmas.Nat.{div-add-mod', mod_below, pow_pos}
 use Rattle.cell_word.proofs.Residues.{bits_of_rest, bits_of_wrapped}
 use Rattle.cell_word.specs.Integers.{integer_bits, integer_in}
 use Rattle.cell_word.specs.Words.{extended_at, fill_of}
-use Rattle.rtl_bits.proofs.Numbers.{bits_of_number_of}
-use Rattle.rtl_bits.specs.Knowledge.{AreKnown, IsKnown}
-use Rattle.rtl_bits.specs.Numbers.{bits_of, digit_of, integer_of, is_one, number_of, top_of}
+use Rattle.rtl_bits.specs.Numbers.{bits_of, digit_of, is_one, number_of, top_of}
 use Rattle.rtl_bits.specs.Tables.{not_of}
 use Rattle.rtl_bits.specs.declared.bit.Bit.{Bit}
 use Rattle.rtl_bits.specs.declared.bit.Bit.TheVariants.{S0, S1, X, Z, M, Dash}

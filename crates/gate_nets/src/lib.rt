@@ -4,6 +4,7 @@
 mod adder;
 mod folding;
 mod gate;
+mod laws;
 mod operand;
 mod output;
 mod words;
@@ -11,6 +12,7 @@ mod words;
 pub use adder::{Total, negate, sum};
 pub use folding::fold;
 pub use gate::{Gate, add_gate};
+pub use laws::{folds_join, inverses_invert, sums_add};
 pub use operand::{extended, pin_signal};
 pub use output::give;
 pub use words::{bitwise, invert, select};

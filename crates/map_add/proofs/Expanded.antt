@@ -1,13 +1,13 @@
 -- The gates of a cell are an expansion of it, and stand for it.
-use Rattle.std.proofs.Common.{◌≡◌, ◌≤◌, ℕ, suc, Bool, true, false, List, [], ◌∷◌, Option, Some, None, Ok, length, inl, inr, refl, sym, ◌∙◌, ap, subst, arith}
-use Rattle.std.specs.Prelude.{if◌then◌else◌, map, max, slice_index_or}
+use Rattle.std.proofs.Common.{◌≡◌, ℕ, suc, true, List, [], ◌∷◌, Option, Some, None, Ok, length, inl, inr, refl, sym, ◌∙◌, ap, subst, arith}
+use Rattle.std.specs.Prelude.{if◌then◌else◌, map, slice_index_or}
 use Rattle.cell_types.specs.Fault.{fault_of}
 use Rattle.cell_types.specs.PinName.{pin_text}
 use Rattle.cell_types.specs.Shape.{made_shape, unless}
 use Rattle.cell_types.specs.declared.fault.CellFault.{CellFault}
 use Rattle.cell_types.specs.declared.kind.CellKind.{CellKind}
 use Rattle.cell_types.specs.declared.kind.CellKind.TheVariants.{Word}
-use Rattle.cell_types.specs.declared.pin_name.PinName.TheVariants.{A, B, S, Y}
+use Rattle.cell_types.specs.declared.pin_name.PinName.TheVariants.{A, B, S}
 use Rattle.cell_types.specs.declared.shape.Shape.{Shape}
 use Rattle.cell_types.specs.declared.word.WordKind.{WordKind}
 use Rattle.cell_word.specs.Values as word_values
@@ -15,7 +15,7 @@ use Rattle.rtl_bits.proofs.Orders.{Below_refl}
 use Rattle.rtl_bits.specs.Knowledge.{Below}
 use Rattle.rtl_bits.specs.declared.bit.Bit.{Bit}
 use Rattle.rtl_bits.specs.declared.bit.Bit.TheVariants.{S0, X}
-use Rattle.rtl_ir.specs.Build.{Build, Building}
+use Rattle.rtl_ir.specs.Build.{Building}
 use Rattle.rtl_ir.specs.Faults.Cells.{pin_widths}
 use Rattle.rtl_ir.specs.Flat.Cell.{Ports, cell_kind, cell_shape}
 use Rattle.rtl_ir.specs.Parameters.{given_params}
@@ -24,18 +24,16 @@ use Rattle.rtl_ir.specs.declared.wire.Wire.{Wire}
 use Rattle.rtl_sig.specs.declared.sig.SigBit.{SigBit}
 use Rattle.rtl_sig.specs.declared.sig.SigBit.TheVariants.{Fixed}
 use Rattle.net_model.proofs.Ranges.{signal_in}
-use Rattle.net_model.specs.Lists.{In}
 use Rattle.net_model.specs.Within.{BitIn, SigIn}
 use Rattle.map_laws.proofs.Wholes.{cell_more}
 use Rattle.map_laws.specs.Expansion.{IsExpansion, IsWhole, StandsWith, cells_added, links_added}
 use Rattle.gate_nets.specs.Operand.{IsShapeOf, pin_signal}
-use Rattle.gate_nets.specs.Reading.{IsReading}
 use Rattle.gate_nets.proofs.Expanding.{net_expands, net_stands}
-use Rattle.gate_nets.proofs.Nets.{Goods, Net}
+use Rattle.gate_nets.proofs.Nets.{Goods}
 use Rattle.gate_nets.proofs.Standing.{reads}
 use Rattle.gate_nets.proofs.Wholes.{names}
 use Rattle.map_add.specs.Expand.{given, greater_width, is_mapped, map_of, value_of}
-use Rattle.map_add.proofs.Nets.{net_value, net_weaker, value_at, value_width}
+use Rattle.map_add.proofs.Nets.{net_value, net_weaker}
 use Rattle.map_add.proofs.Values.{value_below}
 
 given_shape : (fault : Option CellFault) (made shape : Shape) → unless fault made ≡ Ok shape → shape ≡ made

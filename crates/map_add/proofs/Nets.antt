@@ -1,7 +1,7 @@
 -- What the nets of sums and orders have, whatever is said of bits.
 use Rattle.std.proofs.lemmas.List.{length-replicate, length-take}
-use Rattle.std.proofs.Common.{◌≡◌, ◌≤◌, length-append, ℕ, zero, suc, ◌-◌, Bool, true, false, List, [], ◌∷◌, ◌++◌, length, inl, inr, refl, sym, ◌∙◌, ap, subst, arith}
-use Rattle.std.specs.Prelude.{map, max, replicate, slice_get, slice_index_or, take, unwrap_or, if◌then◌else◌}
+use Rattle.std.proofs.Common.{◌≡◌, length-append, ℕ, zero, suc, ◌-◌, Bool, true, false, List, [], ◌∷◌, ◌++◌, length, inl, inr, refl, sym, ◌∙◌, ap, subst, arith}
+use Rattle.std.specs.Prelude.{map, replicate, slice_get, slice_index_or, take, unwrap_or}
 use Rattle.cell_types.specs.declared.kind.CellKind.{CellKind}
 use Rattle.cell_types.specs.declared.kind.CellKind.TheVariants.{Word}
 use Rattle.cell_types.specs.declared.pin_name.PinName.TheVariants.{A, B}
@@ -27,7 +27,7 @@ use Rattle.rtl_sig.specs.declared.sig.SigBit.TheVariants.{Fixed}
 use Rattle.net_model.specs.Lists.{In}
 use Rattle.gate_nets.specs.Operand.{pin_signal}
 use Rattle.gate_nets.proofs.Nets.{Goods, IsSum, Logic, Net, carry_at, net_inverse, net_negative, net_not, net_pure, net_sum, net_then, sum_bit}
-use Rattle.map_add.specs.Expand.{arithmetic_of, greater_width, negated_of, operand_of, ordered_of, value_of}
+use Rattle.map_add.specs.Expand.{greater_width, operand_of, value_of}
 use Rattle.map_add.specs.Order.{less_of, not_less_of, order_of, ranked_of, top_inverted}
 use Rattle.map_add.specs.Sum.{arith_of, difference_of}
 

@@ -1,18 +1,17 @@
 -- Words in the order of their numbers: the last carry of a difference, and integers by their ranks.
-use Rattle.std.proofs.Common.{◌≡◌, ◌≤◌, ◌<◌, ℕ, zero, suc, ◌+◌, ◌-◌, ◌*◌, ◌^◌, Bool, true, false, List, [], ◌∷◌, length, inl, inr, ⊎_elim, refl, sym, ◌∙◌, ap, subst, arith, ℤ, pos, negsuc, neg_ℤ, ◌+ℤ◌, ◌-ℤ◌}
-use Rattle.std.specs.Prelude.{if◌then◌else◌, int_lt, nat_lt, slice_index_or}
-use Rattle.std.proofs.lemmas.Bool.{cases_lt}
+use Rattle.std.proofs.Common.{◌≡◌, ◌≤◌, ◌<◌, ℕ, zero, suc, ◌+◌, ◌-◌, ◌*◌, ◌^◌, Bool, true, false, List, [], ◌∷◌, length, refl, sym, ◌∙◌, ap, subst, arith, ℤ, pos, negsuc, ◌+ℤ◌}
+use Rattle.std.specs.Prelude.{int_lt, nat_lt, slice_index_or}
 use Rattle.std.proofs.lemmas.Bool.Decides.{nat_tests}
 use Rattle.std.proofs.lemmas.Int.{ints}
 use Rattle.cell_word.specs.Integers.{integer_in}
-use Rattle.cell_word.specs.Words.{extended_at, fill_of}
+use Rattle.cell_word.specs.Words.{extended_at}
 use Rattle.rtl_bits.proofs.Numbers.{number_of_small}
 use Rattle.rtl_bits.specs.Knowledge.{AreKnown, IsKnown}
 use Rattle.rtl_bits.specs.Numbers.{digit_of, number_of, top_of}
 use Rattle.rtl_bits.specs.Tables.{not_of}
 use Rattle.rtl_bits.specs.declared.bit.Bit.{Bit}
 use Rattle.rtl_bits.specs.declared.bit.Bit.TheVariants.{S0, S1, X, Z, M, Dash}
-use Rattle.gate_nets.proofs.Adding.{Sums, inverse_known, inverse_number, known_bit, low-length, low_of, sums}
+use Rattle.gate_nets.proofs.Adding.{inverse_known, inverse_number, low-length, low_of, sums}
 use Rattle.gate_nets.proofs.Nets.{carry_at, sum_bit}
 use Rattle.gate_nets.proofs.Residues.{going_integer, going_on}
 use Rattle.map_add.proofs.Nets.{flipped, less_bit, ranked}

@@ -1,27 +1,23 @@
 -- The bits of the nets are at least those of the values of cells.
-use Rattle.std.proofs.Common.{◌≡◌, ◌≤◌, ◌<◌, ℕ, zero, suc, ◌+◌, ◌-◌, ◌*◌, ◌^◌, Bool, true, false, not, List, [], ◌∷◌, length, inl, inr, ⊎_elim, refl, sym, ◌∙◌, ap, subst, arith, ℤ, pos, negsuc, neg_ℤ, ◌+ℤ◌, ◌-ℤ◌}
-use Rattle.std.specs.Prelude.{◌&&◌, if◌then◌else◌, int_lt, map, max, replicate, slice_index_or}
-use Rattle.std.proofs.lemmas.Bool.{cases_Bool}
+use Rattle.std.proofs.Common.{◌≡◌, ◌≤◌, ℕ, zero, suc, ◌+◌, ◌-◌, Bool, true, false, not, List, [], ◌∷◌, length, refl, sym, ◌∙◌, ap, subst, arith, ℤ, neg_ℤ, ◌+ℤ◌, ◌-ℤ◌}
+use Rattle.std.specs.Prelude.{◌&&◌, if◌then◌else◌, int_lt, replicate, slice_index_or}
 use Rattle.std.proofs.lemmas.Int.{ints}
-use Rattle.cell_types.specs.declared.kind.CellKind.{CellKind}
 use Rattle.cell_types.specs.declared.kind.CellKind.TheVariants.{Word}
 use Rattle.cell_types.specs.declared.shape.Shape.{Shape}
-use Rattle.cell_types.specs.declared.word.ArithKind.{ArithKind}
-use Rattle.cell_types.specs.declared.word.ArithKind.TheVariants.{Add, Sub, Mul}
+use Rattle.cell_types.specs.declared.word.ArithKind.TheVariants.{Add, Sub}
 use Rattle.cell_types.specs.declared.word.OrderKind.{OrderKind}
 use Rattle.cell_types.specs.declared.word.OrderKind.TheVariants.{Lt, Le, Ge, Gt}
 use Rattle.cell_types.specs.declared.word.UnaryKind.TheVariants.{Neg}
 use Rattle.cell_types.specs.declared.word.WordKind.{WordKind}
 use Rattle.cell_types.specs.declared.word.WordKind.TheVariants.{Unary, Arith, Order}
 use Rattle.cell_word.specs.Arithmetic as cells
-use Rattle.cell_word.specs.Arithmetic.{is_ordered, negative_of, result_of}
+use Rattle.cell_word.specs.Arithmetic.{is_ordered}
 use Rattle.cell_word.specs.Integers.{integer_bits, integer_in}
 use Rattle.cell_word.specs.Values as word_values
 use Rattle.cell_word.specs.Values.{both_signed}
 use Rattle.cell_word.specs.Words.{extended_at, fill_of, one_bit_of, unknown_of}
 use Rattle.rtl_bits.proofs.Lists.{all_known_true}
 use Rattle.rtl_bits.proofs.Numbers.{bits_of_number_of}
-use Rattle.rtl_bits.proofs.Orders.{Below_from_equal}
 use Rattle.rtl_bits.specs.Knowledge.{AreKnown, Below, IsKnown, all_known}
 use Rattle.rtl_bits.specs.Numbers.{bits_of, digit_of, number_of, top_of}
 use Rattle.rtl_bits.specs.Tables.{not_of}
@@ -31,9 +27,9 @@ use Rattle.rtl_sig.specs.declared.sig.SigBit.{SigBit}
 use Rattle.rtl_sig.specs.declared.sig.SigBit.TheVariants.{Fixed}
 use Rattle.gate_nets.specs.Reading.{IsReading}
 use Rattle.gate_nets.proofs.Standing.{reads}
-use Rattle.gate_nets.proofs.Adding.{Sums, inverse_known, inverse_number, low-length, low_of, sums}
+use Rattle.gate_nets.proofs.Adding.{inverse_known, inverse_number, low-length, low_of, sums}
 use Rattle.gate_nets.proofs.Nets.{Goods, carry_at, sum_bit}
-use Rattle.gate_nets.proofs.Residues.{Residue, residue_bits, residue_extended, residue_less, residue_negative, residue_number, residue_sum}
+use Rattle.gate_nets.proofs.Residues.{Residue, residue_bits, residue_extended, residue_less, residue_negative, residue_sum}
 use Rattle.map_add.proofs.Nets.{arith_at, less_bit, order_bit, value_at, value_width}
 use Rattle.map_add.specs.Expand.{is_mapped}
 use Rattle.map_add.proofs.Ranks.{bit_of, less_integer}

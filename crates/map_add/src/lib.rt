@@ -55,7 +55,12 @@ fn add_gates(
 {
     if is_mapped(shape.kind) {
         let bits = value(alloc, cell, shape, builder)?;
-        give(alloc, pin_signal(cell, PinName::Y), bits.as_slice(), builder)?;
+        give(
+            alloc,
+            pin_signal(cell, PinName::Y),
+            bits.as_slice(),
+            builder,
+        )?;
     }
     Ok(())
 }

@@ -12,11 +12,7 @@ use rtl_sig::{SigBit, SigSpec};
 use std::alloc::Global;
 
 /// A word with its top bit inverted.
-fn top_inverted(
-    alloc: Global,
-    bits: &[SigBit],
-    builder: &mut Builder,
-) -> Result<SigSpec, PassFault>
+fn top_inverted(alloc: Global, bits: &[SigBit], builder: &mut Builder) -> Result<SigSpec, PassFault>
     ensures exact { IfOk result (λ word. (word, builder.new) ≡ top_inverted bits.now builder.old) }
     ensures over { result ≡ Err PassFault.Over → PassesLimit (top_inverted bits.now builder.old).1 }
     ensures within { IsInLimits builder.old → OnOk result (IsInLimits builder.new) }

@@ -24,7 +24,13 @@ pub(crate) fn difference(
     ensures within { IsInLimits builder.old → OnOk result (IsInLimits builder.new) }
 {
     let inverse = invert(alloc, b, builder)?;
-    sum(alloc, a, inverse.as_slice(), SigBit::Fixed(Bit::S1), builder)
+    sum(
+        alloc,
+        a,
+        inverse.as_slice(),
+        SigBit::Fixed(Bit::S1),
+        builder,
+    )
 }
 
 /// The sum or the difference of two words. A product is not made here.
