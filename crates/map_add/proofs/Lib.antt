@@ -1,0 +1,5 @@
+pub mod Limits
+pub mod Nets
+pub mod Ranks
+pub mod Values
+pub mod Expanded
