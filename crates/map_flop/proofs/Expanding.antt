@@ -1,0 +1,97 @@
+-- The gates of a storage cell are an expansion of it.
+use Rattle.std.proofs.Common.{◌≡◌, ℕ, suc, ◌+◌, false, List, [], ◌∷◌, ◌++◌, length, inl, inr, refl, sym, ◌∙◌, ap, subst, arith}
+use Rattle.std.specs.Prelude.{flat_map, map}
+use Rattle.std.proofs.lemmas.Bool.{or_parts}
+use Rattle.std.proofs.lemmas.List.{append-nil}
+use Rattle.cell_types.specs.PinName.{pin_text}
+use Rattle.cell_types.specs.declared.kind.CellKind.TheVariants.{Storage}
+use Rattle.cell_types.specs.declared.pin_name.PinName.TheVariants.{Q}
+use Rattle.cell_types.specs.declared.shape.Shape.{Shape}
+use Rattle.cell_types.specs.declared.storage.StorageKind.{StorageKind}
+use Rattle.rtl_sig.specs.declared.sig.SigBit.{SigBit}
+use Rattle.rtl_sig.specs.declared.sig.SigBit.TheVariants as sig
+use Rattle.rtl_ir.specs.Build.{Building}
+use Rattle.rtl_ir.specs.Signals.{has_constant, is_constant, wire_bits}
+use Rattle.rtl_ir.specs.declared.cell.Cell.{Cell}
+use Rattle.net_model.proofs.Ranges.{signal_in}
+use Rattle.net_model.specs.Within.{BitIn, Each, SigIn}
+use Rattle.map_laws.specs.Expansion.{Adds, AreRising, IsExpansion, IsWhole, IsWholeGate, cell_bits, kind_bits, links_added}
+use Rattle.map_laws.proofs.Expanding.{adds_more, adds_none, expansion, links_are, wires_count}
+use Rattle.map_laws.proofs.Reordering.{to_permutation}
+use Rattle.map_laws.proofs.Wholes.{gate_more}
+use Rattle.pass_laws.proofs.Outputs.{output_wires}
+use Rattle.gate_nets.specs.Operand.{pin_signal}
+use Rattle.map_flop.specs.Expand.{each_bit, storage_gates}
+use Rattle.map_flop.proofs.Adding.{cells_from, gate_here, puts}
+use Rattle.map_flop.proofs.Gating.{IsGateFor, gate_is}
+
+module _ (cell : ℕ → ℕ → SigBit → Cell) where
+  one_adds : (at : ℕ) (y : SigBit) (b : Building) → Adds b (puts cell at y b) (cell at b.next y ∷ []) [] []
+  one_adds at y b = record {
+    body =
+        let none : record b.body { cells = b.body.cells ++ cell at b.next y ∷ []; wires = b.body.wires ++ []; links = b.body.links ++ [] } ≡ (puts cell at y b).body = λ i. record b.body { cells = b.body.cells ++ cell at b.next y ∷ []; wires = append-nil b.body.wires i; links = append-nil b.body.links i } in
+        sym none;
+    next = omega arith;
+  }
+
+  pub each_adds : (at : ℕ) (ys : List SigBit) (b : Building) → Adds b (each_bit (puts cell) at ys b) (cells_from cell at b.next ys) [] []
+  each_adds at [] b = adds_none b
+  each_adds at (y ∷ ys) b =
+      adds_more b (puts cell at y b) (each_bit (puts cell) at (y ∷ ys) b) (cell at b.next y ∷ []) (cells_from cell (suc at) (b.next + 1) ys) [] [] [] [] (one_adds at y b) (each_adds (suc at) ys (puts cell at y b))
+
+  -- where each cell is a gate for its bit
+  module _ (count : ℕ) (gate : (at n : ℕ) (y : SigBit) → BitIn count y → is_constant y ≡ false → IsGateFor count n y (cell at n y)) where
+    each_named : (at : ℕ) (ys : List SigBit) (b : Building) → SigIn count ys → has_constant ys ≡ false → AreRising b.next (each_bit (puts cell) at ys b).next (map (λ (d : Cell). d.name) (cells_from cell at b.next ys))
+    each_named at [] b h e = omega arith
+    each_named at (y ∷ ys) b h e =
+        let p = or_parts (is_constant y) (has_constant ys) e in (
+          b.next,
+          omega arith,
+          (gate at b.next y (h y (inl refl)) p.0).named,
+          each_named (suc at) ys (puts cell at y b) (λ s i. h s (inr i)) p.1,
+        )
+
+    each_whole : (at n : ℕ) (ys : List SigBit) → SigIn count ys → has_constant ys ≡ false → Each (IsWholeGate count) (cells_from cell at n ys)
+    each_whole at n [] h e d i = absurd i
+    each_whole at n (y ∷ ys) h e d (inl here) =
+        subst (IsWholeGate count) (sym here) (gate at n y (h y (inl refl)) (or_parts (is_constant y) (has_constant ys) e).0).whole
+    each_whole at n (y ∷ ys) h e d (inr i) =
+        each_whole (suc at) (n + 1) ys (λ s j. h s (inr j)) (or_parts (is_constant y) (has_constant ys) e).1 d i
+
+    each_bits : (at n : ℕ) (ys : List SigBit) → SigIn count ys → has_constant ys ≡ false → flat_map cell_bits (cells_from cell at n ys) ≡ wire_bits ys
+    each_bits at n [] h e = refl
+    each_bits at n (y ∷ ys) h e =
+        let p = or_parts (is_constant y) (has_constant ys) e in
+        (λ i. (gate at n y (h y (inl refl)) p.0).bits i ++ each_bits (suc at) (n + 1) ys (λ s j. h s (inr j)) p.1 i) ∙ first y
+      where
+        first : (y : SigBit) → wire_bits (y ∷ []) ++ wire_bits ys ≡ wire_bits (y ∷ ys)
+        first (sig.Fixed c) = refl
+        first (sig.Wire w) = refl
+
+-- one gate for each bit of Q
+pub gates_expand : (kind : StorageKind) (shape : Shape) (c : Cell) (b : Building) → IsWhole (length b.body.wires) (Storage kind) c → IsExpansion b (storage_gates kind shape c b) c
+gates_expand kind shape c b whole =
+    let qs : List SigBit = pin_signal c Q in
+    let cell : ℕ → ℕ → SigBit → Cell = gate_here kind shape c in
+    let count : ℕ = length b.body.wires in
+    let new : Building = storage_gates kind shape c b in
+    let adds : Adds b new (cells_from cell 0 b.next qs) [] [] = each_adds cell 0 qs b in
+    let within : SigIn count qs = signal_in count c.pins (pin_text Q) whole.within in
+    let wires : has_constant qs ≡ false = output_wires (Storage kind) c Q refl whole.output in
+    let same : length new.body.wires ≡ count + 0 = wires_count b new (cells_from cell 0 b.next qs) [] [] adds in
+    expansion b new (cells_from cell 0 b.next qs) [] [] adds c (record {
+      adds = adds;
+      cell_names = each_named cell count (gate_is count kind shape c whole.within) 0 qs b within wires;
+      wire_names = adds.next;
+      bare = λ w i. absurd i;
+      gates = λ d i. gate_more count (length new.body.wires) d (omega (arith, same)) (each_whole cell count (gate_is count kind shape c whole.within) 0 b.next qs within wires d i);
+      lines = λ l i. absurd i;
+      driven =
+          to_permutation _ _
+          (append-nil (flat_map cell_bits (cells_from cell 0 b.next qs)) ∙ each_bits cell count (gate_is count kind shape c whole.within) 0 b.next qs within wires ∙ ap (λ k. kind_bits k c) (sym whole.own));
+    })
+
+-- no connections are added
+pub no_links : (kind : StorageKind) (shape : Shape) (c : Cell) (b : Building) → links_added b (storage_gates kind shape c b) ≡ []
+no_links kind shape c b =
+    links_are b _ (cells_from (gate_here kind shape c) 0 b.next (pin_signal c Q)) [] [] (each_adds (gate_here kind shape c) 0 (pin_signal c Q) b)

@@ -1,0 +1,181 @@
+-- The gate of a bit keeps it as the storage cell does, and gives no less.
+use Rattle.std.proofs.Common.{◌≡◌, ℕ, zero, suc, Bool, List, [], ◌∷◌, refl, sym, subst}
+use Rattle.std.specs.Prelude.{slice_index_or}
+use Rattle.cell_gate.specs.Control.{edge_of, pick_of}
+use Rattle.cell_gate.specs.Storage.{enabled_of, next_of, store_bit_of, stored_of}
+use Rattle.cell_gate.specs.Store.{reset_at, storage_kind}
+use Rattle.cell_gate.specs.declared.pins.Pins.{Pins}
+use Rattle.cell_types.specs.Shape.{bit_of, gate_resets}
+use Rattle.cell_types.specs.declared.kind.CellKind.TheVariants.{Storage, StorageGate}
+use Rattle.cell_types.specs.declared.levels.Levels.{Levels}
+use Rattle.cell_types.specs.declared.pin_name.PinName.TheVariants.{Clk, En, Arst, Srst, Aload, Set, Clr, Ad, D}
+use Rattle.cell_types.specs.declared.shape.Resets.{Resets}
+use Rattle.cell_types.specs.declared.shape.Shape.{Shape}
+use Rattle.cell_types.specs.declared.storage.StorageKind.{StorageKind}
+use Rattle.cell_types.specs.declared.storage.StorageKind.TheVariants.{Ff, Dff, Dffe, Sdff, Sdffe, Sdffce, Adff, Adffe, Aldff, Aldffe, Dffsr, Dffsre, Dlatch, Adlatch, Dlatchsr, Sr}
+use Rattle.rtl_bits.proofs.Orders.{Below_refl, Below_trans}
+use Rattle.rtl_bits.proofs.Tables.{mux_of_mono}
+use Rattle.rtl_bits.specs.Knowledge.{Below}
+use Rattle.rtl_bits.specs.declared.bit.Bit.{Bit}
+use Rattle.rtl_bits.specs.declared.bit.Bit.TheVariants.{S0, S1, X, Z, M, Dash}
+use Rattle.rtl_ir.specs.Flat.Cell.{cell_shape, gate_store, word_store}
+use Rattle.rtl_ir.specs.Flat.Driver.{StorePoints, Stored}
+use Rattle.rtl_ir.specs.Flat.Place.{Path, Place}
+use Rattle.rtl_ir.specs.Flat.Point.{point, point_at, points}
+use Rattle.rtl_ir.specs.declared.cell.Cell.{Cell}
+use Rattle.rtl_ir.specs.declared.wire.Wire.{Wire}
+use Rattle.rtl_sig.specs.declared.sig.SigBit.{SigBit}
+use Rattle.rtl_sig.specs.declared.sig.SigBit.TheVariants.{Fixed}
+use Rattle.net_model.specs.Run.{Time, Start, Step}
+use Rattle.net_model.specs.Valuation.{Valuation}
+use Rattle.net_model.specs.Value.{pins_of, value_of}
+use Rattle.gate_nets.specs.Operand.{pin_signal}
+use Rattle.map_flop.specs.Gate.{bit_gate, gate_for, is_one}
+use Rattle.map_flop.specs.Pins.{gate_pins, pin_bit}
+
+-- a control picks from more where it picks from less
+picks : (c a a' b b' : Bit) → Below a a' → Below b b' → Below (pick_of c a b) (pick_of c a' b')
+picks c a a' b b' h k = mux_of_mono b b' a a' c c k h (Below_refl c)
+
+-- with more known of its reset's value a kind gives more
+module _ (before now : Pins) where
+  abbrev edge : Bit
+  edge = edge_of before.clk now.clk
+
+  value_kept : (kind : StorageKind) (a b : Bit) → Below a b → Below (next_of kind a before now) (next_of kind b before now)
+  value_kept Sdff a b h = picks edge _ _ _ _ (reset a b before.d h) (Below_refl before.q)
+    where
+      reset : (a b d : Bit) → Below a b → Below (pick_of before.srst a d) (pick_of before.srst b d)
+      reset a b d h = picks before.srst a b d d h (Below_refl d)
+  value_kept Sdffe a b h = picks edge _ _ _ _ (picks before.srst a b _ _ h (Below_refl (enabled_of before before.d))) (Below_refl before.q)
+  value_kept Sdffce a b h =
+      picks edge _ _ _ _ (picks before.en _ _ _ _ (picks before.srst a b _ _ h (Below_refl before.d)) (Below_refl before.q)) (Below_refl before.q)
+  value_kept Adff a b h = picks now.arst a b _ _ h (Below_refl (next_of Dff a before now))
+  value_kept Adffe a b h = picks now.arst a b _ _ h (Below_refl (next_of Dffe a before now))
+  value_kept Adlatch a b h = picks now.arst a b _ _ h (Below_refl (next_of Dlatch a before now))
+  value_kept Ff a b h = Below_refl (next_of Ff a before now)
+  value_kept Dff a b h = Below_refl (next_of Dff a before now)
+  value_kept Dffe a b h = Below_refl (next_of Dffe a before now)
+  value_kept Aldff a b h = Below_refl (next_of Aldff a before now)
+  value_kept Aldffe a b h = Below_refl (next_of Aldffe a before now)
+  value_kept Dffsr a b h = Below_refl (next_of Dffsr a before now)
+  value_kept Dffsre a b h = Below_refl (next_of Dffsre a before now)
+  value_kept Dlatch a b h = Below_refl (next_of Dlatch a before now)
+  value_kept Dlatchsr a b h = Below_refl (next_of Dlatchsr a before now)
+  value_kept Sr a b h = Below_refl (next_of Sr a before now)
+
+-- the value of a reset, with what is not known as 0
+one_above : (b : Bit) → Below b (bit_of (is_one b))
+one_above S0 = refl
+one_above S1 = refl
+one_above X = tt
+one_above Z = tt
+one_above M = tt
+one_above Dash = tt
+
+-- the value of the reset of the gate of a kind
+abbrev gate_reset : StorageKind → Levels → Bool → Bit
+gate_reset kind levels value = reset_at kind (gate_resets (gate_for kind levels value)) 0
+
+reset_above : (kind : StorageKind) (levels : Levels) (resets : Resets) (at : ℕ) → Below (reset_at kind resets at) (gate_reset kind levels (is_one (reset_at kind resets at)))
+reset_above Sdff levels resets at = one_above (slice_index_or resets.srst at X)
+reset_above Sdffe levels resets at = one_above (slice_index_or resets.srst at X)
+reset_above Sdffce levels resets at = one_above (slice_index_or resets.srst at X)
+reset_above Adff levels resets at = one_above (slice_index_or resets.arst at X)
+reset_above Adffe levels resets at = one_above (slice_index_or resets.arst at X)
+reset_above Adlatch levels resets at = one_above (slice_index_or resets.arst at X)
+reset_above Ff levels resets at = tt
+reset_above Dff levels resets at = tt
+reset_above Dffe levels resets at = tt
+reset_above Aldff levels resets at = tt
+reset_above Aldffe levels resets at = tt
+reset_above Dffsr levels resets at = tt
+reset_above Dffsre levels resets at = tt
+reset_above Dlatch levels resets at = tt
+reset_above Dlatchsr levels resets at = tt
+reset_above Sr levels resets at = tt
+
+module _ (p : Path) (wires : List Wire) where
+  -- the point at a place of a pin is that of the bit there
+  point_taken : (bits : List SigBit) (at : ℕ) → point p wires (slice_index_or bits at (Fixed X)) ≡ point_at (points p wires bits) at
+  point_taken [] at = refl
+  point_taken (b ∷ bits) zero = refl
+  point_taken (b ∷ bits) (suc at) = point_taken bits at
+
+  module _ (c : Cell) (at : ℕ) where
+    -- what a bit of the cell reads, by the bits at its pins
+    abbrev reads : StorePoints
+    reads = record {
+      clk = point p wires (pin_bit c Clk 0);
+      en = point p wires (pin_bit c En 0);
+      arst = point p wires (pin_bit c Arst 0);
+      srst = point p wires (pin_bit c Srst 0);
+      aload = point p wires (pin_bit c Aload 0);
+      ad = point p wires (pin_bit c Ad at);
+      set = point p wires (pin_bit c Set at);
+      clr = point p wires (pin_bit c Clr at);
+      d = point p wires (pin_bit c D at);
+    }
+
+    word_reads : reads ≡ word_store p wires c.pins at
+    word_reads = λ i. record {
+      clk = point_taken (pin_signal c Clk) 0 i;
+      en = point_taken (pin_signal c En) 0 i;
+      arst = point_taken (pin_signal c Arst) 0 i;
+      srst = point_taken (pin_signal c Srst) 0 i;
+      aload = point_taken (pin_signal c Aload) 0 i;
+      ad = point_taken (pin_signal c Ad) at i;
+      set = point_taken (pin_signal c Set) at i;
+      clr = point_taken (pin_signal c Clr) at i;
+      d = point_taken (pin_signal c D) at i;
+    }
+
+    -- what the gate of a kind reads
+    abbrev pub gate_reads : StorageKind → Levels → Bool → SigBit → StorePoints
+    gate_reads kind levels value q = gate_store p wires (gate_pins kind (gate_for kind levels value) c at q) 0
+
+    -- what a bit is next, by what it reads
+    abbrev next_bit : StorageKind → Levels → Bit → StorePoints → Place → Valuation → Valuation → Bool → Bit
+    next_bit kind levels value pins own before w first =
+        stored_of (record { kind = kind; levels = levels; value = value }) (pins_of before pins own) (pins_of w pins own) first
+
+    module _ (levels : Levels) (value : Bool) (q : SigBit) (own : Place) (before w : Valuation) (first : Bool) where
+      -- the gate of a kind has the meaning of the kind
+      same_bit : (kind : StorageKind) → store_bit_of (cell_shape (StorageGate (gate_for kind levels value)) []) 0 (pins_of before (gate_reads kind levels value q) own) (pins_of w (gate_reads kind levels value q) own) first ≡ next_bit kind levels (gate_reset kind levels value) reads own before w first
+      unfolding cell_shape
+      same_bit Ff = refl
+      same_bit Dff = refl
+      same_bit Dffe = refl
+      same_bit Sdff = refl
+      same_bit Sdffe = refl
+      same_bit Sdffce = refl
+      same_bit Adff = refl
+      same_bit Adffe = refl
+      same_bit Aldff = refl
+      same_bit Aldffe = refl
+      same_bit Dffsr = refl
+      same_bit Dffsre = refl
+      same_bit Dlatch = refl
+      same_bit Adlatch = refl
+      same_bit Dlatchsr = refl
+      same_bit Sr = refl
+
+    module _ (kind : StorageKind) (shape : Shape) (is : shape.kind ≡ Storage kind) (q : SigBit) (own : Place) where
+      abbrev value : Bool
+      value = is_one (reset_at kind shape.resets at)
+
+      -- the cell's bit, by the bits at its pins
+      word_bit : (before w : Valuation) (first : Bool) → next_bit kind shape.levels (reset_at kind shape.resets at) reads own before w first ≡ store_bit_of shape at (pins_of before (word_store p wires c.pins at) own) (pins_of w (word_store p wires c.pins at) own) first
+      word_bit before w first = λ i. next_bit (storage_kind (sym is i)) shape.levels (reset_at (storage_kind (sym is i)) shape.resets at) (word_reads i) own before w first
+
+      bit_above : (before w : Valuation) (first : Bool) (z : Bit) → Below (store_bit_of (cell_shape (StorageGate (bit_gate kind shape at)) []) 0 (pins_of before (gate_reads kind shape.levels value q) own) (pins_of w (gate_reads kind shape.levels value q) own) first) z → Below (store_bit_of shape at (pins_of before (word_store p wires c.pins at) own) (pins_of w (word_store p wires c.pins at) own) first) z
+      bit_above before w first z h =
+          subst (λ v. Below v z) (word_bit before w first)
+          (Below_trans _ (next_bit kind shape.levels (gate_reset kind shape.levels value) reads own before w first) z
+          (value_kept _ _ kind _ _ (reset_above kind shape.levels shape.resets at))
+          (subst (λ v. Below v z) (same_bit shape.levels value q own before w first kind) h))
+
+      -- a row of the gate says no less than the row of the cell's bit
+      pub row_above : (start : Bit) (t : Time Place) (w : Valuation) (z : Bit) → Below (value_of (Stored start (cell_shape (StorageGate (bit_gate kind shape at)) []) 0 (gate_reads kind shape.levels value q) own) t w) z → Below (value_of (Stored start shape at (word_store p wires c.pins at) own) t w) z
+      row_above start Start w z h = h
+      row_above start (Step before inputs first) w z h = bit_above before w first z h
