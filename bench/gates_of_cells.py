@@ -1,5 +1,5 @@
 #!/usr/bin/env python3
-"""Prints a text of modules of `$and` and `$xor` cells, which the program makes gates of.
+"""Prints a text of modules of `$and` and `$xor` cells, which the program makes gates of. Each cell leads to an output.
 
 usage: bench/gates_of_cells.py [BYTES [WIDTH]]      at least so many bytes, cells of so many bits; 60,000,000 and 8 without numbers
 """
@@ -14,12 +14,13 @@ CELL = ('  cell %s $expr$%d\n    parameter \\A_SIGNED 0\n    parameter \\A_WIDTH
 
 
 def module(number):
-    n = 200
+    n, ports = 200, 7
     yield 'module \\core_%d\n' % number
+    for k in range(n + ports):
+        role = 'input %d ' % (k + 1) if k < ports else 'output %d ' % (k + 1) if k >= n else ''
+        yield '  wire width %d %s\\data_%d\n' % (width, role, k)
     for k in range(n):
-        yield '  wire width %d \\data_%d\n' % (width, k)
-    for k in range(n):
-        yield CELL % (('$and', '$xor')[k % 2], k, width, width, width, k, (k + 1) % n, (k + 7) % n)
+        yield CELL % (('$and', '$xor')[k % 2], k, width, width, width, k, k + 1, k + ports)
     yield 'end\n'
 
 
