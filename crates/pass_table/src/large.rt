@@ -4,9 +4,6 @@ use crate::passes::netlist_of;
 use rtl_bits::{Memory, Text};
 use std::alloc::Global;
 
-/// How many gates the modules have.
-const GATES: u32 = 100_000;
-
 /// What is large.
 #[derive(Clone, Copy)]
 enum Large {
@@ -37,50 +34,61 @@ fn cell_text(alloc: Global, large: Large, number: u32) -> Result<String, Memory>
     Ok(text)
 }
 
-/// The text of the module.
-fn module_text(alloc: Global, large: Large) -> Result<Text, Memory> {
+/// The text of the module, of so many gates.
+fn module_text(alloc: Global, large: Large, gates: u32) -> Result<Text, Memory> {
     let mut text = Text::make(alloc);
     let head = format!(in alloc;
         "module \\m\n wire input 1 \\a\n wire input 2 \\b\n wire output 3 \\y\n wire width {} \\t\n connect \\t [0] \\a\n",
-        GATES + 1
+        gates.saturating_add(1)
     )?;
     text.extend(head.as_bytes())?;
-    for number in 0..GATES {
+    for number in 0..gates {
         text.extend(cell_text(alloc, large, number)?.as_bytes())?;
     }
     let tail = match large {
         Large::IdleChain => format!(in alloc; "end\n")?,
-        _ => format!(in alloc; " connect \\y \\t [{GATES}]\nend\n")?,
+        _ => format!(in alloc; " connect \\y \\t [{gates}]\nend\n")?,
     };
     text.extend(tail.as_bytes())?;
     Ok(text)
 }
 
 /// How many cells the module has after the word.
-fn cells_after(alloc: Global, large: Large, word: &str) -> Result<Option<usize>, Memory> {
-    let text = module_text(alloc, large)?;
+fn cells_after(
+    alloc: Global,
+    large: Large,
+    gates: u32,
+    word: &str,
+) -> Result<Option<usize>, Memory> {
+    let text = module_text(alloc, large, gates)?;
     let Some(netlist) = netlist_of(alloc, text.as_slice(), word.as_bytes())? else {
         return Ok(None);
     };
-    Ok(netlist
-        .modules
-        .as_slice()
-        .first()
-        .map(|module| module.cells.as_slice().len()))
+    Ok(
+        netlist
+            .modules
+            .as_slice()
+            .first()
+            .map(|module| module.cells.as_slice().len()),
+    )
 }
 
-/// Prints how many cells are left of each large module.
-pub fn print_large(rt: &HostRuntime) -> Option<()> {
-    for (name, large, word) in [
-        ("in a chain to nothing, cleaned", Large::IdleChain, "opt_clean"),
-        ("in a chain to an output, cleaned", Large::Chain, "opt_clean"),
-        ("that pass a bit on, folded", Large::Passing, "opt_expr"),
-        ("in a chain of inverters, folded", Large::Chain, "opt_expr"),
-        ("that are the same, merged", Large::Equal, "opt_merge"),
-        ("that are the same, in rounds", Large::Equal, "opt"),
-    ] {
-        let left = cells_after(rt.alloc(), large, word).ok()??;
-        println!(rt; "{GATES} gates {name}: {left} left").ok()?;
-    }
-    Some(())
+/// How many cells are left of the large modules.
+#[derive(Drop)]
+pub struct Left {
+    pub idle: Option<usize>,
+    pub cleaned: Option<usize>,
+    pub folded: Option<usize>,
+    pub merged: Option<usize>,
+}
+
+/// How many cells are left of 100,000 gates in a chain to nothing and in one to an output, both cleaned, of 200,000 gates
+/// that pass a bit on, folded, and of 100,000 gates that are the same, merged.
+pub fn left_of(alloc: Global) -> Result<Left, Memory> {
+    Ok(Left {
+        idle: cells_after(alloc, Large::IdleChain, 100_000, "opt_clean")?,
+        cleaned: cells_after(alloc, Large::Chain, 100_000, "opt_clean")?,
+        folded: cells_after(alloc, Large::Passing, 200_000, "opt_expr")?,
+        merged: cells_after(alloc, Large::Equal, 100_000, "opt_merge")?,
+    })
 }

@@ -5,8 +5,8 @@ mod large;
 mod passes;
 mod rows;
 
-use large::print_large;
-use rows::print_rows;
+use large::{Left, left_of};
+use rows::{Tally, tally_of};
 use std::process::ExitCode;
 use synth_io::{StdSource, read_input};
 
@@ -15,8 +15,23 @@ fn main(rt: HostRuntime) -> ExitCode {
     let Ok(table) = read_input(rt.alloc(), &mut StdSource::make(rt.reader())) else {
         return ExitCode::FAILURE;
     };
-    match (print_rows(&rt, table.as_slice()), print_large(&rt)) {
-        (Some(()), Some(())) => ExitCode::SUCCESS,
-        _ => ExitCode::FAILURE,
+    let Ok(tally) = tally_of(rt.alloc(), table.as_slice()) else {
+        return ExitCode::FAILURE;
+    };
+    let Ok(left) = left_of(rt.alloc()) else {
+        return ExitCode::FAILURE;
+    };
+    let Tally { rows, bad } = tally;
+    let Left {
+        idle,
+        cleaned,
+        folded,
+        merged,
+    } = left;
+    match println!(rt;
+        "{rows} rows of passes, {bad} of them otherwise than told; of large modules are left: {idle:?}, {cleaned:?}, {folded:?}, {merged:?}"
+    ) {
+        Ok(()) => ExitCode::SUCCESS,
+        Err(_) => ExitCode::FAILURE,
     }
 }

@@ -1,6 +1,6 @@
 //! A script of `proc` and one more word over the design of a text.
 
-ghost use Rattle.std.specs.Prelude.{◌≡◌, ◌<◌, [], ◌∷◌, IfOk, IfSome, length};
+ghost use Rattle.std.specs.Prelude.{◌≡◌, ◌<◌, [], ◌∷◌, IfOk, length, true};
 ghost use Rattle.rtl_trip.specs.Readable.{IsReadable};
 ghost use Rattle.script_core.specs.Fold.{HasPass, IsStageScript};
 ghost use Rattle.script_core.specs.declared.word.Word.TheVariants.{Proc};
@@ -15,17 +15,33 @@ use std::alloc::Global;
 /// The name of the counter of builds.
 struct Builds;
 
+/// The words that have a pass beside `proc`, by their names.
+const WORDS: [(&str, Word); 5] = [
+    ("opt_expr", Word::OptExpr),
+    ("opt_merge", Word::OptMerge),
+    ("opt_clean", Word::OptClean),
+    ("opt", Word::Opt),
+    ("techmap", Word::Techmap),
+];
+
 /// The word of this name, where it is one of those that have a pass.
-fn word_of(name: &[u8]) -> Option<Word>
-    ensures there { IfSome result HasPass }
+fn word_of(name: &[u8]) -> Option<Word> {
+    for (own, word) in WORDS {
+        if own.as_bytes() == name {
+            return Some(word);
+        }
+    }
+    None
+}
+
+/// Whether the word has a pass.
+fn has_pass(word: Word) -> bool
+    ensures there { result ≡ true → HasPass word }
 {
-    match name {
-        b"opt_expr" => Some(Word::OptExpr),
-        b"opt_merge" => Some(Word::OptMerge),
-        b"opt_clean" => Some(Word::OptClean),
-        b"opt" => Some(Word::Opt),
-        b"techmap" => Some(Word::Techmap),
-        _ => None,
+    match word {
+        Word::Proc | Word::OptExpr | Word::OptMerge | Word::OptClean | Word::Opt | Word::Techmap =>
+            { true }
+        Word::Fsm | Word::Memory => false,
     }
 }
 
@@ -95,6 +111,9 @@ pub fn netlist_of(alloc: Global, text: &[u8], name: &[u8]) -> Result<Option<Desi
     let Some(word) = word_of(name) else {
         return Ok(None);
     };
+    if !has_pass(word) {
+        return Ok(None);
+    }
     match read(alloc, text) {
         Ok(design) => checked_after(alloc, design, word),
         Err(ReadFault::Memory) => Err(Memory),

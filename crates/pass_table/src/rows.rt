@@ -18,30 +18,30 @@ fn holds(alloc: Global, word: &[u8], text: &[u8], wanted: &[u8]) -> Result<bool,
     }
 }
 
-/// The name of the row, where it does not hold.
-fn otherwise(alloc: Global, row: &[u8]) -> Result<Option<String>, Memory> {
+/// Whether the row holds.
+fn row_holds(alloc: Global, row: &[u8]) -> Result<bool, Memory> {
     let fields: Vec<&[u8]> = row.split(|byte| *byte == BETWEEN_FIELDS).collect(alloc)?;
-    let good = match fields.as_slice() {
-        [_, word, text, wanted] => holds(alloc, word, text, wanted)?,
-        _ => false,
+    let [_, word, text, wanted] = fields.as_slice() else {
+        return Ok(false);
     };
-    if good {
-        return Ok(None);
-    }
-    let name = fields.first().copied().unwrap_or(row);
-    Ok(Some(String::from_utf8_lossy(alloc, name)?))
+    holds(alloc, word, text, wanted)
 }
 
-/// Prints the name of each row that does not hold, and how many rows there are and how many do not.
-pub fn print_rows(rt: &HostRuntime, table: &[u8]) -> Option<()> {
-    let mut rows = 0u32;
-    let mut bad = 0u32;
+/// What the rows come to.
+#[derive(Drop)]
+pub struct Tally {
+    pub rows: u32,
+    /// How many rows do not hold.
+    pub bad: u32,
+}
+
+/// The rows of the table.
+pub fn tally_of(alloc: Global, table: &[u8]) -> Result<Tally, Memory> {
+    let mut tally = Tally { rows: 0, bad: 0 };
     for row in table.split(|byte| *byte == BETWEEN_ROWS) {
-        rows = rows.saturating_add(1);
-        if let Some(name) = otherwise(rt.alloc(), row).ok()? {
-            bad = bad.saturating_add(1);
-            println!(rt; "otherwise: {name}").ok()?;
-        }
+        let bad = !row_holds(alloc, row)?;
+        tally.rows = tally.rows.saturating_add(1);
+        tally.bad = tally.bad.saturating_add(u32::from(bad));
     }
-    println!(rt; "{rows} rows of passes, {bad} of them otherwise than told").ok()
+    Ok(tally)
 }
