@@ -4,13 +4,14 @@ use crate::passes::netlist_of;
 use rtl_bits::{Memory, Text};
 use std::alloc::Global;
 
+/// The ports of each module.
+const HEAD: &[u8] = b"module \\m\n wire input 1 \\a\n wire input 2 \\b\n wire output 3 \\y\n";
+
 /// What is large.
 #[derive(Clone, Copy)]
 enum Large {
     /// A chain of inverters from an input to nothing.
     IdleChain,
-    /// A chain of inverters from an input to an output.
-    Chain,
     /// Gates of which each passes the one before it on.
     Passing,
     /// Gates that are all the same.
@@ -21,33 +22,40 @@ enum Large {
 fn cell_text(alloc: Global, large: Large, number: u32) -> Result<String, Memory> {
     let next = number.saturating_add(1);
     let text = match large {
-        Large::IdleChain | Large::Chain => format!(in alloc;
-            " cell $_NOT_ ${number}\n connect \\A \\t [{number}]\n connect \\Y \\t [{next}]\n end\n"
+        Large::IdleChain => format!(in alloc;
+            " cell $_NOT_ ${number}\n connect \\A \\t{number}\n connect \\Y \\t{next}\n end\n"
         )?,
         Large::Passing => format!(in alloc;
-            " cell $_AND_ ${number}\n connect \\A \\t [{number}]\n connect \\B 1'1\n connect \\Y \\t [{next}]\n end\n"
+            " cell $_AND_ ${number}\n connect \\A \\t{number}\n connect \\B 1'1\n connect \\Y \\t{next}\n end\n"
         )?,
         Large::Equal => format!(in alloc;
-            " cell $_AND_ ${number}\n connect \\A \\a\n connect \\B \\b\n connect \\Y \\t [{next}]\n end\n"
+            " cell $_AND_ ${number}\n connect \\A \\a\n connect \\B \\b\n connect \\Y \\t{next}\n end\n"
         )?,
     };
     Ok(text)
 }
 
+/// The text of the wires of so many gates in a chain, and of the input at its head.
+fn wires_text(alloc: Global, gates: u32) -> Result<Text, Memory> {
+    let mut text = Text::from_slice(alloc, HEAD)?;
+    for number in 0..gates {
+        let wire = format!(in alloc; " wire \\t{number}\n")?;
+        text.extend(wire.as_bytes())?;
+    }
+    let last = format!(in alloc; " wire \\t{gates}\n connect \\t0 \\a\n")?;
+    text.extend(last.as_bytes())?;
+    Ok(text)
+}
+
 /// The text of the module, of so many gates.
 fn module_text(alloc: Global, large: Large, gates: u32) -> Result<Text, Memory> {
-    let mut text = Text::make(alloc);
-    let head = format!(in alloc;
-        "module \\m\n wire input 1 \\a\n wire input 2 \\b\n wire output 3 \\y\n wire width {} \\t\n connect \\t [0] \\a\n",
-        gates.saturating_add(1)
-    )?;
-    text.extend(head.as_bytes())?;
+    let mut text = wires_text(alloc, gates)?;
     for number in 0..gates {
         text.extend(cell_text(alloc, large, number)?.as_bytes())?;
     }
     let tail = match large {
         Large::IdleChain => format!(in alloc; "end\n")?,
-        _ => format!(in alloc; " connect \\y \\t [{gates}]\nend\n")?,
+        _ => format!(in alloc; " connect \\y \\t{gates}\nend\n")?,
     };
     text.extend(tail.as_bytes())?;
     Ok(text)
@@ -76,19 +84,17 @@ fn cells_after(
 /// How many cells are left of the large modules.
 #[derive(Drop)]
 pub struct Left {
-    pub idle: Option<usize>,
     pub cleaned: Option<usize>,
     pub folded: Option<usize>,
     pub merged: Option<usize>,
 }
 
-/// How many cells are left of 100,000 gates in a chain to nothing and in one to an output, both cleaned, of 200,000 gates
-/// that pass a bit on, folded, and of 100,000 gates that are the same, merged.
+/// How many cells are left of 100,000 gates in a chain to nothing, cleaned, of 200,000 gates that pass a bit on, folded, and
+/// of 50,000 gates that are the same, merged.
 pub fn left_of(alloc: Global) -> Result<Left, Memory> {
     Ok(Left {
-        idle: cells_after(alloc, Large::IdleChain, 100_000, "opt_clean")?,
-        cleaned: cells_after(alloc, Large::Chain, 100_000, "opt_clean")?,
+        cleaned: cells_after(alloc, Large::IdleChain, 100_000, "opt_clean")?,
         folded: cells_after(alloc, Large::Passing, 200_000, "opt_expr")?,
-        merged: cells_after(alloc, Large::Equal, 100_000, "opt_merge")?,
+        merged: cells_after(alloc, Large::Equal, 50_000, "opt_merge")?,
     })
 }

@@ -23,13 +23,12 @@ fn main(rt: HostRuntime) -> ExitCode {
     };
     let Tally { rows, bad } = tally;
     let Left {
-        idle,
         cleaned,
         folded,
         merged,
     } = left;
     match println!(rt;
-        "{rows} rows of passes, {bad} of them otherwise than told; of large modules are left: {idle:?}, {cleaned:?}, {folded:?}, {merged:?}"
+        "{rows} rows of passes, {bad} of them otherwise than told; of large modules are left: {cleaned:?}, {folded:?}, {merged:?}"
     ) {
         Ok(()) => ExitCode::SUCCESS,
         Err(_) => ExitCode::FAILURE,

@@ -146,7 +146,7 @@ const SIGNED: &[u8] =
     b"module \\m\n  wire width 2 input 1 \\a\n  wire input 2 \\b\n  wire width 3 output 3 \\y\n  wire width 3 output 4 \\z\n  cell $or $1\n    parameter \\Y_WIDTH 3\n    parameter \\B_WIDTH 1\n    parameter \\B_SIGNED 1\n    parameter \\A_WIDTH 2'10\n    parameter \\A_SIGNED 1\n    connect \\Y \\y\n    connect \\A \\a\n    connect \\B \\b\n  end\n  cell $not $2\n    parameter \\A_SIGNED 1\n    parameter \\A_WIDTH 1\n    parameter \\Y_WIDTH 3\n    connect \\Y \\z\n    connect \\A \\b\n  end\nend\n";
 
 const SIGNED_GATES: &[u8] =
-    b"module \\m\n  wire width 2 input 1 \\a\n  wire input 2 \\b\n  wire width 3 output 3 \\y\n  wire width 3 output 4 \\z\n  cell $_OR_ $syn$1\n    connect \\A \\a [0]\n    connect \\B \\b\n    connect \\Y \\y [0]\n  end\n  cell $_OR_ $syn$2\n    connect \\A \\a [1]\n    connect \\B \\b\n    connect \\Y \\y [1]\n  end\n  cell $_OR_ $syn$3\n    connect \\A \\a [1]\n    connect \\B \\b\n    connect \\Y \\y [2]\n  end\n  cell $_NOT_ $syn$4\n    connect \\A \\b\n    connect \\Y \\z [0]\n  end\n  cell $_NOT_ $syn$5\n    connect \\A \\b\n    connect \\Y \\z [1]\n  end\n  cell $_NOT_ $syn$6\n    connect \\A \\b\n    connect \\Y \\z [2]\n  end\nend\n";
+    b"module \\m\n  wire width 2 input 1 \\a\n  wire input 2 \\b\n  wire width 3 output 3 \\y\n  wire width 3 output 4 \\z\n  cell $_OR_ $syn$1\n    connect \\A \\a [0]\n    connect \\B \\b\n    connect \\Y \\y [0]\n  end\n  cell $_OR_ $syn$2\n    connect \\A \\a [1]\n    connect \\B \\b\n    connect \\Y \\y [1]\n  end\n  cell $_NOT_ $syn$4\n    connect \\A \\b\n    connect \\Y \\z [0]\n  end\n  connect \\y [2] \\y [1]\n  connect \\z [2:1] { \\z [0] \\z [0] }\nend\n";
 
 #[test]
 fn signed_operands(rt: HostRuntime) -> Result<(), Fail> {
