@@ -1,0 +1,13 @@
+pub mod Ruling
+pub mod Naming
+pub mod NamingProcesses
+pub mod Ruled
+pub mod Starting
+pub mod Faultless
+pub mod Standing
+pub mod Lines
+pub mod Trees
+pub mod Forming
+pub mod Promised
+pub mod PatternsLeft
+pub mod TreeReading

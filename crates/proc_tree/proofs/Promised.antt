@@ -1,0 +1,123 @@
+-- What the two steps promise of a module that may be given.
+use Rattle.std.proofs.Common.{◌≡◌, ℕ, true, List, [], ◌∷◌, ◌++◌, length, Result, Ok, Err, inl, inr, refl, sym, ◌∙◌, ap, subst}
+use Rattle.std.specs.Prelude.{IfOk, map}
+use Rattle.rtl_bits.specs.declared.memory.Memory.{Memory}
+use Rattle.rtl_sig.specs.declared.sig.SigBit.{SigBit}
+use Rattle.rtl_ir.specs.declared.module.Link.{Link}
+use Rattle.rtl_ir.specs.declared.module.Module.{Module}
+use Rattle.rtl_ir.specs.declared.ports.PortTable.{PortTable}
+use Rattle.rtl_ir.specs.declared.process.Process.{Process}
+use Rattle.rtl_ir.specs.declared.process.SyncRule.{SyncRule}
+use Rattle.rtl_ir.specs.declared.wire.Role.TheVariants.{Input}
+use Rattle.rtl_ir.specs.declared.wire.Wire.{Wire}
+use Rattle.rtl_ir.specs.Flat.Cell as flat
+use Rattle.rtl_ir.specs.Flat.Driver.{Driven}
+use Rattle.rtl_ir.specs.Flat.Place.{Path}
+use Rattle.rtl_ir.specs.Flat.Rows.{rows_of}
+use Rattle.rtl_ir.specs.Flat.Tree as tree
+use Rattle.rtl_ir.specs.Ports.{ports_of}
+use Rattle.rtl_ir.specs.Scope.{Scope, everything}
+use Rattle.rtl_ir.specs.Types as types
+use Rattle.net_model.specs.Lists.{Distinct, In}
+use Rattle.net_model.specs.Refine.{IsWellDriven, RefinesIn, RefinesOver, places_of}
+use Rattle.net_model.specs.Within.{CellIn, Each, IsWithin, LinkIn, ProcessIn}
+use Rattle.net_model.specs.Proc.Start.{begun_wires, proc_tree_of, ruled_process}
+use Rattle.net_model.proofs.Lifted.{lifted}
+use Rattle.net_model.proofs.Ranges.{RootIn, root_in}
+use Rattle.net_model.proofs.Members.{In-mapped}
+use Rattle.proc_tree.specs.Ready.{HasItsBits, IsReady, UpdatesHaveBits}
+use Rattle.proc_tree.proofs.Faultless.{all_write, no_faults}
+use Rattle.proc_tree.proofs.Forming.{rules_among, tree_faultless}
+use Rattle.proc_tree.proofs.Lines.{begun_lines, same_bits, same_length, same_names, same_ports}
+use Rattle.proc_tree.proofs.Ruled.{WritesNoStart, rules_left, syncs_of}
+use Rattle.proc_tree.proofs.Standing.{rows_stay}
+
+module _ (m : Module) where
+  pub ports_stay : ports_of (proc_tree_of m).wires ≡ ports_of m.wires
+  ports_stay = same_ports (begun_wires m 0 m.wires) m.wires (begun_lines m 0 m.wires)
+
+  -- each bit still has its row
+  module _ (placed : HasItsBits m) (quiet : Each WritesNoStart (syncs_of m.processes)) where
+    tree_refines : (ports : flat.Ports) → RefinesOver m (proc_tree_of m) ports
+    tree_refines ports = lifted m (proc_tree_of m) ports (record {
+      id = refl;
+      ports_same = sym ports_stay;
+      children = refl;
+      rows = λ p t w s before d i. s.met d (subst (In d) (sym (rows_stay ports p m placed quiet)) i);
+    })
+
+    tree_driven : (ports : flat.Ports) → IsWellDriven ports m → IsWellDriven ports (proc_tree_of m)
+    tree_driven ports h = record {
+      inputs = λ p. subst (λ ns. Distinct (tree.places (tree.role_points Input p ns))) (sym ports_stay) (h.inputs p);
+      rows = λ p. subst (λ rows. Distinct (places_of rows)) (sym (rows_stay ports p m placed quiet)) (h.rows p);
+      apart = λ p x i o n j. h.apart p x (subst (In x) (rows_stay ports p m placed quiet) i) o n (subst (In n) ports_stay j);
+      instances = h.instances;
+    }
+
+  -- signals still name wires, and their bits
+  process_within : (n : ℕ) (q : Process) → ProcessIn n q → ProcessIn n (ruled_process q)
+  process_within n q h =
+      let root : RootIn n _ = root_in n q.root (record { assigns = h.assigns; switches = h.switches }) in
+      record { assigns = root.assigns; switches = root.switches; syncs = λ r i. h.syncs r (rules_among q.syncs r i) }
+
+  within_stays : IsWithin m → IsWithin (proc_tree_of m)
+  within_stays h =
+      let same : length m.wires ≡ length (begun_wires m 0 m.wires) = sym (same_length (begun_wires m 0 m.wires) m.wires (begun_lines m 0 m.wires)) in
+      record {
+        cells = subst (λ n. Each (CellIn n) m.cells) same h.cells;
+        links = subst (λ n. Each (LinkIn n) m.links) same h.links;
+        processes = subst (λ n. Each (ProcessIn n) (map ruled_process m.processes)) same
+            (λ q i. let f = In-mapped ruled_process q m.processes i in subst (ProcessIn (length m.wires)) (sym f.2) (process_within (length m.wires) f.0 (h.processes f.0 f.1)));
+      }
+
+  bits_stay : HasItsBits m → HasItsBits (proc_tree_of m)
+  bits_stay h =
+      let there = same_bits (begun_wires m 0 m.wires) m.wires (begun_lines m 0 m.wires) in
+      record {
+        pins = λ c i pin j s k. there s (h.pins c i pin j s k);
+        updates = λ q i.
+            let f = In-mapped ruled_process q m.processes i in
+            subst (λ (q : Process). Each (UpdatesHaveBits (begun_wires m 0 m.wires)) q.syncs) (sym f.2)
+            (λ r j l k s o. there s (h.updates f.0 f.1 r (rules_among f.0.syncs r j) l k s o));
+      }
+
+  module _ (scope : Scope) (takes : (p : Process) → scope.processes p ≡ true → scope.processes (ruled_process p) ≡ true) where
+    pub tree_ready : (ports : types.Ports) → IsReady scope ports m → IsReady scope ports (proc_tree_of m)
+    tree_ready ports h = record {
+      faultless = tree_faultless scope ports m takes h.faultless;
+      named = subst Distinct (sym (same_names (begun_wires m 0 m.wires) m.wires (begun_lines m 0 m.wires))) h.named;
+      within = within_stays h.within;
+      placed = bits_stay h.placed;
+    }
+
+-- no rule of a module that may be given writes at the start
+pub quiet_all : (scope : Scope) (ports : types.Ports) (m : Module) → IsReady scope ports m → Each WritesNoStart (syncs_of m.processes)
+quiet_all scope ports m h = all_write scope ports m (no_faults scope ports m h.faultless).processes
+
+-- of what is answered, where it is what the two steps define
+module _ (m : Module) (r : Result Module Memory) (is : IfOk r (λ after. after ≡ proc_tree_of m)) where
+  so : (Q : Module → Type 0) → Q (proc_tree_of m) → IfOk r Q
+  so Q q = by r is
+    where
+      by : (r : Result Module Memory) → IfOk r (λ after. after ≡ proc_tree_of m) → IfOk r Q
+      by (Ok after) e = subst Q (sym e) q
+      by (Err fault) e = tt
+
+  pub same_id : IfOk r (λ after. after.id ≡ m.id)
+  same_id = so (λ after. after.id ≡ m.id) refl
+
+  pub same_ports_there : IfOk r (λ after. ports_of after.wires ≡ ports_of m.wires)
+  same_ports_there = so (λ after. ports_of after.wires ≡ ports_of m.wires) (ports_stay m)
+
+  pub same_instances : IfOk r (λ after. flat.instances after.cells ≡ flat.instances m.cells)
+  same_instances = so (λ after. flat.instances after.cells ≡ flat.instances m.cells) refl
+
+  module _ (table : PortTable) (h : IsReady everything (types.table_ports table.modules) m) where
+    pub refines : IfOk r (λ after. RefinesIn m after table)
+    refines = so (λ after. RefinesIn m after table) (tree_refines m h.placed (quiet_all everything (types.table_ports table.modules) m h) (tree.table_ports table))
+
+    pub well_driven : IfOk r (λ after. (ports : flat.Ports) → IsWellDriven ports m → IsWellDriven ports after)
+    well_driven = so (λ after. (ports : flat.Ports) → IsWellDriven ports m → IsWellDriven ports after) (tree_driven m h.placed (quiet_all everything (types.table_ports table.modules) m h))
+
+    pub well_formed : IfOk r (λ after. IsReady everything (types.table_ports table.modules) after)
+    well_formed = so (λ after. IsReady everything (types.table_ports table.modules) after) (tree_ready m everything (λ p e. e) (types.table_ports table.modules) h)
