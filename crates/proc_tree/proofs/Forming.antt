@@ -1,10 +1,8 @@
 -- A module without faults has none once its switches are read by the rules and its start values are moved.
 use Rattle.std.proofs.Common.{◌≡◌, ℕ, ◌+◌, Bool, true, false, if◌then◌else◌, ◌&&◌, ◌||◌, List, [], ◌∷◌, ◌++◌, length, inl, inr, ⊎_elim, refl, sym, ◌∙◌, ap, subst}
-use Rattle.std.specs.Prelude.{◌==◌, filter, flat_map, map, not}
+use Rattle.std.specs.Prelude.{◌==◌, flat_map, map, not}
 use Rattle.std.specs.List.{list_all, list_any}
 use Rattle.std.proofs.lemmas.Bool.{or_parts}
-use Rattle.rtl_sig.specs.declared.sig.SigBit.{SigBit}
-use Rattle.rtl_ir.specs.declared.cell.Cell.{Cell}
 use Rattle.rtl_ir.specs.declared.module.Link.{Link}
 use Rattle.rtl_ir.specs.declared.module.Module.{Module}
 use Rattle.rtl_ir.specs.declared.process.Process.{Process}
@@ -13,7 +11,7 @@ use Rattle.rtl_ir.specs.declared.process.WriteLine.{WriteLine}
 use Rattle.rtl_ir.specs.declared.wire.Wire.{Wire}
 use Rattle.rtl_ir.specs.Assigns.{case_assigns, tree_bits}
 use Rattle.rtl_ir.specs.Decisions.{expanded, leaves_of}
-use Rattle.rtl_ir.specs.Drivers.{FromRules, FromTree, all_by, cell_drives, drives_of, link_drives, port_drives, rule_drives, tree_drives}
+use Rattle.rtl_ir.specs.Drivers.{FromRules, FromTree, all_by, cell_drives, drives_of, link_drives, rule_drives, tree_drives}
 use Rattle.rtl_ir.specs.Faults.{module_faults}
 use Rattle.rtl_ir.specs.Faults.Bits.{bits_faults}
 use Rattle.rtl_ir.specs.Faults.Links.{is_uneven}
@@ -27,7 +25,6 @@ use Rattle.rtl_ir.specs.Rules.{acting_rules, is_init, updated_by}
 use Rattle.rtl_ir.specs.Scope.{Scope}
 use Rattle.rtl_ir.specs.Signals.{has_constant}
 use Rattle.rtl_ir.specs.SwitchRules.{root_by_rules}
-use Rattle.rtl_ir.specs.Tree.{CaseView}
 use Rattle.rtl_ir.specs.Types.{Ports}
 use Rattle.rtl_ir.specs.WritePorts.{EventLine, write_lines}
 use Rattle.net_model.specs.Lists.{In}
@@ -35,7 +32,7 @@ use Rattle.net_model.specs.Within.{Each}
 use Rattle.net_model.specs.Proc.Start.{begun_wires, proc_tree_of, ruled_process}
 use Rattle.net_model.proofs.Members.{In-cases, In-left, In-right, map-append}
 use Rattle.net_model.proofs.Ranges.{each_both, each_more, each_none}
-use Rattle.proc_tree.proofs.Faultless.{HasNoFaults, IsFine, fine_again, is_fine, no_faults, no_more, none_left, none_right, stand_write}
+use Rattle.proc_tree.proofs.Faultless.{IsFine, fine_again, is_fine, no_faults, no_more, none_left, none_right, stand_write}
 use Rattle.proc_tree.proofs.Lines.{begun_lines, same_bits_faults, same_port_drives, same_wire_faults}
 use Rattle.proc_tree.proofs.Ruled.{WritesNoStart, acting_left, no_lines_left, rules_left}
 use Rattle.proc_tree.proofs.Ruling.{root_again, tree_bits_again}

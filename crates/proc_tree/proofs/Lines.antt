@@ -1,5 +1,5 @@
 -- Wires that differ in their attributes alone: the same ports, faults and drivers.
-use Rattle.std.proofs.Common.{◌≡◌, ℤ, ℕ, zero, suc, ◌+◌, ◌<◌, Bool, true, false, if◌then◌else◌, ◌&&◌, ◌||◌, List, [], ◌∷◌, ◌++◌, length, Option, Some, None, refl, sym, ◌∙◌, ap, subst}
+use Rattle.std.proofs.Common.{◌≡◌, ℤ, ℕ, zero, suc, ◌+◌, ◌<◌, Bool, true, false, if◌then◌else◌, ◌&&◌, ◌||◌, List, [], ◌∷◌, ◌++◌, length, refl, sym, ◌∙◌, ap, subst}
 use Rattle.std.specs.Prelude.{filter, flat_map, int_lt, map, pos, slice_get, IsSomeAnd}
 use Rattle.std.specs.List.{list_any, range_with_len}
 use Rattle.std.specs.Ordering.{int_cmp, int_eq, match_ordering}
@@ -11,7 +11,7 @@ use Rattle.rtl_ir.specs.declared.module.Module.{Module}
 use Rattle.rtl_ir.specs.declared.ports.PortLine.{PortLine}
 use Rattle.rtl_ir.specs.declared.wire.Wire.{Wire}
 use Rattle.rtl_ir.specs.Drivers.{Drive, FromPort, all_by, is_input, port_drives}
-use Rattle.rtl_ir.specs.Fault.{Fault, BadPort, TwoDrivers, fault_if, spot}
+use Rattle.rtl_ir.specs.Fault.{BadPort, TwoDrivers, fault_if, spot}
 use Rattle.rtl_ir.specs.Faults.Bits.{bits_faults, has_two}
 use Rattle.rtl_ir.specs.Faults.Wires.{is_inout, wire_faults, with_number}
 use Rattle.rtl_ir.specs.Ports.{in_number_order, is_port, line_of, place_wire, ports_of}

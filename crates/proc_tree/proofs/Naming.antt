@@ -1,6 +1,6 @@
 -- Rows know wires by the places of their bits: where two lists of wires name the same places, cells, connections and
 -- memories have the same rows, as far as storage bits start alike.
-use Rattle.std.proofs.Common.{◌≡◌, ℕ, suc, ◌+◌, Bool, true, false, ◌&&◌, List, [], ◌∷◌, ◌++◌, Option, Some, None, inl, inr, refl, ◌∙◌, ap}
+use Rattle.std.proofs.Common.{◌≡◌, ℕ, suc, Bool, true, false, List, [], ◌∷◌, ◌++◌, Option, Some, None, inl, inr, refl, ◌∙◌, ap}
 use Rattle.std.specs.Prelude.{map, find, flat_map, if◌then◌else◌}
 use Rattle.std.specs.List.{range_with_len}
 use Rattle.std.specs.Option.{option_map_or}
@@ -33,9 +33,7 @@ use Rattle.rtl_ir.specs.Flat.Pick.{Pick, Is, where_of, pick_of, picks_of}
 use Rattle.rtl_ir.specs.Flat.Place.{Frame, frame, Path, word_place}
 use Rattle.rtl_ir.specs.Flat.Point.{Point, Constant, At, bit_place, point, points, point_at, pin_points, wire_points}
 use Rattle.rtl_ir.specs.Parameters.{signal_at}
-use Rattle.net_model.specs.Lists.{In}
 use Rattle.net_model.specs.Within.{Each}
-use Rattle.net_model.proofs.Growing.{map_more, flat_map_more}
 use Rattle.net_model.proofs.Ranges.{each_none}
 
 -- two lists of wires name the same places

@@ -1,6 +1,6 @@
 -- The rows of processes know wires by the places of their bits, and are those of their trees as the rules read them.
-use Rattle.std.proofs.Common.{◌≡◌, Bool, true, false, if◌then◌else◌, List, [], ◌∷◌, ◌++◌, Option, Some, None, inl, inr, refl, ◌∙◌, ap}
-use Rattle.std.specs.Prelude.{map, filter, flat_map, not}
+use Rattle.std.proofs.Common.{◌≡◌, if◌then◌else◌, List, [], ◌∷◌, ◌++◌, Option, Some, None, inl, inr, refl, ◌∙◌, ap}
+use Rattle.std.specs.Prelude.{map, filter, not}
 use Rattle.std.specs.Option.{is_some}
 use Rattle.rtl_bits.specs.declared.bit.Bit.{Bit}
 use Rattle.rtl_sig.specs.declared.sig.SigBit.{SigBit}
@@ -19,10 +19,10 @@ use Rattle.rtl_ir.specs.Assigns.{tree_bits}
 use Rattle.rtl_ir.specs.Decisions.{case_decision, expanded}
 use Rattle.rtl_ir.specs.EventTests.{switch_test}
 use Rattle.rtl_ir.specs.Faults.TwoEdges.{EdgeBit, edge_bit, is_tested}
-use Rattle.rtl_ir.specs.Flat.Driver.{Driven, Joined, Stored, Decided, Held, Raced}
+use Rattle.rtl_ir.specs.Flat.Driver.{Joined, Stored, Decided, Held, Raced}
 use Rattle.rtl_ir.specs.Flat.Pick.{pick_of, no_test}
 use Rattle.rtl_ir.specs.Flat.Place.{Path}
-use Rattle.rtl_ir.specs.Flat.Point.{At as AtPlace, Point, bit_place, point_at}
+use Rattle.rtl_ir.specs.Flat.Point.{At as AtPlace, bit_place, point_at}
 use Rattle.rtl_ir.specs.Flat.Process.{no_modules, rule_shape, no_pins, level_after, Trigger, edge_trigger, level_trigger, may_hold, event_point, edge_row, level_row, loaded_row, loaded_rows, always_row, raced_row, raced_rows, one_rule_rows, two_rules_rows, rules_rows, process_rows, processes_rows}
 use Rattle.rtl_ir.specs.Follow.{Join, joins, all_joins, source_at}
 use Rattle.rtl_ir.specs.Rules.{acting_rules}

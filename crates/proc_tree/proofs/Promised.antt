@@ -1,19 +1,12 @@
 -- What the two steps promise of a module that may be given.
-use Rattle.std.proofs.Common.{◌≡◌, ℕ, true, List, [], ◌∷◌, ◌++◌, length, Result, Ok, Err, inl, inr, refl, sym, ◌∙◌, ap, subst}
+use Rattle.std.proofs.Common.{◌≡◌, ℕ, true, length, Result, Ok, Err, refl, sym, subst}
 use Rattle.std.specs.Prelude.{IfOk, map}
 use Rattle.rtl_bits.specs.declared.memory.Memory.{Memory}
-use Rattle.rtl_sig.specs.declared.sig.SigBit.{SigBit}
-use Rattle.rtl_ir.specs.declared.module.Link.{Link}
 use Rattle.rtl_ir.specs.declared.module.Module.{Module}
 use Rattle.rtl_ir.specs.declared.ports.PortTable.{PortTable}
 use Rattle.rtl_ir.specs.declared.process.Process.{Process}
-use Rattle.rtl_ir.specs.declared.process.SyncRule.{SyncRule}
 use Rattle.rtl_ir.specs.declared.wire.Role.TheVariants.{Input}
-use Rattle.rtl_ir.specs.declared.wire.Wire.{Wire}
 use Rattle.rtl_ir.specs.Flat.Cell as flat
-use Rattle.rtl_ir.specs.Flat.Driver.{Driven}
-use Rattle.rtl_ir.specs.Flat.Place.{Path}
-use Rattle.rtl_ir.specs.Flat.Rows.{rows_of}
 use Rattle.rtl_ir.specs.Flat.Tree as tree
 use Rattle.rtl_ir.specs.Ports.{ports_of}
 use Rattle.rtl_ir.specs.Scope.{Scope, everything}
@@ -29,7 +22,7 @@ use Rattle.proc_tree.specs.Ready.{HasItsBits, IsReady, UpdatesHaveBits}
 use Rattle.proc_tree.proofs.Faultless.{all_write, no_faults}
 use Rattle.proc_tree.proofs.Forming.{rules_among, tree_faultless}
 use Rattle.proc_tree.proofs.Lines.{begun_lines, same_bits, same_length, same_names, same_ports}
-use Rattle.proc_tree.proofs.Ruled.{WritesNoStart, rules_left, syncs_of}
+use Rattle.proc_tree.proofs.Ruled.{WritesNoStart, syncs_of}
 use Rattle.proc_tree.proofs.Standing.{rows_stay}
 
 module _ (m : Module) where

@@ -1,15 +1,13 @@
 -- What a process drives and writes once its switches are read by the rules and it gives no start value any more.
-use Rattle.std.proofs.Common.{◌≡◌, ℕ, ◌+◌, Bool, true, false, cond, if◌then◌else◌, ◌&&◌, ◌||◌, List, [], ◌∷◌, ◌++◌, inl, inr, length, add-zero, append_assoc, refl, sym, ◌∙◌, ap}
+use Rattle.std.proofs.Common.{◌≡◌, ℕ, ◌+◌, Bool, true, false, if◌then◌else◌, ◌&&◌, List, [], ◌∷◌, ◌++◌, inl, inr, length, add-zero, refl, sym, ◌∙◌, ap}
 use Rattle.std.specs.Prelude.{map, filter, flat_map, not}
 use Rattle.rtl_bits.specs.declared.bit.Bit.{Bit}
 use Rattle.rtl_sig.specs.declared.sig.SigBit.{SigBit}
 use Rattle.rtl_sig.specs.declared.sig.WireBit.{WireBit}
 use Rattle.rtl_ir.specs.declared.cell.Cell.{Cell}
-use Rattle.rtl_ir.specs.declared.module.Link.{Link}
 use Rattle.rtl_ir.specs.declared.module.Module.{Module}
 use Rattle.rtl_ir.specs.declared.process.Process.{Process}
 use Rattle.rtl_ir.specs.declared.process.SyncRule.{SyncRule}
-use Rattle.rtl_ir.specs.declared.process.WriteLine.{WriteLine}
 use Rattle.rtl_ir.specs.declared.wire.Wire.{Wire}
 use Rattle.rtl_ir.specs.Assigns.{tree_bits}
 use Rattle.rtl_ir.specs.Decisions.{case_decision, expanded, leaves_of}
@@ -23,7 +21,6 @@ use Rattle.rtl_ir.specs.Flat.Start.{first_constant, process_starts}
 use Rattle.rtl_ir.specs.Follow.{Join, all_joins}
 use Rattle.rtl_ir.specs.Rules.{acting_rules, has_line, init_lines, is_init}
 use Rattle.rtl_ir.specs.SwitchRules.{root_by_rules}
-use Rattle.net_model.specs.Lists.{In}
 use Rattle.net_model.specs.Within.{Each}
 use Rattle.net_model.specs.Proc.Start.{ruled_process}
 use Rattle.proc_tree.proofs.Ruling.{root_again, tree_bits_again}

@@ -1,9 +1,9 @@
 -- How the cases of a switch are read by the rules, one after another.
-use Rattle.std.specs.Prelude.{true, List, [], ◌∷◌, ◌++◌, filter, if◌then◌else◌}
+use Rattle.std.specs.Prelude.{List, [], ◌∷◌, ◌++◌, filter, if◌then◌else◌}
 use Rattle.rtl_sig.specs.declared.sig.SigBit.{SigBit}
 use Rattle.rtl_ir.specs.Signals.{is_all_constant}
 use Rattle.rtl_ir.specs.SwitchRules.{cases_by_rules, is_dropped, patterns_left, switches_by_rules, takes_the_rest, with_pattern}
-use Rattle.rtl_ir.specs.Tree.{CaseView, SwitchView, Switches, NoSwitch, OneSwitch, Cases, NoCase, OneCase}
+use Rattle.rtl_ir.specs.Tree.{CaseView, SwitchView, Switches, OneSwitch, Cases, OneCase}
 use Rattle.proc_tree.specs.declared.reading.Reading.{Reading}
 use Rattle.proc_tree.specs.declared.reading.Reading.TheVariants.{Dropped, Kept, Last}
 

@@ -1,7 +1,7 @@
-use Rattle.std.proofs.Common.{◌≡◌, ◌≤◌, [], length, sym, ◌∙◌, ap, arith}
+use Rattle.std.proofs.Common.{◌≡◌, ◌≤◌, length, sym, ◌∙◌, ap, arith}
 use Rattle.rtl_ir.specs.SwitchRules.{switches_by_rules}
 use Rattle.rtl_ir.specs.Tree.{CaseView, SwitchView, switches_of}
-use Rattle.proc_tree.specs.declared.reading.Reading.TheVariants.{Dropped, Kept, Last}
+use Rattle.proc_tree.specs.declared.reading.Reading.TheVariants.{Last}
 use Rattle.proc_tree.specs.Reading.{constants_after, reading_of, ruled_case}
 use Rattle.proc_tree.proofs.TreeReading.{case_goes, case_last, case_stays, cases_end, ruled_whole, switch_cases, switch_made, switch_next, switches_end}
 use Rattle.proc_tree.proofs.tree.+tree.Goals as goal
