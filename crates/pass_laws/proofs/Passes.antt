@@ -33,7 +33,7 @@ in_middle (x ∷ pre) b post = inr (in_middle pre b post)
 
 -- refinement in turn, where the first keeps that no bit has two drivers over the ports that agree
 module _ (b c d : Module) (ports : Ports) (id : b.id ≡ c.id) (same : ports_of b.wires ≡ ports_of c.wires) (children : instances b.cells ≡ instances c.cells) where
-  refines_in_turn : ((over : Ports) → AgreeOn ports over (instances b.cells) → IsWellDriven over b → IsWellDriven over c) → RefinesOver b c ports → RefinesOver c d ports → RefinesOver b d ports
+  pub refines_in_turn : ((over : Ports) → AgreeOn ports over (instances b.cells) → IsWellDriven over b → IsWellDriven over c) → RefinesOver b c ports → RefinesOver c d ports → RefinesOver b d ports
   refines_in_turn driven h k = record {
     holds = λ pre post fb fd ab.
         let over : Ports = flat.design_ports (with_body pre b post) in

@@ -1,7 +1,10 @@
 -- Which parts of a design are taken. What is not taken is an unsupported cell, memory or process, before any other
 -- fault of that item.
-use Rattle.std.specs.Prelude.{Bool, true, false}
+use Rattle.std.specs.Prelude.{Bool, true, false, not}
+use Rattle.std.specs.List.{list_any}
 use Rattle.rtl_ir.specs.declared.process.Process.{Process}
+use Rattle.rtl_ir.specs.declared.process.SyncRule.{SyncRule}
+use Rattle.rtl_ir.specs.Rules.{has_item, has_line}
 
 -- whether memories and their cells are taken, and which processes are
 pub record Scope : Type 0 where
@@ -15,3 +18,11 @@ everything = record { memories = true; processes = λ p. true }
 -- cells and instances are taken, and neither memories nor processes
 abbrev pub cells_alone : Scope
 cells_alone = record { memories = false; processes = λ p. false }
+
+-- cells, instances and the processes in which no rule has a line are taken
+abbrev pub trees_alone : Scope
+trees_alone = record { memories = false; processes = λ p. not (list_any has_line p.syncs) }
+
+-- cells, instances and the processes in which no rule writes a memory are taken
+abbrev pub no_memories : Scope
+no_memories = record { memories = false; processes = λ p. not (list_any (λ (r : SyncRule). has_item r.writes) p.syncs) }
