@@ -1,3 +1,4 @@
+pub mod Taken
 pub mod Words
 pub mod Finds
 pub mod Numbers

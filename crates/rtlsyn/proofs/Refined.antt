@@ -6,7 +6,7 @@ use Rattle.synth_io.specs.declared.input.TheConstants.{LIMIT}
 use Rattle.rtl_ir.specs.declared.module.Design.{Design}
 use Rattle.rtl_ir.specs.Fault.{Fault}
 use Rattle.rtl_ir.specs.Faults.{faults_within}
-use Rattle.rtl_ir.specs.Scope.{cells_alone}
+use Rattle.rtl_check.specs.Taken.{taken}
 use Rattle.rtl_check.specs.declared.fault.CheckFault.{CheckFault}
 use Rattle.rtl_check.specs.Finds.{first_answer}
 use Rattle.rtl_read.specs.declared.read_fault.ReadFault.{ReadFault}
@@ -31,7 +31,7 @@ record IsNetlistText (input text : List ℕ) : Type 0 where
   design : Design
   netlist : Design
   reads : Reads input design
-  faultless : faults_within cells_alone design.modules ≡ []
+  faultless : faults_within taken design.modules ≡ []
   whole : text ≡ text_of netlist
   refines : Refines design netlist
 
@@ -50,7 +50,7 @@ no_fault [] e = refl
 no_fault (fault ∷ all) e = absurd cc
 
 -- the reply to a design without faults
-of_cold : (input : List ℕ) (d : Design) → Reads input d → faults_within cells_alone d.modules ≡ [] → (cold_reply d).error ≡ false → IsNetlistText input (cold_reply d).text
+of_cold : (input : List ℕ) (d : Design) → Reads input d → faults_within taken d.modules ≡ [] → (cold_reply d).error ≡ false → IsNetlistText input (cold_reply d).text
 unfolding cold_reply
 of_cold input d reads fine = by (first_over d.modules (cold stage_script d)) refl
   where
@@ -63,16 +63,16 @@ of_cold input d reads fine = by (first_over d.modules (cold stage_script d)) ref
           reads = reads;
           faultless = fine;
           whole = refl;
-          refines = cold_refines d (readable input d reads) fine stage_script (tt, (tt, (tt, (tt, tt)))) n (none_over (outcome_of stage_script d.modules) d.modules e);
+          refines = cold_refines d (readable input d reads) fine stage_script (refl, (tt, (tt, (tt, tt)))) n (none_over (outcome_of stage_script d.modules) d.modules e);
         }
     by (Some over) e h = absurd cc
 
 of_design : (input : List ℕ) (d : Design) → Reads input d → (design_reply d).error ≡ false → IsNetlistText input (design_reply d).text
 unfolding design_reply
-of_design input d reads = by (first_answer (faults_within cells_alone d.modules)) refl
+of_design input d reads = by (first_answer (faults_within taken d.modules)) refl
   where
-    by : (o : Option CheckFault) → first_answer (faults_within cells_alone d.modules) ≡ o → (checked_reply d o).error ≡ false → IsNetlistText input (checked_reply d o).text
-    by None e h = of_cold input d reads (no_fault (faults_within cells_alone d.modules) e) h
+    by : (o : Option CheckFault) → first_answer (faults_within taken d.modules) ≡ o → (checked_reply d o).error ≡ false → IsNetlistText input (checked_reply d o).text
+    by None e h = of_cold input d reads (no_fault (faults_within taken d.modules) e) h
     by (Some fault) e h = absurd cc
 
 of_text : (input : List ℕ) (said : Said) → IsTextReply input said → said.error ≡ false → IsNetlistText input said.text

@@ -9,7 +9,7 @@ use Rattle.rtl_read.specs.declared.read_fault.ReadFault.{ReadFault}
 use Rattle.rtl_read.specs.declared.read_fault.ReadFault.TheVariants as faults
 use Rattle.rtl_read.specs.Reads.{Reads, IsFirstFault}
 use Rattle.rtl_ir.specs.Faults.{faults_within}
-use Rattle.rtl_ir.specs.Scope.{cells_alone}
+use Rattle.rtl_check.specs.Taken.{taken}
 use Rattle.rtl_check.specs.declared.fault.CheckFault.{CheckFault}
 use Rattle.rtl_check.specs.Finds.{first_answer}
 use Rattle.rtl_check.specs.Words.{fault_number, fault_words}
@@ -84,7 +84,7 @@ checked_reply design None = cold_reply design
 checked_reply design (Some fault) = error_line (fault_number fault) (fault_words fault)
 
 unfoldable pub design_reply : Design → Said
-design_reply design = checked_reply design (first_answer (faults_within cells_alone design.modules))
+design_reply design = checked_reply design (first_answer (faults_within taken design.modules))
 
 -- the reply to a text: that to the design that it reads as, or its first fault
 abbrev pub IsTextReply : List ℕ → Said → Type 0
@@ -121,7 +121,7 @@ pub record IsRefinedBy (input : List ℕ) (had has : Option (List ℕ)) : Type 0
   pub design : Design
   pub netlist : Design
   pub reads : Reads input design
-  pub faultless : faults_within cells_alone design.modules ≡ []
+  pub faultless : faults_within taken design.modules ≡ []
   pub written : Appends had has (text_of netlist)
   pub refines : Refines design netlist
 

@@ -21,22 +21,25 @@ use Rattle.rtl_ir.specs.declared.process.Process.{Process}
 use Rattle.rtl_ir.specs.declared.store.Store.{Store}
 use Rattle.rtl_ir.specs.declared.wire.Wire.{Wire}
 use Rattle.rtl_ir.specs.Drivers.{Drive, FromCell, drives_of, port_drives, places_by, pin_drives, cell_drives, link_drives, tree_drives, rule_drives}
-use Rattle.rtl_ir.specs.Fault.{Fault, Width, BadParameterOrPort, BadPort, UnsupportedCell, Spot, spot, link_spot, fault_if}
+use Rattle.rtl_ir.specs.Fault.{Fault, Width, BadParameterOrPort, BadPort, BadProcess, BadMemory, TooWide, UnsupportedCell, Spot, spot, link_spot, fault_if}
 use Rattle.rtl_ir.specs.Faults.{module_faults, faults_within}
 use Rattle.rtl_ir.specs.Faults.Bits.{has_two, faults_of_two, bit_faults, bits_faults}
 use Rattle.rtl_ir.specs.Faults.Cells.{misfit, shape_fault, lacks_port, has_other_width, has_constant_output, is_memory_kind, memory_faults, faults_by_type, cell_faults}
 use Rattle.rtl_ir.specs.Faults.Links.{is_uneven, link_faults}
 use Rattle.rtl_ir.specs.Faults.MemoryCells.{is_bad_memory_cell}
-use Rattle.rtl_ir.specs.Faults.Processes.{process_faults}
+use Rattle.rtl_ir.specs.EventTests.{combinational_kind}
+use Rattle.rtl_ir.specs.Faults.ProcessLimits.{is_too_wide, has_uneven, gives_to_constant}
+use Rattle.rtl_ir.specs.Faults.Processes.{faults_of_process, has_bad_line, is_bad_process, process_faults}
 use Rattle.rtl_ir.specs.Faults.Recursion.{recursion_faults}
-use Rattle.rtl_ir.specs.Faults.Stores.{store_faults}
+use Rattle.rtl_ir.specs.Faults.Stores.{is_bad_store, store_faults}
 use Rattle.rtl_ir.specs.Faults.Wires.{wire_faults, is_bad_port, with_number}
 use Rattle.rtl_ir.specs.Flat.Tree.{named}
 use Rattle.rtl_ir.specs.Outputs.{drives_pin, is_output}
 use Rattle.rtl_ir.specs.Ports.{is_port, place_wire, in_number_order, line_of, ports_of}
 use Rattle.rtl_ir.specs.Rules.{has_item}
-use Rattle.rtl_ir.specs.Scope.{cells_alone}
+use Rattle.rtl_ir.specs.Scope.{Scope}
 use Rattle.rtl_ir.specs.Signals.{has_constant}
+use Rattle.rtl_ir.specs.WritePorts.{write_lines}
 use Rattle.rtl_ir.specs.Types.{Ports, CellType, Library, Instance, Unsupported, Unknown, port_lines, module_named, design_ports, table_ports, port_named, type_by, cell_type}
 use Rattle.rtl_trip.specs.Readable.{IsReadable}
 use Rattle.net_model.specs.Lists.{In, Distinct}
@@ -48,6 +51,7 @@ use Rattle.check_laws.proofs.Named.{ordered_lines, lines_distinct, ports_distinc
 use Rattle.check_laws.proofs.Readable.{sound}
 use Rattle.script_core.specs.Cold.{table_of}
 use Rattle.script_core.proofs.Tables.{same_name, table_instance, instantiated}
+use Rattle.script_core.proofs.Testing.{bad_same}
 
 -- ---- ports in another order
 
@@ -115,9 +119,9 @@ any_same : {A : Type 0} (p q : A → Bool) → ((x : A) → p x ≡ q x) → (xs
 any_same p q h [] = refl
 any_same p q h (x ∷ xs) = (λ i. h x i || any_same p q h xs i)
 
-alike_faults : (m : Module) (earlier : List Cell) (c : Cell) (t u : CellType) → Alike t u → faults_by_type cells_alone m earlier c t ≡ faults_by_type cells_alone m earlier c u
-alike_faults m earlier c t u (SameType s) = refl
-alike_faults m earlier c t u (SamePorts p q h) =
+alike_faults : (scope : Scope) (m : Module) (earlier : List Cell) (c : Cell) (t u : CellType) → Alike t u → faults_by_type scope m earlier c t ≡ faults_by_type scope m earlier c u
+alike_faults scope m earlier c t u (SameType s) = refl
+alike_faults scope m earlier c t u (SamePorts p q h) =
     let lacks = any_same (lacks_port p) (lacks_port q) (λ x. ap is_none (h x.name)) c.pins in
     let other = any_same (has_other_width p) (has_other_width q)
     (λ x. ap (λ (o : Option PortLine). has_item x.sig && option_map_or (λ (port : PortLine). not (length x.sig == port.width)) o false) (h x.name)) c.pins in
@@ -165,10 +169,10 @@ abbrev AreAlike : Ports → Ports → List Cell → Type 0
 AreAlike P Q cells = (c : Cell) → In c cells → Alike (cell_type P c.kind_name) (cell_type Q c.kind_name)
 
 module _ (P Q : Ports) where
-  cells_over : (m : Module) (earlier cells : List Cell) → AreAlike P Q cells → cell_faults cells_alone P m earlier cells ≡ cell_faults cells_alone Q m earlier cells
-  cells_over m earlier [] h = refl
-  cells_over m earlier (c ∷ cs) h =
-      (λ i. alike_faults m earlier c (cell_type P c.kind_name) (cell_type Q c.kind_name) (h c (inl refl)) i ++ cells_over m (earlier ++ c ∷ []) cs (λ d j. h d (inr j)) i)
+  cells_over : (scope : Scope) (m : Module) (earlier cells : List Cell) → AreAlike P Q cells → cell_faults scope P m earlier cells ≡ cell_faults scope Q m earlier cells
+  cells_over scope m earlier [] h = refl
+  cells_over scope m earlier (c ∷ cs) h =
+      (λ i. alike_faults scope m earlier c (cell_type P c.kind_name) (cell_type Q c.kind_name) (h c (inl refl)) i ++ cells_over scope m (earlier ++ c ∷ []) cs (λ d j. h d (inr j)) i)
 
   pins_over : (t u : CellType) → Alike t u → (cell pin : ℕ) (pins : List Pin) → pin_drives t cell pin pins ≡ pin_drives u cell pin pins
   pins_over t u h cell pin [] = refl
@@ -182,6 +186,14 @@ module _ (P Q : Ports) where
 
   all_over : (m : Module) → AreAlike P Q m.cells → drives_of P m ≡ drives_of Q m
   all_over m h = ap (λ (z : List Drive). port_drives 0 m.wires ++ z ++ link_drives m.links ++ tree_drives 0 m.processes ++ rule_drives 0 m.processes) (drives_over 0 m.cells h)
+
+-- what is combinational is so over both
+kinds_alike : (P Q : Ports) (cells : List Cell) → AreAlike P Q cells → (c : Cell) → In c cells → combinational_kind (cell_type P c.kind_name) ≡ combinational_kind (cell_type Q c.kind_name)
+kinds_alike P Q cells h c i = by (cell_type P c.kind_name) (cell_type Q c.kind_name) (h c i)
+  where
+    by : (t u : CellType) → Alike t u → combinational_kind t ≡ combinational_kind u
+    by t u (SameType s) = refl
+    by t u (SamePorts p q k) = refl
 
 -- ---- no faults, under another name
 
@@ -209,13 +221,45 @@ wires_none id name numbers (w ∷ ws) e =
     both (fault_if (is_bad_port numbers w) (BadPort (spot name w.name))) (wire_faults name (with_number numbers w) ws)
     (if_none (is_bad_port numbers w) _ _ parts.first) (wires_none id name (with_number numbers w) ws parts.second)
 
-stores_none : (id name : List ℕ) (ss : List Store) → flat_map (store_faults cells_alone id) ss ≡ [] → flat_map (store_faults cells_alone name) ss ≡ []
-stores_none id name [] e = refl
-stores_none id name (s ∷ ss) e = absurd cc
+stores_none : (scope : Scope) (id name : List ℕ) (ss : List Store) → flat_map (store_faults scope id) ss ≡ [] → flat_map (store_faults scope name) ss ≡ []
+stores_none scope id name = flat_none (store_faults scope id) (store_faults scope name)
+    (λ s e.
+        let parts = none_parts (fault_if (not scope.memories) (UnsupportedCell (spot id s.name))) (fault_if (is_bad_store s) (BadMemory (spot id s.name))) e in
+        both (fault_if (not scope.memories) (UnsupportedCell (spot name s.name))) (fault_if (is_bad_store s) (BadMemory (spot name s.name)))
+        (if_none (not scope.memories) _ _ parts.first) (if_none (is_bad_store s) _ _ parts.second))
 
-processes_none : (P Q : Ports) (m n : Module) (ps : List Process) → process_faults cells_alone P m [] ps ≡ [] → process_faults cells_alone Q n [] ps ≡ []
-processes_none P Q m n [] e = refl
-processes_none P Q m n (p ∷ ps) e = absurd cc
+-- the faults of a process, by the tests of its parts
+process_none : (scope : Scope) (P Q : Ports) (m : Module) (name : List ℕ) (earlier : List Process) (p : Process) → is_bad_process P m p ≡ is_bad_process Q m p
+    → faults_of_process scope P m earlier p ≡ [] → faults_of_process scope Q (record m { id = name }) earlier p ≡ []
+process_none scope P Q m name earlier p same e =
+    let here = spot m.id p.name in
+    let there = spot name p.name in
+    let taken = not (scope.processes p) in
+    let line = has_bad_line m (flat_map write_lines earlier) (write_lines p) in
+    let five = none_parts (fault_if taken (UnsupportedCell here) ++ fault_if (is_too_wide p) (TooWide here) ++ fault_if (has_uneven p) (Width here) ++ fault_if (gives_to_constant p) (BadPort here) ++ fault_if (is_bad_process P m p) (BadProcess here)) (fault_if line (BadMemory here)) e in
+    let four = none_parts (fault_if taken (UnsupportedCell here) ++ fault_if (is_too_wide p) (TooWide here) ++ fault_if (has_uneven p) (Width here) ++ fault_if (gives_to_constant p) (BadPort here)) (fault_if (is_bad_process P m p) (BadProcess here)) five.first in
+    let three = none_parts (fault_if taken (UnsupportedCell here) ++ fault_if (is_too_wide p) (TooWide here) ++ fault_if (has_uneven p) (Width here)) (fault_if (gives_to_constant p) (BadPort here)) four.first in
+    let two = none_parts (fault_if taken (UnsupportedCell here) ++ fault_if (is_too_wide p) (TooWide here)) (fault_if (has_uneven p) (Width here)) three.first in
+    let one = none_parts (fault_if taken (UnsupportedCell here)) (fault_if (is_too_wide p) (TooWide here)) two.first in
+    let bad : fault_if (is_bad_process Q m p) (BadProcess here) ≡ [] = ap (λ b. fault_if b (BadProcess here)) (sym same) ∙ four.second in
+    both (fault_if taken (UnsupportedCell there) ++ fault_if (is_too_wide p) (TooWide there) ++ fault_if (has_uneven p) (Width there) ++ fault_if (gives_to_constant p) (BadPort there) ++ fault_if (is_bad_process Q m p) (BadProcess there)) (fault_if line (BadMemory there))
+    (both (fault_if taken (UnsupportedCell there) ++ fault_if (is_too_wide p) (TooWide there) ++ fault_if (has_uneven p) (Width there) ++ fault_if (gives_to_constant p) (BadPort there)) (fault_if (is_bad_process Q m p) (BadProcess there))
+    (both (fault_if taken (UnsupportedCell there) ++ fault_if (is_too_wide p) (TooWide there) ++ fault_if (has_uneven p) (Width there)) (fault_if (gives_to_constant p) (BadPort there))
+    (both (fault_if taken (UnsupportedCell there) ++ fault_if (is_too_wide p) (TooWide there)) (fault_if (has_uneven p) (Width there))
+    (both (fault_if taken (UnsupportedCell there)) (fault_if (is_too_wide p) (TooWide there))
+    (if_none taken _ _ one.first) (if_none (is_too_wide p) _ _ one.second))
+    (if_none (has_uneven p) _ _ two.second))
+    (if_none (gives_to_constant p) _ _ three.second))
+    (if_none (is_bad_process Q m p) _ _ bad))
+    (if_none line _ _ five.second)
+
+processes_none : (scope : Scope) (P Q : Ports) (m : Module) (name : List ℕ) → ((p : Process) → is_bad_process P m p ≡ is_bad_process Q m p) → (earlier ps : List Process)
+    → process_faults scope P m earlier ps ≡ [] → process_faults scope Q (record m { id = name }) earlier ps ≡ []
+processes_none scope P Q m name same earlier [] e = refl
+processes_none scope P Q m name same earlier (p ∷ ps) e =
+    let parts = none_parts (faults_of_process scope P m earlier p) (process_faults scope P m (earlier ++ p ∷ []) ps) e in
+    both (faults_of_process scope Q (record m { id = name }) earlier p) (process_faults scope Q (record m { id = name }) (earlier ++ p ∷ []) ps)
+    (process_none scope P Q m name earlier p (same p) parts.first) (processes_none scope P Q m name same (earlier ++ p ∷ []) ps parts.second)
 
 links_none : (id name : List ℕ) (number : ℕ) (ls : List Link) → link_faults id number ls ≡ [] → link_faults name number ls ≡ []
 links_none id name number [] e = refl
@@ -254,12 +298,12 @@ memory_none m name earlier c (kinds.Storage kind) e = refl
 memory_none m name earlier c (kinds.StorageGate gate) e = refl
 memory_none m name earlier c (kinds.Memory kind) e = if_none (is_bad_memory_cell m earlier c kind) _ _ e
 
-type_none : (m : Module) (name : List ℕ) (earlier : List Cell) (c : Cell) (t : CellType) → faults_by_type cells_alone m earlier c t ≡ [] → faults_by_type cells_alone (record m { id = name }) earlier c t ≡ []
-type_none m name earlier c (Library kind) e =
+type_none : (scope : Scope) (m : Module) (name : List ℕ) (earlier : List Cell) (c : Cell) (t : CellType) → faults_by_type scope m earlier c t ≡ [] → faults_by_type scope (record m { id = name }) earlier c t ≡ []
+type_none scope m name earlier c (Library kind) e =
     let here = spot m.id c.name in
     let there = spot name c.name in
     let n : Module = record m { id = name } in
-    let memories = is_memory_kind kind && not cells_alone.memories in
+    let memories = is_memory_kind kind && not scope.memories in
     let last = none_parts (fault_if memories (UnsupportedCell here) ++ shape_fault here (misfit kind c) ++ fault_if (has_constant_output (Library kind) c.pins) (BadPort here)) (memory_faults m earlier c kind) e in
     let third = none_parts (fault_if memories (UnsupportedCell here) ++ shape_fault here (misfit kind c)) (fault_if (has_constant_output (Library kind) c.pins) (BadPort here)) last.first in
     let second = none_parts (fault_if memories (UnsupportedCell here)) (shape_fault here (misfit kind c)) third.first in
@@ -268,7 +312,7 @@ type_none m name earlier c (Library kind) e =
     (both (fault_if memories (UnsupportedCell there)) (shape_fault there (misfit kind c)) (if_none memories _ _ second.first) (shape_none here there (misfit kind c) second.second))
     (if_none (has_constant_output (Library kind) c.pins) _ _ third.second))
     (memory_none m name earlier c kind last.second)
-type_none m name earlier c (Instance ports) e =
+type_none scope m name earlier c (Instance ports) e =
     let here = spot m.id c.name in
     let there = spot name c.name in
     let lacks = has_item c.params || list_any (lacks_port ports) c.pins in
@@ -279,26 +323,26 @@ type_none m name earlier c (Instance ports) e =
     both (fault_if lacks (BadParameterOrPort there) ++ fault_if other (Width there)) (fault_if out (BadPort there))
     (both (fault_if lacks (BadParameterOrPort there)) (fault_if other (Width there)) (if_none lacks _ _ first.first) (if_none other _ _ first.second))
     (if_none out _ _ last.second)
-type_none m name earlier c Unsupported e = absurd cc
-type_none m name earlier c Unknown e = absurd cc
+type_none scope m name earlier c Unsupported e = absurd cc
+type_none scope m name earlier c Unknown e = absurd cc
 
-cells_none : (P : Ports) (m : Module) (name : List ℕ) (earlier cs : List Cell) → cell_faults cells_alone P m earlier cs ≡ [] → cell_faults cells_alone P (record m { id = name }) earlier cs ≡ []
-cells_none P m name earlier [] e = refl
-cells_none P m name earlier (c ∷ cs) e =
-    let parts = none_parts (faults_by_type cells_alone m earlier c (cell_type P c.kind_name)) (cell_faults cells_alone P m (earlier ++ c ∷ []) cs) e in
-    both (faults_by_type cells_alone (record m { id = name }) earlier c (cell_type P c.kind_name)) (cell_faults cells_alone P (record m { id = name }) (earlier ++ c ∷ []) cs)
-    (type_none m name earlier c (cell_type P c.kind_name) parts.first) (cells_none P m name (earlier ++ c ∷ []) cs parts.second)
+cells_none : (scope : Scope) (P : Ports) (m : Module) (name : List ℕ) (earlier cs : List Cell) → cell_faults scope P m earlier cs ≡ [] → cell_faults scope P (record m { id = name }) earlier cs ≡ []
+cells_none scope P m name earlier [] e = refl
+cells_none scope P m name earlier (c ∷ cs) e =
+    let parts = none_parts (faults_by_type scope m earlier c (cell_type P c.kind_name)) (cell_faults scope P m (earlier ++ c ∷ []) cs) e in
+    both (faults_by_type scope (record m { id = name }) earlier c (cell_type P c.kind_name)) (cell_faults scope P (record m { id = name }) (earlier ++ c ∷ []) cs)
+    (type_none scope m name earlier c (cell_type P c.kind_name) parts.first) (cells_none scope P m name (earlier ++ c ∷ []) cs parts.second)
 
 -- ---- the module
 
 -- a module has no fault over ports that are found alike, under any name
-over_others : (P Q : Ports) (m : Module) (name : List ℕ) → AreAlike P Q m.cells → module_faults cells_alone P m ≡ [] → module_faults cells_alone Q (record m { id = name }) ≡ []
-over_others P Q m name h e =
+over_others : (scope : Scope) (P Q : Ports) (m : Module) (name : List ℕ) → AreAlike P Q m.cells → module_faults scope P m ≡ [] → module_faults scope Q (record m { id = name }) ≡ []
+over_others scope P Q m name h e =
     let n : Module = record m { id = name } in
     let wires = wire_faults m.id [] m.wires in
-    let stores = flat_map (store_faults cells_alone m.id) m.memories in
-    let cells = cell_faults cells_alone P m [] m.cells in
-    let processes = process_faults cells_alone P m [] m.processes in
+    let stores = flat_map (store_faults scope m.id) m.memories in
+    let cells = cell_faults scope P m [] m.cells in
+    let processes = process_faults scope P m [] m.processes in
     let links = link_faults m.id 1 m.links in
     let bits = bits_faults m.id (drives_of P m) 0 m.wires in
     let five = none_parts (wires ++ stores ++ cells ++ processes ++ links) bits e in
@@ -307,23 +351,23 @@ over_others P Q m name h e =
     let two = none_parts (wires ++ stores) cells three.first in
     let one = none_parts wires stores two.first in
     let new_wires = wire_faults name [] m.wires in
-    let new_stores = flat_map (store_faults cells_alone name) m.memories in
-    let new_cells = cell_faults cells_alone Q n [] m.cells in
-    let new_processes = process_faults cells_alone Q n [] m.processes in
+    let new_stores = flat_map (store_faults scope name) m.memories in
+    let new_cells = cell_faults scope Q n [] m.cells in
+    let new_processes = process_faults scope Q n [] m.processes in
     let new_links = link_faults name 1 m.links in
     let new_bits = bits_faults name (drives_of Q m) 0 m.wires in
     both (new_wires ++ new_stores ++ new_cells ++ new_processes ++ new_links) new_bits
     (both (new_wires ++ new_stores ++ new_cells ++ new_processes) new_links
     (both (new_wires ++ new_stores ++ new_cells) new_processes
     (both (new_wires ++ new_stores) new_cells
-    (both new_wires new_stores (wires_none m.id name [] m.wires one.first) (stores_none m.id name m.memories one.second))
-    (cells_none Q m name [] m.cells (sym (cells_over P Q m [] m.cells h) ∙ two.second)))
-    (processes_none P Q m n m.processes three.second))
+    (both new_wires new_stores (wires_none m.id name [] m.wires one.first) (stores_none scope m.id name m.memories one.second))
+    (cells_none scope Q m name [] m.cells (sym (cells_over P Q scope m [] m.cells h) ∙ two.second)))
+    (processes_none scope P Q m name (bad_same P Q m (kinds_alike P Q m.cells h) (drives_over P Q 0 m.cells h)) [] m.processes three.second))
     (links_none m.id name 1 m.links four.second))
     (bits_none m.id name (drives_of Q m) 0 m.wires (ap (λ (ds : List Drive). bits_faults m.id ds 0 m.wires) (sym (all_over P Q m h)) ∙ five.second))
 
 -- so over the ports of its table
-pub faultless_alone : (d : Design) → IsReadable d → faults_within cells_alone d.modules ≡ [] → (m : Module) → In m d.modules → (name : List ℕ) → module_faults cells_alone (table_ports (table_of d.modules m).modules) (record m { id = name }) ≡ []
-faultless_alone d readable none m i name =
-    let own = none_each (module_faults cells_alone (design_ports d.modules)) d.modules (none_parts (flat_map (module_faults cells_alone (design_ports d.modules)) d.modules) (recursion_faults d.modules) none).first m i in
-    over_others (design_ports d.modules) (table_ports (table_of d.modules m).modules) m name (λ c j. alike_type d.modules (sound d readable).modules m c j) own
+pub faultless_under : (scope : Scope) (d : Design) → IsReadable d → faults_within scope d.modules ≡ [] → (m : Module) → In m d.modules → (name : List ℕ) → module_faults scope (table_ports (table_of d.modules m).modules) (record m { id = name }) ≡ []
+faultless_under scope d readable none m i name =
+    let own = none_each (module_faults scope (design_ports d.modules)) d.modules (none_parts (flat_map (module_faults scope (design_ports d.modules)) d.modules) (recursion_faults d.modules) none).first m i in
+    over_others scope (design_ports d.modules) (table_ports (table_of d.modules m).modules) m name (λ c j. alike_type d.modules (sound d readable).modules m c j) own

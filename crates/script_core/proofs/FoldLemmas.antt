@@ -59,7 +59,7 @@ module _ (words : List Word) (at : ℕ) (d word : Word) (inside : at < length wo
   pub fold_over : pass_of table word m ≡ None → fold_script (drop at words) table m ≡ Over word
   fold_over e = ap (λ (ws : List Word). fold_script ws table m) left ∙ ap (after_word word (fold_script (drop (at + 1) words) table)) e
 
-  pub applicable_now : AreApplicable (drop at words) table m → MayBeGiven table m
+  pub applicable_now : AreApplicable (drop at words) table m → MayBeGiven table word m
   applicable_now h = (subst (λ (ws : List Word). AreApplicable ws table m) left h).0
 
   pub applicable_next : (after : Module) → pass_of table word m ≡ Some after → AreApplicable (drop at words) table m → AreApplicable (drop (at + 1) words) table after

@@ -1,4 +1,4 @@
--- A module of an accepted design may be given to a pass, over its table of ports, whatever its name is.
+-- A module of an accepted design may be given to the first pass, over its table of ports, whatever its name is.
 use Rattle.std.proofs.Common.{◌≡◌, ℕ, zero, suc, ◌<◌, List, [], ◌∷◌, length, inl, inr, arith, subst, sym}
 use Rattle.std.specs.Prelude.{slice_get, IsSomeAnd}
 use Rattle.std.specs.List.{All}
@@ -11,18 +11,23 @@ use Rattle.rtl_ir.specs.declared.module.Module.{Module}
 use Rattle.rtl_ir.specs.declared.process.Process.{Process}
 use Rattle.rtl_ir.specs.declared.wire.Wire.{Wire}
 use Rattle.rtl_ir.specs.Faults.{faults_within}
-use Rattle.rtl_ir.specs.Scope.{cells_alone}
-use Rattle.rtl_ir.specs.Types.{table_ports}
+use Rattle.rtl_ir.specs.declared.process.Event.{Event}
+use Rattle.rtl_ir.specs.declared.process.Event.TheVariants.{Low, High, Posedge, Negedge, Edge, Global, Init, Always}
+use Rattle.rtl_ir.specs.declared.process.SyncRule.{SyncRule}
+use Rattle.rtl_ir.specs.declared.process.WriteLine.{WriteLine}
+use Rattle.rtl_ir.specs.Tree.{Switches, NoSwitch, OneSwitch, Cases, NoCase, OneCase}
+use Rattle.rtl_check.specs.Taken.{taken}
 use Rattle.rtl_sig.specs.declared.sig.SigBit.{SigBit}
 use Rattle.rtl_sig.specs.declared.sig.SigBit.TheVariants as sig
-use Rattle.rtl_trip.specs.Readable.{IsBitOf, IsCell, IsLink, IsPin, IsReadable, IsReadableModule}
+use Rattle.rtl_trip.specs.Readable.{AreCases, AreSwitches, IsBitOf, IsCell, IsEvent, IsLink, IsPin, IsProcess, IsReadable, IsReadableModule, IsRule, IsSomeSignal, IsWrite}
 use Rattle.net_model.specs.Lists.{In}
-use Rattle.net_model.specs.Within.{BitIn, CellIn, Each, IsWithin, LinkIn, ProcessIn, SigIn}
+use Rattle.net_model.specs.Within.{BitIn, CasesIn, CellIn, Each, EventIn, IsWithin, LinkIn, ProcessIn, RuleIn, SigIn, SwitchesIn, WriteIn}
+use Rattle.proc_laws.specs.Ready as laws
+use Rattle.proc_laws.specs.Ready.{HasItsBits, PinsHaveBits, UpdatesHaveBits}
 use Rattle.check_laws.proofs.Readable.{sound}
-use Rattle.pass_laws.proofs.Faultless.{plain}
 use Rattle.script_core.specs.Cold.{table_of}
-use Rattle.script_core.specs.Fold.{MayBeGiven}
-use Rattle.script_core.proofs.Faultless.{faultless_alone}
+use Rattle.script_core.specs.Fold.{MayBegin}
+use Rattle.script_core.proofs.Faultless.{faultless_under}
 
 each_of : {A : Type 0} (P : A → Type 0) (xs : List A) → All P xs → (x : A) → In x xs → P x
 each_of P [] all x i = absurd i
@@ -51,22 +56,84 @@ module _ (ws : List Wire) where
     λ b i. bit_in b (each_of (IsBitOf ws) l.right h.right.bits b i),
   )
 
-no_process : (count : ℕ) (ps : List Process) → ps ≡ [] → Each (ProcessIn count) ps
-no_process count ps none p i = absurd (subst (In p) none i)
+  links_in : (ls : List Link) → All (IsLink ws) ls → Each (LinkIn (length ws)) ls
+  links_in ls h l i = link_in l (each_of (IsLink ws) ls h l i)
 
-readable_within : (m : Module) → IsReadableModule m → m.processes ≡ [] → IsWithin m
-readable_within m h none = record {
+  some_in : (signal : List SigBit) → IsSomeSignal ws signal → SigIn (length ws) signal
+  some_in signal h b i = bit_in b (each_of (IsBitOf ws) signal h.signal.bits b i)
+
+  mutual
+    switches_in : (depth : ℕ) (switches : Switches) → AreSwitches ws depth switches → SwitchesIn (length ws) switches
+    switches_in depth NoSwitch h = tt
+    switches_in depth (OneSwitch signal attributes cases rest) h =
+        (some_in signal h.1.0, (cases_in (depth + 1) cases h.1.1.1.0, switches_in depth rest h.1.1.1.1))
+
+    cases_in : (depth : ℕ) (cases : Cases) → AreCases ws depth cases → CasesIn (length ws) cases
+    cases_in depth NoCase h = tt
+    cases_in depth (OneCase patterns assigns attributes switches rest) h =
+        (λ p i. some_in p (each_of (IsSomeSignal ws) patterns h.0 p i), (links_in assigns h.1.0, (switches_in depth switches h.1.1.1.0, cases_in depth rest h.1.1.1.1)))
+
+  event_in : (e : Event) → IsEvent ws e → EventIn (length ws) e
+  event_in (Low signal) h = some_in signal h
+  event_in (High signal) h = some_in signal h
+  event_in (Posedge signal) h = some_in signal h
+  event_in (Negedge signal) h = some_in signal h
+  event_in (Edge signal) h = some_in signal h
+  event_in Global h = tt
+  event_in Init h = tt
+  event_in Always h = tt
+
+  write_in : (line : WriteLine) → IsWrite ws line → WriteIn (length ws) line
+  write_in line h = record { address = some_in line.address h.address; value = some_in line.value h.value; enable = some_in line.enable h.enable }
+
+  rule_in : (r : SyncRule) → IsRule ws r → RuleIn (length ws) r
+  rule_in r h = record {
+    event = event_in r.event h.event;
+    updates = links_in r.updates h.updates;
+    writes = λ l i. write_in l (each_of (IsWrite ws) r.writes h.writes l i);
+  }
+
+  process_in : (p : Process) → IsProcess ws p → ProcessIn (length ws) p
+  process_in p h = record {
+    assigns = links_in p.root.assigns h.assigns;
+    switches = switches_in 0 p.root.switches h.switches;
+    syncs = λ r i. rule_in r (each_of (IsRule ws) p.syncs h.rules r i);
+  }
+
+  -- bits of pins and updated bits
+  bit_of : (b : SigBit) → IsBitOf ws b → laws.IsBitOf ws b
+  bit_of (sig.Fixed c) h = tt
+  bit_of (sig.Wire b) h = h
+
+  pins_of : (c : Cell) → IsCell ws c → PinsHaveBits ws c
+  pins_of c h pin i b j = bit_of b (each_of (IsBitOf ws) pin.sig (each_of (IsPin ws) c.pins h.pins pin i).sig.bits b j)
+
+  updates_of : (r : SyncRule) → IsRule ws r → UpdatesHaveBits ws r
+  updates_of r h l i b j = bit_of b (each_of (IsBitOf ws) l.left (each_of (IsLink ws) r.updates h.updates l i).left.bits b j)
+
+readable_within : (m : Module) → IsReadableModule m → IsWithin m
+readable_within m h = record {
   cells = λ c i. cell_in m.wires c (each_of (IsCell m.wires) m.cells h.cells c i);
-  links = λ l i. link_in m.wires l (each_of (IsLink m.wires) m.links h.links l i);
-  processes = no_process (length m.wires) m.processes none;
+  links = links_in m.wires m.links h.links;
+  processes = λ p i. process_in m.wires p (each_of (IsProcess m.wires) m.processes h.processes p i);
 }
 
-pub given_alone : (d : Design) → IsReadable d → faults_within cells_alone d.modules ≡ [] → (m : Module) → In m d.modules → (name : List ℕ) → MayBeGiven (table_of d.modules m) (record m { id = name })
-given_alone d readable none m i name =
-    let faultless = faultless_alone d readable none m i name in
-    let within = readable_within m (each_of IsReadableModule d.modules readable.modules m i) (plain (table_ports (table_of d.modules m).modules) (record m { id = name }) faultless).processes in
+readable_bits : (m : Module) → IsReadableModule m → HasItsBits m
+readable_bits m h = record {
+  pins = λ c i. pins_of m.wires c (each_of (IsCell m.wires) m.cells h.cells c i);
+  updates = λ p i r j. updates_of m.wires r (each_of (IsRule m.wires) p.syncs (each_of (IsProcess m.wires) m.processes h.processes p i).rules r j);
+}
+
+pub given_first : (d : Design) → IsReadable d → faults_within taken d.modules ≡ [] → (m : Module) → In m d.modules → (name : List ℕ) → MayBegin (table_of d.modules m) (record m { id = name })
+given_first d readable none m i name =
+    let good = each_of IsReadableModule d.modules readable.modules m i in
+    let within = readable_within m good in
+    let bits = readable_bits m good in
     record {
-      faultless = faultless;
-      named = ((sound d readable).modules m i).wires;
-      within = record { cells = within.cells; links = within.links; processes = within.processes };
+      ready = record {
+        faultless = faultless_under taken d readable none m i name;
+        named = ((sound d readable).modules m i).wires;
+        within = record { cells = within.cells; links = within.links; processes = within.processes };
+      };
+      placed = record { pins = bits.pins; updates = bits.updates };
     }

@@ -1,10 +1,12 @@
 pub mod KeyLemmas
 pub mod FoldLemmas
 pub mod Tables
+pub mod Testing
 pub mod Faultless
 pub mod BuildLemmas
 pub mod Given
 pub mod Reading
 pub mod Stepping
+pub mod RenamingProc
 pub mod Renaming
 pub mod Refining

@@ -11,7 +11,7 @@ use Rattle.rtl_ir.specs.Flat.Place.{Frame}
 use Rattle.rtl_ir.specs.Flat.Tree.{design_ports}
 use Rattle.rtl_ir.specs.Flat.Tree.{table_ports as flat_ports}
 use Rattle.rtl_ir.specs.Ports.{instances_of, ports_by_module, port_table_of}
-use Rattle.rtl_ir.specs.Scope.{cells_alone}
+use Rattle.rtl_check.specs.Taken.{taken}
 use Rattle.rtl_trip.specs.Readable.{IsReadable, IsReadableModule}
 use Rattle.rtl_trip.specs.PortTables.{ArePorts}
 use Rattle.rtl_trip.proofs.BodyLaws.{readable_named, body_kept}
@@ -23,7 +23,7 @@ use Rattle.net_model.specs.Refine.{AgreeOn, Refines, RefinesIn, RefinesOver, Eac
 use Rattle.net_model.proofs.Composing.{each_refines}
 use Rattle.check_laws.proofs.Accepted.{accepted}
 use Rattle.check_laws.proofs.Readable.{sound}
-use Rattle.pass_laws.specs.Pass.{IsPass}
+use Rattle.proc_laws.specs.Step.{IsStep}
 use Rattle.script_core.specs.declared.outcome.Outcome.{Outcome}
 use Rattle.script_core.specs.declared.outcome.Outcome.TheVariants.{Done}
 use Rattle.script_core.specs.declared.word.Word.{Word}
@@ -32,8 +32,8 @@ use Rattle.script_core.specs.Cold.{named, table_of, outcome_of, cold, IsNetlist}
 use Rattle.script_core.specs.Fold.{fold_script, IsStageScript}
 use Rattle.script_core.specs.Keys.{key_of}
 use Rattle.script_core.proofs.BuildLemmas.{readable_in}
-use Rattle.script_core.proofs.Given.{given_alone}
-use Rattle.script_core.proofs.Stepping.{fold_pass}
+use Rattle.script_core.proofs.Given.{given_first}
+use Rattle.script_core.proofs.Stepping.{fold_step}
 use Rattle.script_core.proofs.Tables.{agree}
 use Rattle.script_core.proofs.Renaming.{fold_renamed}
 
@@ -50,14 +50,14 @@ refines_over b c ports over agrees h = record {
 
 -- ---- modules of accepted designs
 
-module _ (d : Design) (readable : IsReadable d) (none : faults_within cells_alone d.modules ≡ []) (script : List Word) (stage : IsStageScript script) where
+module _ (d : Design) (readable : IsReadable d) (none : faults_within taken d.modules ≡ []) (script : List Word) (stage : IsStageScript script) where
   -- the module of a design under any name, and what the script makes of it
-  module_step : (m : Module) → In m d.modules → (name : List ℕ) (n : Module) → fold_script script (table_of d.modules m) (record m { id = name }) ≡ Done n → IsPass (table_of d.modules m) (record m { id = name }) n
+  module_step : (m : Module) → In m d.modules → (name : List ℕ) (n : Module) → fold_script script (table_of d.modules m) (record m { id = name }) ≡ Done n → IsStep (table_of d.modules m) (record m { id = name }) n
   module_step m i name n e =
-      fold_pass script (table_of d.modules m) (record m { id = name }) n stage (given_alone d readable none m i name) e
+      fold_step script (table_of d.modules m) (record m { id = name }) n stage (given_first d readable none m i name) e
 
   -- under its own name
-  own_step : (m : Module) → In m d.modules → (n : Module) → outcome_of script d.modules m ≡ Done n → IsPass (table_of d.modules m) m n
+  own_step : (m : Module) → In m d.modules → (n : Module) → outcome_of script d.modules m ≡ Done n → IsStep (table_of d.modules m) m n
   own_step m i n e =
       module_step m i m.id n (fold_renamed m.id script (table_of d.modules m) (unnamed m) ∙ e)
 
@@ -69,14 +69,14 @@ module _ (d : Design) (readable : IsReadable d) (none : faults_within cells_alon
       let first : outcome_of script d.modules b ≡ Done c = cc in
       let rest : map (outcome_of script d.modules) bs ≡ map Done cs = cc in
       let step = own_step b (h b (inl refl)) c first in
-      let well = (accepted cells_alone d (sound d readable) none).modules b (h b (inl refl)) in
+      let well = (accepted taken d (sound d readable) none).modules b (h b (inl refl)) in
       let ports : Ports = flat_ports (table_of d.modules b) in
       let same = agree d.modules b in
       ((step.id, step.ports, well, step.driven (design_ports d) same well, refines_over b c ports (design_ports d) same step.refines), each_step bs cs (λ x i. h x (inr i)) rest)
 
   pub cold_refines : (n : Design) → IsNetlist (cold script d) n → Refines d n
   cold_refines n e =
-      each_refines d.modules n.modules (accepted cells_alone d (sound d readable) none).ids (each_step d.modules n.modules (λ b i. i) e)
+      each_refines d.modules n.modules (accepted taken d (sound d readable) none).ids (each_step d.modules n.modules (λ b i. i) e)
 
 -- ---- values of keys
 
@@ -110,7 +110,7 @@ module _ (d : Design) (readable : IsReadable d) (at : ℕ) (m : Module) (here : 
   value_named outcome h = ap (named m.id) (value_is outcome h)
 
   -- which refines it
-  pub value_refines : faults_within cells_alone d.modules ≡ [] → IsStageScript script → (after : Module) → IsValueOf (key_of d.modules at script) (Done after) → (name : List ℕ)
+  pub value_refines : faults_within taken d.modules ≡ [] → IsStageScript script → (after : Module) → IsValueOf (key_of d.modules at script) (Done after) → (name : List ℕ)
       → RefinesIn (record m { id = name }) (record after { id = name }) (table_of d.modules m)
   value_refines none stage after h name =
       let e : fold_script script (table_of d.modules m) (record m { id = name }) ≡ Done (record after { id = name }) =

@@ -4,7 +4,7 @@ use Rattle.rtl_ir.specs.declared.module.Design.{Design}
 use Rattle.rtl_ir.specs.declared.module.Module.{Module}
 use Rattle.rtl_ir.specs.declared.ports.PortTable.{PortTable}
 use Rattle.rtl_ir.specs.Faults.{faults_within}
-use Rattle.rtl_ir.specs.Scope.{cells_alone}
+use Rattle.rtl_check.specs.Taken.{taken}
 use Rattle.rtl_trip.specs.Readable.{IsReadable, IsReadableModule}
 use Rattle.rtl_trip.specs.PortTables.{ArePorts}
 use Rattle.rtl_write.specs.Text.{body_text}
@@ -33,6 +33,6 @@ pub record IsAcceptedKey (key : Key) : Type 0 where
   pub design : Design
   pub at : ℕ
   pub readable : IsReadable design
-  pub faultless : faults_within cells_alone design.modules ≡ []
+  pub faultless : faults_within taken design.modules ≡ []
   pub in_range : at < length design.modules
   pub same : key ≡ key_of design.modules at key.script

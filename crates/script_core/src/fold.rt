@@ -1,7 +1,8 @@
 //! The passes of a script, in order.
 
 ghost use Rattle.std.specs.Prelude.{◌≡◌, Err, IfOk, None, Some};
-ghost use Rattle.script_core.specs.Fold.{AreApplicable, MayBeGiven, fold_script, pass_of, techmap_within};
+ghost use Rattle.script_core.specs.Fold.{AreApplicable, MayBeGiven, fold_script, pass_of, proc_within, techmap_within};
+ghost use Rattle.script_core.specs.declared.word.Word.TheVariants.{Proc, Techmap};
 
 use crate::outcome::Outcome;
 use crate::word::Word;
@@ -10,9 +11,26 @@ use rtl_bits::Memory;
 use rtl_ir::{Module, PortTable};
 use std::alloc::Global;
 
+/// The module without processes: their trees become multiplexers. `Over` where these would pass a limit.
+fn without_processes(
+    alloc: Global,
+    module: Module,
+    ports: &PortTable,
+) -> Result<Module, PassFault>
+    requires ready { MayBeGiven ports.now Proc «module» }
+    ensures exact { IfOk result (λ after. proc_within «module» «module».processes ≡ Some after) }
+    ensures over { result ≡ Err PassFault.Over → proc_within «module» «module».processes ≡ None }
+{
+    if module.processes.as_slice().is_empty() {
+        return Ok(module);
+    }
+    let ruled = proc_tree::apply(alloc, &module, ports)?;
+    proc_mux::apply(alloc, &ruled, ports)
+}
+
 /// The module with its cells mapped. `Over` where the gates would pass a limit.
 fn mapped(alloc: Global, module: &Module, ports: &PortTable) -> Result<Module, PassFault>
-    requires ready { MayBeGiven ports.now «module».now }
+    requires ready { MayBeGiven ports.now Techmap «module».now }
     ensures exact { IfOk result (λ after. techmap_within «module».now ≡ Some after) }
     ensures over { result ≡ Err PassFault.Over → techmap_within «module».now ≡ None }
 {
@@ -21,17 +39,18 @@ fn mapped(alloc: Global, module: &Module, ports: &PortTable) -> Result<Module, P
 
 /// What the pass of a word makes of the module. `Over` where that would pass a limit.
 fn pass(alloc: Global, word: Word, module: Module, ports: &PortTable) -> Result<Module, PassFault>
-    requires ready { MayBeGiven ports.now «module» }
+    requires ready { MayBeGiven ports.now word «module» }
     ensures exact { IfOk result (λ after. pass_of ports.now word «module» ≡ Some after) }
     ensures over { result ≡ Err PassFault.Over → pass_of ports.now word «module» ≡ None }
 {
     match word {
+        Word::Proc => without_processes(alloc, module, ports),
         Word::OptExpr => Ok(opt_expr::apply(alloc, &module, ports)?),
         Word::OptMerge => Ok(opt_merge::apply(alloc, &module, ports)?),
         Word::OptClean => Ok(opt_clean::apply(alloc, &module, ports)?),
         Word::Opt => Ok(opt_rounds::apply(alloc, module, ports)?),
         Word::Techmap => mapped(alloc, &module, ports),
-        Word::Proc | Word::Fsm | Word::Memory => Ok(module),
+        Word::Fsm | Word::Memory => Ok(module),
     }
 }
 

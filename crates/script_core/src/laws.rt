@@ -7,7 +7,7 @@ ghost use Rattle.rtl_ir.specs.declared.ports.PortTable.{PortTable};
 ghost use Rattle.rtl_ir.specs.Faults.{faults_within};
 ghost use Rattle.rtl_ir.specs.Flat.Cell.{instances};
 ghost use Rattle.rtl_ir.specs.Flat.Tree.{design_ports, table_ports};
-ghost use Rattle.rtl_ir.specs.Scope.{cells_alone};
+ghost use Rattle.rtl_check.specs.Taken.{taken};
 ghost use Rattle.rtl_trip.specs.Readable.{IsReadable};
 ghost use Rattle.net_model.specs.Lists.{In};
 ghost use Rattle.net_model.specs.Refine.{AgreeOn, Refines, RefinesIn};
@@ -16,15 +16,15 @@ ghost use Rattle.script_core.specs.declared.outcome.Outcome.TheVariants.{Done};
 ghost use Rattle.script_core.specs.declared.word.Word.{Word};
 ghost use Rattle.script_core.specs.Built.{IsValueOf, unnamed};
 ghost use Rattle.script_core.specs.Cold.{IsNetlist, cold, named, outcome_of, table_of};
-ghost use Rattle.script_core.specs.Fold.{MayBeGiven, IsStageScript, fold_script};
+ghost use Rattle.script_core.specs.Fold.{MayBegin, IsStageScript, fold_script};
 ghost use Rattle.script_core.specs.Keys.{key_of};
 
 /// The table of a module has the ports that the design has for each of its instances; so a module of an
-/// accepted design may be given to a pass over its table, whatever its name is.
+/// accepted design may be given to `proc` over its table, whatever its name is.
 pub fn tables_have_the_ports()
     ensures ports { (d : Design) (m : Module) → AgreeOn (table_ports (table_of d.modules m)) (design_ports d) (instances m.cells) }
-    ensures given { (d : Design) → IsReadable d → faults_within cells_alone d.modules ≡ [] → (m : Module) → In m d.modules →
-        MayBeGiven (table_of d.modules m) (unnamed m) }
+    ensures given { (d : Design) → IsReadable d → faults_within taken d.modules ≡ [] → (m : Module) → In m d.modules →
+        MayBegin (table_of d.modules m) (unnamed m) }
 {}
 
 /// No pass looks at the name of a module: what a script makes of it under a name is what it makes of it
@@ -45,7 +45,7 @@ pub fn values_are_outcomes()
 /// name that both have.
 pub fn build_refines()
     ensures { (d : Design) (at : ℕ) (before after : Module) (script : List Word) →
-        IsReadable d → faults_within cells_alone d.modules ≡ [] → slice_get d.modules at ≡ Some before → IsStageScript script →
+        IsReadable d → faults_within taken d.modules ≡ [] → slice_get d.modules at ≡ Some before → IsStageScript script →
         IsValueOf (key_of d.modules at script) (Done after) → (name : List ℕ) →
         RefinesIn (record before { id = name }) (record after { id = name }) (table_of d.modules before) }
 {}
@@ -53,6 +53,6 @@ pub fn build_refines()
 /// Where the cold run of an accepted design is a netlist, this refines the design.
 pub fn cold_runs_refine()
     ensures { (d netlist : Design) (script : List Word) →
-        IsReadable d → faults_within cells_alone d.modules ≡ [] → IsStageScript script →
+        IsReadable d → faults_within taken d.modules ≡ [] → IsStageScript script →
         IsNetlist (cold script d) netlist → Refines d netlist }
 {}

@@ -1,0 +1,6 @@
+-- Which part of designs the check takes.
+use Rattle.rtl_ir.specs.Scope.{Scope, trees_alone}
+
+-- cells, instances and the processes in which no rule has a line
+abbrev pub taken : Scope
+taken = trees_alone
