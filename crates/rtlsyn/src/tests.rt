@@ -1,5 +1,6 @@
 //! The top call over memory.
 
+mod cell_text;
 mod faults;
 mod limits;
 mod whole_text;
@@ -14,7 +15,6 @@ use std::fmt::Write;
 use std::process::Abort;
 use std::test::Fail;
 use synth_io::{MemSink, MemSource, Sink, Source, StdSink, StdSource, SureSink, SureSource};
-use whole_text::{FIRST_ROWS, FOURTH_ROWS, SECOND_ROWS, THIRD_ROWS};
 
 /// The name of the counter of builds.
 struct Builds;
@@ -81,16 +81,34 @@ fn run_rows(rt: &impl Abort, alloc: Global, table: &[u8]) -> Result<(u32, u32), 
     Ok((rows, accepted))
 }
 
-#[test]
-fn texts_have_their_netlists(rt: HostRuntime) -> Result<(), Fail> {
+/// Runs the rows of these tables, and gives how many there are and how many are accepted.
+fn run_tables(rt: &impl Abort, alloc: Global, tables: &[&[u8]]) -> Result<(u32, u32), Fail> {
     let mut rows = 0u32;
     let mut accepted = 0u32;
-    for table in [FIRST_ROWS, SECOND_ROWS, THIRD_ROWS, FOURTH_ROWS] {
-        let (more, taken) = run_rows(&rt, rt.alloc(), table)?;
+    for table in tables {
+        let (more, taken) = run_rows(rt, alloc, table)?;
         rows = rows.saturating_add(more);
         accepted = accepted.saturating_add(taken);
     }
-    assert_eq!(rt; (rows, accepted), (348, 144));
+    Ok((rows, accepted))
+}
+
+#[test]
+fn texts_of_cells_have_their_netlists(rt: HostRuntime) -> Result<(), Fail> {
+    let tables: &[&[u8]] = &[cell_text::FIRST_ROWS, cell_text::SECOND_ROWS];
+    assert_eq!(rt; run_tables(&rt, rt.alloc(), tables)?, (140, 140));
+    Ok(())
+}
+
+#[test]
+fn texts_have_their_netlists(rt: HostRuntime) -> Result<(), Fail> {
+    let tables: &[&[u8]] = &[
+        whole_text::FIRST_ROWS,
+        whole_text::SECOND_ROWS,
+        whole_text::THIRD_ROWS,
+        whole_text::FOURTH_ROWS,
+    ];
+    assert_eq!(rt; run_tables(&rt, rt.alloc(), tables)?, (348, 144));
     Ok(())
 }
 
