@@ -8,7 +8,6 @@ pub mod MatchMade
 pub mod TreeFree
 pub mod TreeValue
 pub mod TreeRuns
-
 pub mod TreeSteps
 pub mod TreeLess
 pub mod TreeRefining

@@ -1,5 +1,5 @@
 -- The bits that stand for patterns, and for the patterns of a case, have no less than what matches.
-use Rattle.std.proofs.Common.{◌≡◌, ℕ, Bool, true, false, if◌then◌else◌, List, [], ◌∷◌, ◌++◌, length, Some, refl, sym, ◌∙◌, ap, subst}
+use Rattle.std.proofs.Common.{◌≡◌, Bool, true, false, if◌then◌else◌, List, [], ◌∷◌, length, refl, ◌∙◌, ap}
 use Rattle.std.specs.Prelude.{◌||◌, codes, map, zip}
 use Rattle.std.specs.List.{list_any}
 use Rattle.cell_types.specs.declared.word.EqualKind.TheVariants.{Eq}
@@ -10,7 +10,7 @@ use Rattle.rtl_bits.proofs.Tables.{and_of_mono, or_of_mono}
 use Rattle.rtl_bits.specs.Knowledge.{Below, is_known}
 use Rattle.rtl_bits.specs.Tables.{and_of}
 use Rattle.rtl_bits.specs.declared.bit.Bit.{Bit}
-use Rattle.rtl_bits.specs.declared.bit.Bit.TheVariants.{S0, S1, X, Z, M, Dash}
+use Rattle.rtl_bits.specs.declared.bit.Bit.TheVariants.{S1}
 use Rattle.rtl_ir.specs.Build.{Building, made_name, pin_of}
 use Rattle.rtl_ir.specs.Flat.Point.{points}
 use Rattle.rtl_sig.specs.declared.sig.SigBit.{SigBit}

@@ -1,5 +1,5 @@
 -- A match that is made once is that of its case, and a case with it stands for the choice that it is.
-use Rattle.std.proofs.Common.{◌≡◌, ◌≤◌, ◌<◌, ℕ, zero, suc, ◌+◌, Bool, true, false, if◌then◌else◌, List, [], ◌∷◌, ◌++◌, length, Option, Some, None, ◌⊎◌, inl, inr, ⊎_elim, refl, sym, ◌∙◌, ap, subst, arith}
+use Rattle.std.proofs.Common.{◌≡◌, ◌≤◌, ◌<◌, ℕ, zero, suc, Bool, true, false, if◌then◌else◌, List, [], ◌∷◌, ◌++◌, length, Option, Some, None, ◌⊎◌, inl, inr, ⊎_elim, refl, sym, ◌∙◌, ap, subst, arith}
 use Rattle.std.specs.Prelude.{codes, not, slice_get, zip}
 use Rattle.std.specs.List.{list_any}
 use Rattle.std.specs.Option.{option_map_or}
@@ -19,7 +19,7 @@ use Rattle.rtl_sig.specs.declared.sig.SigBit.TheVariants.{Fixed, Wire as OnWire}
 use Rattle.rtl_sig.specs.declared.sig.WireBit.{WireBit}
 use Rattle.net_model.specs.Picked.{chosen_of}
 use Rattle.net_model.specs.Proc.Mux.{Made, Trees, is_asked, is_default, joined_bits, made_match, match_bit, mux_cell, pattern_bits, same_case, with_case}
-use Rattle.mux_laws.proofs.MatchBits.{any_matched, case_stands, joined_grow, matched, patterns_grow, unasked_matched}
+use Rattle.mux_laws.proofs.MatchBits.{any_matched, case_stands, joined_grow, patterns_grow, unasked_matched}
 use Rattle.mux_laws.proofs.TreeGrowing.{Grows, grows_both, grows_driver, grows_none, met_before}
 use Rattle.mux_laws.proofs.TreePlaces.{Asked}
 use Rattle.mux_laws.proofs.ValueCells.{mux_gives}
@@ -137,16 +137,15 @@ module _ (m : Moment) (find : List ℕ → Option Asked) where
           → Below (any_matched m signal patterns) (seen m (option_map_or (λ s. (s, t)) o (match_new at signal patterns t)).0) × MadeStand (option_map_or (λ s. (s, t)) o (match_new at signal patterns t)).1.made
       by (Some s) e met' = (made at s (record { signal = signal; patterns = patterns }) e found, made)
       by None e met' =
-          let low = case_stands m signal patterns t.building met' in
-          (
+          let low = case_stands m signal patterns t.building met' in (
             low,
             (λ at' s asked e' f. ⊎_elim
-            (λ old. made at' s asked old f)
-            (λ new.
-            let same : Some (record { signal = signal; patterns = patterns }) ≡ Some asked = sym found ∙ ap find new.0 ∙ f in
-            let asked_is : record { signal = signal; patterns = patterns } ≡ asked = cc in
-            subst (λ z. Below (any_matched m z.signal z.patterns) (seen m s)) asked_is (subst (λ z. Below (any_matched m signal patterns) (seen m z)) new.1 low))
-            (made_more t.made _ at' s e')),
+                (λ old. made at' s asked old f)
+                (λ new.
+                let same : Some (record { signal = signal; patterns = patterns }) ≡ Some asked = sym found ∙ ap find new.0 ∙ f in
+                let asked_is : record { signal = signal; patterns = patterns } ≡ asked = cc in
+                subst (λ z. Below (any_matched m z.signal z.patterns) (seen m s)) asked_is (subst (λ z. Below (any_matched m signal patterns) (seen m z)) new.1 low))
+                (made_more t.made _ at' s e')),
           )
 
   -- a multiplexer of two signals that stand for a run

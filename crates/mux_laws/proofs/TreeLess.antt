@@ -1,16 +1,13 @@
 -- Where no rule has a line, processes say nothing of start values and memories, and new cells that work on words neither.
-use Rattle.std.proofs.Common.{◌≡◌, ℕ, Bool, true, false, if◌then◌else◌, List, [], ◌∷◌, ◌++◌, length, Some, inl, inr, refl, sym, ◌∙◌, ap, subst}
-use Rattle.std.specs.Prelude.{◌&&◌, ◌||◌, filter, flat_map, map, not, unwrap_or, ◌+◌}
-use Rattle.std.specs.Option.{option_map_or}
+use Rattle.std.proofs.Common.{◌≡◌, ℕ, Bool, true, false, if◌then◌else◌, List, [], ◌∷◌, ◌++◌, length, inl, inr, refl, sym, ◌∙◌, ap}
+use Rattle.std.specs.Prelude.{◌&&◌, filter, flat_map, map, not, unwrap_or, ◌+◌}
 use Rattle.std.proofs.lemmas.List.{append-nil}
-use Rattle.cell_types.specs.declared.kind.CellKind.TheVariants.{Word}
 use Rattle.rtl_bits.specs.Tables.{seen_of}
-use Rattle.rtl_bits.specs.declared.bit.Bit.{Bit}
 use Rattle.rtl_ir.specs.Assigns.{tree_bits}
 use Rattle.rtl_ir.specs.Decisions.{expanded, leaves_of}
 use Rattle.rtl_ir.specs.Flat.Access.{Access, accesses_of, cell_access, cell_accesses, in_access_order, line_accesses, next_number, rule_accesses}
 use Rattle.rtl_ir.specs.Flat.Cell.{cell_kind}
-use Rattle.rtl_ir.specs.Flat.Memory.{in_priority_order, init_cells, is_init_kind, is_read_kind, memories_rows, memory_rows, read_rows, reading_cells, word_rows}
+use Rattle.rtl_ir.specs.Flat.Memory.{in_priority_order, init_cells, is_init_kind, is_read_kind, memories_rows, read_rows, reading_cells, word_rows}
 use Rattle.rtl_ir.specs.Flat.Place.{Path}
 use Rattle.rtl_ir.specs.Flat.Start.{Begun, first_constant, init_bit, last_start, process_starts, start_of}
 use Rattle.rtl_ir.specs.Follow.{Join, all_joins}
@@ -28,7 +25,6 @@ use Rattle.rtl_ir.specs.declared.wire.Wire.{Wire}
 use Rattle.rtl_sig.specs.declared.sig.SigBit.{SigBit}
 use Rattle.rtl_sig.specs.declared.sig.SigBit.TheVariants.{Fixed, Wire as OnWire}
 use Rattle.net_model.proofs.Ranges.{each_flat_map}
-use Rattle.net_model.specs.Lists.{In}
 use Rattle.net_model.specs.Within.{Each}
 use Rattle.mux_laws.proofs.MatchBits.{or_false}
 use Rattle.mux_laws.proofs.TreeGrowing.{IsWord}

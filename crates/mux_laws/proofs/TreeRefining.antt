@@ -1,13 +1,10 @@
 -- A module with multiplexers in the place of its processes refines the module.
-use Rattle.std.proofs.Common.{◌≡◌, ℕ, List, [], ◌∷◌, ◌++◌, Some, inl, inr, ⊎_elim, refl, sym, ◌∙◌, ap, subst}
-use Rattle.std.specs.Prelude.{map, true}
+use Rattle.std.proofs.Common.{◌≡◌, List, [], ◌∷◌, ◌++◌, inl, inr, ⊎_elim, refl, sym, ◌∙◌, ap, subst}
+use Rattle.std.specs.Prelude.{true}
 use Rattle.std.proofs.lemmas.List.{append-nil}
-use Rattle.cell_types.specs.declared.kind.CellKind.TheVariants.{Word}
-use Rattle.rtl_bits.specs.Knowledge.{Below}
 use Rattle.rtl_bits.specs.declared.bit.Bit.{Bit}
-use Rattle.rtl_bits.specs.declared.bit.Bit.TheVariants.{X}
 use Rattle.rtl_ir.specs.Assigns.{tree_bits}
-use Rattle.rtl_ir.specs.Build.{Building, building_of}
+use Rattle.rtl_ir.specs.Build.{building_of}
 use Rattle.rtl_ir.specs.Decisions.{case_decision}
 use Rattle.rtl_ir.specs.Flat.Cell.{Ports, cell_kind, cell_rows, cells_rows, instance_of, instances, listed}
 use Rattle.rtl_ir.specs.Flat.Driver.{Decided, Driven}
@@ -22,7 +19,6 @@ use Rattle.rtl_ir.specs.Flat.Start.{start_of}
 use Rattle.rtl_ir.specs.Flat.Tree as flat
 use Rattle.rtl_ir.specs.Rules.{acting_rules}
 use Rattle.rtl_ir.specs.SwitchRules.{root_by_rules}
-use Rattle.rtl_ir.specs.Tree.{CaseView}
 use Rattle.rtl_ir.specs.Types as types
 use Rattle.rtl_ir.specs.declared.cell.Cell.{Cell}
 use Rattle.rtl_ir.specs.declared.module.Module.{Module}
@@ -38,7 +34,6 @@ use Rattle.net_model.proofs.Lifted.{lifted}
 use Rattle.net_model.proofs.Members.{In-cases, In-left, In-mapped, In-right}
 use Rattle.net_model.proofs.Swapping.{instances-append, rows-append}
 use Rattle.net_model.specs.Lists.{Distinct, In}
-use Rattle.net_model.specs.Picked.{picked}
 use Rattle.net_model.specs.Proc.Mux.{proc_mux_of, processes_step}
 use Rattle.net_model.specs.Refine.{IsMet, IsWellDriven, RefinesIn, RefinesOver, RowsRefine, Solved, places_of}
 use Rattle.net_model.specs.Run.{Time}
@@ -47,7 +42,6 @@ use Rattle.net_model.specs.Within.{AreInner, Each, IsWithin, with_wires}
 use Rattle.pass_laws.proofs.Passes.{refines_in_turn}
 use Rattle.pass_laws.proofs.Rewriting.{links-append}
 use Rattle.proc_laws.specs.Ready.{AreRuled, HaveNoLines, IsReady, with_processes}
-use Rattle.mux_laws.proofs.TreeFree.{decided}
 use Rattle.mux_laws.proofs.TreeGrowing.{Grows, IsWord}
 use Rattle.mux_laws.proofs.TreeLess.{memories_same, none_acting, starts_same}
 use Rattle.mux_laws.proofs.TreeSteps.{BodyMet, processes_grow, processes_met}
@@ -85,18 +79,22 @@ still_driven m fresh inner within ports h = record {
   instances = h.instances;
 }
 
+-- the row of a tree bit of a process
+abbrev bit_row : Path → List Wire → Process → WireBit → Driven
+bit_row p wires q b = record { place = bit_place p wires b; driver = Decided (pick_of no_test p wires (case_decision q.root b)) }
+
 -- a row of a process whose switches are read by the rules and whose rules have no lines is that of a tree bit
 record IsTreeRow (p : Path) (wires : List Wire) (q : Process) (d : Driven) : Type 0 where
   bit : WireBit
   there : In bit (tree_bits q.root)
-  is : d ≡ record { place = bit_place p wires bit; driver = Decided (pick_of no_test p wires (case_decision q.root bit)) }
+  is : d ≡ bit_row p wires q bit
 
 tree_row : (start : SigBit → Bit) (p : Path) (wires : List Wire) (m : Module) (q : Process) → root_by_rules q.root ≡ q.root → acting_rules q.syncs ≡ [] → (d : Driven) → In d (process_rows start p wires m q) → IsTreeRow p wires q d
 tree_row start p wires m q ruled none d i =
     let bits : List WireBit = tree_bits q.root in
     let plain : process_rows start p wires m q ≡ tree_bit_rows start p wires q.root bits =
     (λ j. tree_bit_rows start p wires (ruled j) bits ++ rules_rows start p wires m (ruled j) bits (none j)) ∙ append-nil (tree_bit_rows start p wires q.root bits) in
-    let k = In-mapped (λ (b : WireBit). record { place = bit_place p wires b; driver = Decided (pick_of no_test p wires (case_decision q.root b)) }) d bits (subst (In d) plain i) in
+    let k = In-mapped (bit_row p wires q) d bits (subst (In d) plain i) in
     record { bit = k.0; there = k.1; is = k.2 }
 
 module _ (m : Module) (ruled : AreRuled m) (empty : HaveNoLines m) where
@@ -162,7 +160,7 @@ module _ (m : Module) (ruled : AreRuled m) (empty : HaveNoLines m) where
     old_processes d i =
         let k = process_among (start_of (m.wires ++ grown.wires) m.processes) p (m.wires ++ grown.wires) wide m.processes d i in
         let row = tree_row (start_of (m.wires ++ grown.wires) m.processes) p (m.wires ++ grown.wires) wide k.0 (ruled k.0 k.1) (none_acting k.0.syncs (empty k.0 k.1)) d k.2 in
-        subst (λ z. IsMet z t w) (sym row.is) (processes_met moment (building_of m) m.processes built_met k.0 k.1 row.bit row.there)
+        subst (λ z. IsMet z t w) {x = bit_row p (m.wires ++ grown.wires) k.0 row.bit} (sym row.is) (processes_met moment (building_of m) m.processes built_met k.0 k.1 row.bit row.there)
 
     old_met : (d : Driven) → In d (rows_of ports p wide) → IsMet d t w
     old_met d i =

@@ -1,16 +1,16 @@
 -- Each tree bit of a process is connected to what stands for its decision.
-use Rattle.std.proofs.Common.{◌≡◌, ◌≤◌, ℕ, suc, zero, List, [], ◌∷◌, ◌++◌, length, Some, ⊎_elim, inl, inr, refl, sym, ◌∙◌, ap, subst, arith}
+use Rattle.std.proofs.Common.{◌≡◌, ◌≤◌, ℕ, suc, List, [], ◌∷◌, ◌++◌, length, Some, ⊎_elim, inl, inr, refl, sym, ◌∙◌, ap, subst}
 use Rattle.std.specs.Prelude.{map, slice_get, slice_index_or}
 use Rattle.rtl_bits.proofs.Orders.{Below_trans}
 use Rattle.rtl_bits.specs.Knowledge.{Below}
 use Rattle.rtl_bits.specs.declared.bit.Bit.{Bit}
 use Rattle.rtl_bits.specs.declared.bit.Bit.TheVariants.{S0, X}
 use Rattle.rtl_ir.specs.Assigns.{tree_bits}
-use Rattle.rtl_ir.specs.Build.{Building, new_link}
+use Rattle.rtl_ir.specs.Build.{Building}
 use Rattle.rtl_ir.specs.Decisions.{Leaf, after_assigns, case_decision}
 use Rattle.rtl_ir.specs.Flat.Driver.{Driven, Joined}
 use Rattle.rtl_ir.specs.Flat.Link.{joins, link_rows}
-use Rattle.rtl_ir.specs.Flat.Point.{bit_place, point, points}
+use Rattle.rtl_ir.specs.Flat.Point.{point, points}
 use Rattle.rtl_ir.specs.Tree.{CaseView}
 use Rattle.rtl_ir.specs.declared.module.Link.{Link}
 use Rattle.rtl_ir.specs.declared.module.Module.{Module}

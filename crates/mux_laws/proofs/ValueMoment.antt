@@ -1,5 +1,5 @@
 -- A module at a path, at a time and over a valuation, and what is met there.
-use Rattle.std.proofs.Common.{ℕ, zero, suc, ◌+◌, List, [], ◌∷◌, ◌++◌, length, Some, inl, inr, refl, subst, arith, ◌≡◌, sym, ap, ◌∙◌}
+use Rattle.std.proofs.Common.{ℕ, zero, suc, ◌+◌, List, [], ◌∷◌, ◌++◌, length, Some, inl, inr, refl, subst, arith, ◌≡◌, ap}
 use Rattle.std.specs.Prelude.{map, slice_get, slice_index_or}
 use Rattle.std.specs.List.{range_with_len}
 use Rattle.rtl_bits.specs.Knowledge.{Below}

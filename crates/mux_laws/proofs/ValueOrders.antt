@@ -1,8 +1,8 @@
 -- What is below the choices, matches and folds that cells make.
-use Rattle.std.proofs.Common.{◌≡◌, List, [], ◌∷◌, refl, sym, ap, subst}
+use Rattle.std.proofs.Common.{List, [], ◌∷◌, refl, sym, ap, subst}
 use Rattle.std.specs.List.{fold}
-use Rattle.rtl_bits.proofs.Orders.{Below_refl, Below_trans, merge_left, merge_right}
-use Rattle.rtl_bits.proofs.Tables.{and_of_mono, mux_of_mono, or_of_mono}
+use Rattle.rtl_bits.proofs.Orders.{Below_trans, merge_left}
+use Rattle.rtl_bits.proofs.Tables.{mux_of_mono}
 use Rattle.rtl_bits.specs.Knowledge.{Below}
 use Rattle.rtl_bits.specs.Tables.{and_of, merge_of, mux_of, or_of, seen_of}
 use Rattle.rtl_bits.specs.declared.bit.Bit.{Bit}
