@@ -3,6 +3,7 @@ pub mod ValueMoment
 pub mod ValueCells
 pub mod TreeGrowing
 pub mod MatchBits
+pub mod TreeRead
 pub mod TreePlaces
 pub mod MatchMade
 pub mod TreeFree

@@ -6,10 +6,8 @@ use Rattle.std.specs.Option.{option_map_or, option_or}
 use Rattle.std.proofs.lemmas.List.Folds.{list_any-append}
 use Rattle.rtl_bits.specs.Knowledge.{Below}
 use Rattle.rtl_bits.specs.declared.bit.Bit.{Bit}
-use Rattle.rtl_bits.specs.declared.bit.Bit.TheVariants.{X}
 use Rattle.rtl_ir.specs.Assigns.{assigned, cases_assigns, last_source, switches_assigns}
-use Rattle.rtl_ir.specs.Decisions.{Branches, Choice, Decision, Leaf, after_assigns, after_switches, branches_of}
-use Rattle.rtl_ir.specs.Flat.Pick.{no_test, pick_of, picks_of}
+use Rattle.rtl_ir.specs.Decisions.{Choice, Decision, Leaf, after_assigns, after_switches, branches_of}
 use Rattle.rtl_ir.specs.Follow.{Join, all_joins, joins}
 use Rattle.rtl_ir.specs.Signals.{same_bit}
 use Rattle.rtl_ir.specs.Tree.{Cases, NoCase, OneCase, NoSwitch, OneSwitch, Switches}
@@ -17,9 +15,9 @@ use Rattle.rtl_ir.specs.declared.module.Link.{Link}
 use Rattle.rtl_sig.specs.declared.sig.SigBit.{SigBit}
 use Rattle.rtl_sig.specs.declared.sig.WireBit.{WireBit}
 use Rattle.net_model.specs.Lists.{In}
-use Rattle.net_model.specs.Picked.{picked}
 use Rattle.net_model.specs.Proc.Mux.{assigns_run, names_bit}
 use Rattle.mux_laws.proofs.MatchBits.{any_matched, or_false}
+use Rattle.mux_laws.proofs.TreeRead.{read_branches, read_by}
 use Rattle.mux_laws.proofs.ValueMoment.{Moment}
 use Rattle.mux_laws.proofs.ValueOrders.{chosen_both}
 
@@ -54,31 +52,22 @@ run_free lines [] e b i = absurd i
 run_free lines (c ∷ run) e b (inl same) = ap (λ z. is_named z lines) same ∙ (or_false (is_named c lines) (assigns_run lines run) e).0
 run_free lines (c ∷ run) e b (inr i) = run_free lines run (or_false (is_named c lines) (assigns_run lines run) e).1 b i
 
-module _ (m : Moment) where
-  -- the value of a decision
-  abbrev pub decided : Decision → Bit
-  decided d = picked m.has X (pick_of no_test m.path m.wires d)
-
-  -- the value of the branches of a choice, with the last value of a decision
-  abbrev pub branched : List SigBit → Branches → Decision → Bit
-  branched signal branches last =
-      picked m.has X (picks_of no_test m.path m.wires None signal branches (pick_of no_test m.path m.wires last))
-
+module _ (m : Moment) (leaf : SigBit → Bit) where
   -- the body of a case, where this is so of its switches
-  free_body : (b : WireBit) (assigns : List Link) (switches : Switches) (earlier : Decision) (r : Bit) → ((d : Decision) → is_named b (switches_assigns switches) ≡ false → Below (decided d) r → Below (decided (after_switches b switches d)) r) → is_named b (assigns ++ switches_assigns switches) ≡ false → Below (decided earlier) r
-      → Below (decided (after_switches b switches (after_assigns assigns b earlier))) r
+  free_body : (b : WireBit) (assigns : List Link) (switches : Switches) (earlier : Decision) (r : Bit) → ((d : Decision) → is_named b (switches_assigns switches) ≡ false → Below (read_by m leaf d) r → Below (read_by m leaf (after_switches b switches d)) r) → is_named b (assigns ++ switches_assigns switches) ≡ false → Below (read_by m leaf earlier) r
+      → Below (read_by m leaf (after_switches b switches (after_assigns assigns b earlier))) r
   free_body b assigns switches earlier r below e h =
       let both = neither (names_bit b) assigns (switches_assigns switches) e in
-      below (after_assigns assigns b earlier) both.1 (subst (λ o. Below (decided (option_map_or (λ s. Leaf s) o earlier)) r) (sym (free_assigned assigns b both.0)) h)
+      below (after_assigns assigns b earlier) both.1 (subst (λ o. Below (read_by m leaf (option_map_or (λ s. Leaf s) o earlier)) r) (sym (free_assigned assigns b both.0)) h)
 
   mutual
-    pub free_switches : (b : WireBit) (switches : Switches) (earlier : Decision) (r : Bit) → is_named b (switches_assigns switches) ≡ false → Below (decided earlier) r → Below (decided (after_switches b switches earlier)) r
+    pub free_switches : (b : WireBit) (switches : Switches) (earlier : Decision) (r : Bit) → is_named b (switches_assigns switches) ≡ false → Below (read_by m leaf earlier) r → Below (read_by m leaf (after_switches b switches earlier)) r
     free_switches b NoSwitch earlier r e h = h
     free_switches b (OneSwitch signal attributes cases rest) earlier r e h =
         let both = neither (names_bit b) (cases_assigns cases) (switches_assigns rest) e in
         free_switches b rest (Choice signal (branches_of b cases earlier) earlier) r both.1 (free_cases b signal cases earlier r both.0 h)
 
-    pub free_cases : (b : WireBit) (signal : List SigBit) (cases : Cases) (earlier : Decision) (r : Bit) → is_named b (cases_assigns cases) ≡ false → Below (decided earlier) r → Below (branched signal (branches_of b cases earlier) earlier) r
+    pub free_cases : (b : WireBit) (signal : List SigBit) (cases : Cases) (earlier : Decision) (r : Bit) → is_named b (cases_assigns cases) ≡ false → Below (read_by m leaf earlier) r → Below (read_branches m leaf signal (branches_of b cases earlier) (read_by m leaf earlier)) r
     free_cases b signal NoCase earlier r e h = h
     free_cases b signal (OneCase [] assigns attributes switches rest) earlier r e h =
         let both = neither (names_bit b) (assigns ++ switches_assigns switches) (cases_assigns rest) e in

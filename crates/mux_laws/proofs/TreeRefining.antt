@@ -44,7 +44,7 @@ use Rattle.pass_laws.proofs.Rewriting.{links-append}
 use Rattle.proc_laws.specs.Ready.{AreRuled, HaveNoLines, IsReady, with_processes}
 use Rattle.mux_laws.proofs.TreeGrowing.{Grows, IsWord}
 use Rattle.mux_laws.proofs.TreeLess.{memories_same, none_acting, starts_same}
-use Rattle.mux_laws.proofs.TreeSteps.{BodyMet, processes_grow, processes_met}
+use Rattle.mux_laws.proofs.TreeSteps.{BodyMet, picks_met, processes_grow}
 use Rattle.mux_laws.proofs.ValueMoment.{Moment}
 
 -- cells that work on words are no instances
@@ -160,7 +160,7 @@ module _ (m : Module) (ruled : AreRuled m) (empty : HaveNoLines m) where
     old_processes d i =
         let k = process_among (start_of (m.wires ++ grown.wires) m.processes) p (m.wires ++ grown.wires) wide m.processes d i in
         let row = tree_row (start_of (m.wires ++ grown.wires) m.processes) p (m.wires ++ grown.wires) wide k.0 (ruled k.0 k.1) (none_acting k.0.syncs (empty k.0 k.1)) d k.2 in
-        subst (λ z. IsMet z t w) {x = bit_row p (m.wires ++ grown.wires) k.0 row.bit} (sym row.is) (processes_met moment (building_of m) m.processes built_met k.0 k.1 row.bit row.there)
+        subst (λ z. IsMet z t w) {x = bit_row p (m.wires ++ grown.wires) k.0 row.bit} (sym row.is) (picks_met moment (building_of m) m.processes built_met k.0 k.1 row.bit row.there)
 
     old_met : (d : Driven) → In d (rows_of ports p wide) → IsMet d t w
     old_met d i =

@@ -10,6 +10,7 @@ use Rattle.rtl_ir.specs.Build.{Building}
 use Rattle.rtl_ir.specs.Decisions.{Leaf, after_assigns, case_decision}
 use Rattle.rtl_ir.specs.Flat.Driver.{Driven, Joined}
 use Rattle.rtl_ir.specs.Flat.Link.{joins, link_rows}
+use Rattle.rtl_ir.specs.Flat.Pick.{no_test, pick_of}
 use Rattle.rtl_ir.specs.Flat.Point.{point, points}
 use Rattle.rtl_ir.specs.Tree.{CaseView}
 use Rattle.rtl_ir.specs.declared.module.Link.{Link}
@@ -20,16 +21,18 @@ use Rattle.rtl_sig.specs.declared.sig.SigBit.TheVariants.{Fixed, Wire as OnWire}
 use Rattle.rtl_sig.specs.declared.sig.WireBit.{WireBit}
 use Rattle.net_model.proofs.Members.{In-left, In-right}
 use Rattle.net_model.specs.Lists.{In}
+use Rattle.net_model.specs.Picked.{picked}
 use Rattle.net_model.specs.Proc.Mux.{Trees, process_step, processes_step, run_step, run_value, runs_step, switches_value, tree_runs}
 use Rattle.net_model.specs.Refine.{IsMet}
+use Rattle.net_model.specs.Valuation.{read}
 use Rattle.net_model.specs.Within.{Each}
 use Rattle.pass_laws.proofs.Driving.{joined_in, row_of}
 use Rattle.pass_laws.proofs.Giving.{passed_on}
 use Rattle.pass_laws.proofs.Rewriting.{links-append}
 use Rattle.mux_laws.proofs.MatchMade.{MadeStand, none_made}
-use Rattle.mux_laws.proofs.TreeFree.{decided}
 use Rattle.mux_laws.proofs.TreeGrowing.{Grows, grows_both, grows_link, grows_none, met_before}
 use Rattle.mux_laws.proofs.TreePlaces.{switches_find, tree_at}
+use Rattle.mux_laws.proofs.TreeRead.{decided, picked_is}
 use Rattle.mux_laws.proofs.TreeRuns.{tree_run, tree_runs_short}
 use Rattle.mux_laws.proofs.TreeValue.{assigns_stand, switches_grow, switches_stand}
 use Rattle.mux_laws.proofs.ValueMoment.{AreMet, Moment, Stands, seen, stands_long}
@@ -136,7 +139,7 @@ module _ (m : Moment) where
         i
 
   -- each tree bit of one of the processes
-  pub processes_met : (b : Building) (ps : List Process) → BodyMet (processes_step b ps) → (p : Process) → In p ps → (x : WireBit) → In x (tree_bits p.root) → Below (decided m (case_decision p.root x)) (seen m (OnWire x))
+  processes_met : (b : Building) (ps : List Process) → BodyMet (processes_step b ps) → (p : Process) → In p ps → (x : WireBit) → In x (tree_bits p.root) → Below (decided m (case_decision p.root x)) (seen m (OnWire x))
   processes_met b [] met p i x j = absurd i
   processes_met b (q ∷ ps) met p (inl e) x j =
       let here : BodyMet (process_step b q) = body_before (process_step b q) _ (processes_grow (process_step b q) ps) met in
@@ -144,3 +147,8 @@ module _ (m : Moment) where
       let r = tree_run q.root x k in
       subst (λ (z : Process). Below (decided m (case_decision z.root x)) (seen m (OnWire x))) (sym e) (runs_met q.root (tree_runs q.root) (tree_runs_short q.root) (record { building = b; made = [] }) here (none_made m (switches_find q.root.switches)) r.run r.there x r.bit)
   processes_met b (q ∷ ps) met p (inr i) x j = processes_met (process_step b q) ps met p i x j
+
+  -- and so what the flat netlist picks for it
+  pub picks_met : (b : Building) (ps : List Process) → BodyMet (processes_step b ps) → (p : Process) → In p ps → (x : WireBit) → In x (tree_bits p.root) → Below (picked m.has X (pick_of no_test m.path m.wires (case_decision p.root x))) (seen m (OnWire x))
+  picks_met b ps met p i x j =
+      subst (λ z. Below z (seen m (OnWire x))) (sym (picked_is m (read m.has) X (case_decision p.root x))) (processes_met b ps met p i x j)

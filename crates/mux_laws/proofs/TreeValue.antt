@@ -11,9 +11,10 @@ use Rattle.rtl_sig.specs.declared.sig.SigBit.{SigBit}
 use Rattle.rtl_sig.specs.declared.sig.WireBit.{WireBit}
 use Rattle.net_model.specs.Proc.Mux.{Trees, assigns_run, cases_value, run_value, switches_value, with_case}
 use Rattle.mux_laws.proofs.MatchMade.{MadeStand, with_case_grows, with_case_stands}
-use Rattle.mux_laws.proofs.TreeFree.{branched, decided, free_cases, run_free}
+use Rattle.mux_laws.proofs.TreeFree.{free_cases, run_free}
 use Rattle.mux_laws.proofs.TreeGrowing.{Grows, grows_both, grows_none, met_before}
 use Rattle.mux_laws.proofs.TreePlaces.{Asked, CasesAt, SwitchesAt}
+use Rattle.mux_laws.proofs.TreeRead.{branched, decided}
 use Rattle.mux_laws.proofs.ValueMoment.{AreMet, Moment, Stands, seen, stands_map}
 
 -- what is added for the cases of a switch that assigns to the run
@@ -78,7 +79,7 @@ module _ (m : Moment) (find : List ℕ → Option Asked) (run : List WireBit) (f
       → Stands m run (switch_value assigns run above signal cases prior t).0 (λ b. branched m signal (branches_of b cases (d b)) (d b)) × MadeStand m find (switch_value assigns run above signal cases prior t).1.made
   switch_stands above signal cases prior t d true e stand met made h = stand met made h
   switch_stands above signal cases prior t d false e stand met made h =
-      (stands_map m run prior (λ b. decided m (d b)) (λ b. branched m signal (branches_of b cases (d b)) (d b)) (λ b i r. free_cases m b signal cases (d b) r (run_free (cases_assigns cases) run e b i)) h, made)
+      (stands_map m run prior (λ b. decided m (d b)) (λ b. branched m signal (branches_of b cases (d b)) (d b)) (λ b i r. free_cases m (seen m) b signal cases (d b) r (run_free (cases_assigns cases) run e b i)) h, made)
 
   mutual
     pub switches_stand : (above : List ℕ) (number : ℕ) (switches : Switches) (prior : List SigBit) (t : Trees) (d : WireBit → Decision) → SwitchesAt find above number switches
