@@ -1,0 +1,131 @@
+-- Where no rule has a line, processes say nothing of start values and memories, and new cells that work on words neither.
+use Rattle.std.proofs.Common.{◌≡◌, ℕ, Bool, true, false, if◌then◌else◌, List, [], ◌∷◌, ◌++◌, length, inl, inr, refl, sym, ◌∙◌, ap}
+use Rattle.std.specs.Prelude.{◌&&◌, filter, flat_map, map, not, unwrap_or, ◌+◌}
+use Rattle.std.proofs.lemmas.List.{append-nil}
+use Rattle.rtl_bits.specs.Tables.{seen_of}
+use Rattle.rtl_ir.specs.Assigns.{tree_bits}
+use Rattle.rtl_ir.specs.Decisions.{expanded, leaves_of}
+use Rattle.rtl_ir.specs.Flat.Access.{Access, accesses_of, cell_access, cell_accesses, in_access_order, line_accesses, next_number, rule_accesses}
+use Rattle.rtl_ir.specs.Flat.Cell.{cell_kind}
+use Rattle.rtl_ir.specs.Flat.Memory.{in_priority_order, init_cells, is_init_kind, is_read_kind, memories_rows, read_rows, reading_cells, word_rows}
+use Rattle.rtl_ir.specs.Flat.Place.{Path}
+use Rattle.rtl_ir.specs.Flat.Start.{Begun, first_constant, init_bit, last_start, process_starts, start_of}
+use Rattle.rtl_ir.specs.Follow.{Join, all_joins}
+use Rattle.rtl_ir.specs.Rules.{acting_rules, has_item, has_line, init_lines, is_init}
+use Rattle.rtl_ir.specs.SwitchRules.{root_by_rules}
+use Rattle.rtl_ir.specs.WritePorts.{is_of_memory, is_write_cell, is_write_kind}
+use Rattle.rtl_ir.specs.declared.cell.Cell.{Cell}
+use Rattle.rtl_ir.specs.declared.module.Link.{Link}
+use Rattle.rtl_ir.specs.declared.process.Event.{Event}
+use Rattle.rtl_ir.specs.declared.process.Process.{Process}
+use Rattle.rtl_ir.specs.declared.process.SyncRule.{SyncRule}
+use Rattle.rtl_ir.specs.declared.process.WriteLine.{WriteLine}
+use Rattle.rtl_ir.specs.declared.store.Store.{Store}
+use Rattle.rtl_ir.specs.declared.wire.Wire.{Wire}
+use Rattle.rtl_sig.specs.declared.sig.SigBit.{SigBit}
+use Rattle.rtl_sig.specs.declared.sig.SigBit.TheVariants.{Fixed, Wire as OnWire}
+use Rattle.net_model.proofs.Ranges.{each_flat_map}
+use Rattle.net_model.specs.Within.{Each}
+use Rattle.mux_laws.proofs.MatchBits.{or_false}
+use Rattle.mux_laws.proofs.TreeGrowing.{IsWord}
+
+-- no rule of these has a line
+abbrev pub AreEmpty : List SyncRule → Type 0
+AreEmpty rules = Each (λ (rule : SyncRule). has_line rule ≡ false) rules
+
+no_item : {A : Type 0} (xs : List A) → has_item xs ≡ false → xs ≡ []
+no_item [] e = refl
+no_item (x ∷ xs) e = absurd (cc)
+
+no_updates : (rule : SyncRule) → has_line rule ≡ false → rule.updates ≡ []
+no_updates rule e = no_item rule.updates (or_false (has_item rule.updates) (has_item rule.writes) e).0
+
+no_writes : (rule : SyncRule) → has_line rule ≡ false → rule.writes ≡ []
+no_writes rule e = no_item rule.writes (or_false (has_item rule.updates) (has_item rule.writes) e).1
+
+-- such rules do not act
+pub none_acting : (rules : List SyncRule) → AreEmpty rules → acting_rules rules ≡ []
+none_acting [] h = refl
+none_acting (rule ∷ rules) h =
+    (λ i. if (h rule (inl refl) i && not (is_init rule.event)) then rule ∷ none_acting rules (λ x j. h x (inr j)) i else none_acting rules (λ x j. h x (inr j)) i)
+
+no_starts : (rules : List SyncRule) → AreEmpty rules → init_lines rules ≡ []
+no_starts [] h = refl
+no_starts (rule ∷ rules) h = by (is_init rule.event) (no_starts rules (λ x j. h x (inr j)))
+  where
+    by : (t : Bool) → init_lines rules ≡ [] → flat_map (λ (r : SyncRule). r.updates) (if t then rule ∷ filter (λ (r : SyncRule). is_init r.event) rules else filter (λ (r : SyncRule). is_init r.event) rules) ≡ []
+    by true e = (λ i. no_updates rule (h rule (inl refl)) i ++ e i)
+    by false e = e
+
+abbrev pub AllEmpty : List Process → Type 0
+AllEmpty ps = Each (λ (p : Process). AreEmpty p.syncs) ps
+
+-- the start values that lines give
+abbrev starts_by : Process → List Link → List Begun
+starts_by p lines =
+    map
+    (λ (j : Join). record {
+      bit = j.bit;
+      value = first_constant (leaves_of (expanded (root_by_rules p.root) (tree_bits p.root) j.source));
+    })
+    (all_joins lines)
+
+none_begun : (ps : List Process) → AllEmpty ps → flat_map process_starts ps ≡ []
+none_begun [] h = refl
+none_begun (p ∷ ps) h =
+    let none : process_starts p ≡ [] = ap (λ lines. starts_by p lines) (no_starts p.syncs (h p (inl refl))) in
+    (λ i. none i ++ none_begun ps (λ x j. h x (inr j)) i)
+
+same_start : (wires : List Wire) (ps : List Process) → AllEmpty ps → (s : SigBit) → start_of wires ps s ≡ start_of wires [] s
+same_start wires ps h (Fixed b) = refl
+same_start wires ps h (OnWire b) = ap (λ z. seen_of (unwrap_or (last_start z b) (init_bit wires b))) (none_begun ps h)
+
+pub starts_same : (wires : List Wire) (ps : List Process) → AllEmpty ps → start_of wires ps ≡ start_of wires []
+starts_same wires ps h = λ i s. same_start wires ps h s i
+
+-- no line writes
+no_lines : (name : List ℕ) (event : Event) (number : ℕ) (writes : List WriteLine) → writes ≡ [] → line_accesses name event number [] writes ≡ []
+no_lines name event number writes e = ap (line_accesses name event number []) e
+
+no_access : (name : List ℕ) (number : ℕ) (rules : List SyncRule) → AreEmpty rules → rule_accesses name number rules ≡ []
+no_access name number [] h = refl
+no_access name number (rule ∷ rules) h =
+    let here : line_accesses name rule.event number [] rule.writes ≡ [] = no_lines name rule.event number rule.writes (no_writes rule (h rule (inl refl))) in
+    ap (λ (z : List Access). z ++ rule_accesses name (number + length z) rules) here ∙ no_access name (number + 0) rules (λ x j. h x (inr j))
+
+-- a filter that takes none of the further items
+filter_more : {A : Type 0} (test : A → Bool) (xs ys : List A) → Each (λ y. test y ≡ false) ys → filter test (xs ++ ys) ≡ filter test xs
+filter_more test [] [] h = refl
+filter_more test [] (y ∷ ys) h =
+    ap (λ t. if t then y ∷ filter test ys else filter test ys) (h y (inl refl)) ∙ filter_more test [] ys (λ x j. h x (inr j))
+filter_more test (x ∷ xs) ys h =
+    ap (λ z. if test x then x ∷ z else z) (filter_more test xs ys h)
+
+module _ (cells new : List Cell) (words : Each IsWord new) (name : List ℕ) where
+  no_write_cell : (c : Cell) → IsWord c → is_write_cell c.kind_name ≡ false
+  unfolding is_write_cell cell_kind
+  no_write_cell c h = ap is_write_kind h.1
+
+  same_accesses : cell_accesses name (cells ++ new) ≡ cell_accesses name cells
+  same_accesses =
+      ap (λ cs. in_access_order (map cell_access cs)) (filter_more (λ (c : Cell). is_write_cell c.kind_name && is_of_memory name c) cells new (λ c i. ap (λ t. t && is_of_memory name c) (no_write_cell c (words c i))))
+
+  same_inits : init_cells name (cells ++ new) ≡ init_cells name cells
+  same_inits =
+      ap (in_priority_order []) (filter_more (λ (c : Cell). is_init_kind (cell_kind c) && is_of_memory name c) cells new (λ c i. ap (λ k. is_init_kind k && is_of_memory name c) (words c i).1))
+
+  same_readers : reading_cells name (cells ++ new) ≡ reading_cells name cells
+  same_readers =
+      filter_more (λ (c : Cell). is_read_kind (cell_kind c) && is_of_memory name c) cells new (λ c i. ap (λ k. is_read_kind k && is_of_memory name c) (words c i).1)
+
+  all_accesses : (ps : List Process) → AllEmpty ps → accesses_of name (cells ++ new) [] ≡ accesses_of name cells ps
+  all_accesses ps h =
+      let here : List Access = cell_accesses name cells in
+      let none : rule_accesses name (next_number here) (flat_map (λ (p : Process). p.syncs) ps) ≡ [] = no_access name (next_number here) (flat_map (λ (p : Process). p.syncs) ps) (each_flat_map (λ (rule : SyncRule). has_line rule ≡ false) (λ (p : Process). p.syncs) ps h) in
+      append-nil (cell_accesses name (cells ++ new)) ∙ same_accesses ∙ sym (append-nil here) ∙ sym (ap (λ z. here ++ z) none)
+
+-- the rows of memories stay
+pub memories_same : (p : Path) (wires : List Wire) (cells new : List Cell) (ps : List Process) (stores : List Store) → Each IsWord new → AllEmpty ps → memories_rows p wires (cells ++ new) [] stores ≡ memories_rows p wires cells ps stores
+memories_same p wires cells new ps [] words h = refl
+memories_same p wires cells new ps (s ∷ stores) words h =
+    (λ i. (word_rows p wires s (all_accesses cells new words s.name ps h i) (same_inits cells new words s.name i) ++ flat_map (read_rows p wires s) (same_readers cells new words s.name i)) ++ memories_same p wires cells new ps stores words h i)

@@ -1,0 +1,4 @@
+//! Laws of the last step of `proc`: trees of decisions become multiplexers.
+#![tactic(auto)]
+
+pub mod refining;
