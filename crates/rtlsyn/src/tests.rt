@@ -3,6 +3,7 @@
 mod cell_text;
 mod faults;
 mod limits;
+mod processes;
 mod whole_text;
 
 ghost use Rattle.std.specs.Prelude.{◌≡◌};
