@@ -3,7 +3,6 @@ use Rattle.std.specs.Prelude.{◌≡◌, Bool}
 use Rattle.rtl_ir.specs.Flat.Cell as flat
 use Rattle.rtl_ir.specs.Flat.Tree as tree
 use Rattle.rtl_ir.specs.Ports.{ports_of}
-use Rattle.rtl_ir.specs.Scope.{Scope}
 use Rattle.rtl_ir.specs.Types as types
 use Rattle.rtl_ir.specs.declared.module.Module.{Module}
 use Rattle.rtl_ir.specs.declared.ports.PortTable.{PortTable}

@@ -1,0 +1,239 @@
+-- A module without faults has none after a step that builds.
+use Rattle.std.proofs.Common.{◌≡◌, ◌≤◌, ◌<◌, ℕ, ◌+◌, Bool, true, false, List, [], ◌∷◌, ◌++◌, length, inl, inr, refl, sym, ◌∙◌, ap, append_assoc, arith, length-append}
+use Rattle.std.specs.Prelude.{ℤ, flat_map, int_lt, pos, not, ◌&&◌, ◌||◌}
+use Rattle.std.specs.List.{list_any}
+use Rattle.std.specs.Ordering.{int_eq}
+use Rattle.cell_types.specs.declared.kind.CellKind.TheVariants as Cells
+use Rattle.cell_types.specs.declared.memory.MemoryKind.{MemoryKind}
+use Rattle.rtl_sig.specs.declared.sig.WireBit.{WireBit}
+use Rattle.rtl_ir.specs.Assigns.{tree_bits}
+use Rattle.rtl_ir.specs.Drivers.{Drive, FromRules, FromTree, Source, all_by, cell_drives, drive_count, drives_of, link_drives, port_drives, rule_drives, tree_drives}
+use Rattle.rtl_ir.specs.Fault.{BadMemory, BadPort, Fault, UnsupportedCell, fault_if, spot}
+use Rattle.rtl_ir.specs.Faults.Bits.{bits_faults}
+use Rattle.rtl_ir.specs.Faults.Cells.{cell_faults, faults_by_type, memory_faults, misfit, output_faults, shape_fault}
+use Rattle.rtl_ir.specs.Faults.Links.{link_faults}
+use Rattle.rtl_ir.specs.Faults.MemoryCells.{is_bad_memory_cell}
+use Rattle.rtl_ir.specs.Faults.Processes.{process_faults, faults_of_process}
+use Rattle.rtl_ir.specs.Faults.Stores.{store_faults}
+use Rattle.rtl_ir.specs.Faults.Wires.{is_bad_port, is_inout, wire_faults, with_number}
+use Rattle.rtl_ir.specs.Ports.{is_port}
+use Rattle.rtl_ir.specs.Rules.{updated_bits}
+use Rattle.rtl_ir.specs.Scope.{Scope, cells_alone}
+use Rattle.rtl_ir.specs.Types.{CellType, Instance, Library, Ports, Unknown, Unsupported, cell_type}
+use Rattle.rtl_ir.specs.declared.cell.Cell.{Cell}
+use Rattle.rtl_ir.specs.declared.module.Link.{Link}
+use Rattle.rtl_ir.specs.declared.module.Module.{Module}
+use Rattle.rtl_ir.specs.declared.process.Process.{Process}
+use Rattle.rtl_ir.specs.declared.store.Store.{Store}
+use Rattle.rtl_ir.specs.declared.wire.Role.{Role}
+use Rattle.rtl_ir.specs.declared.wire.Wire.{Wire}
+use Rattle.net_model.proofs.Ranges.{each_both}
+use Rattle.net_model.specs.Within.{AreInner, CellIn, Each, LinkIn}
+use Rattle.map_laws.specs.Expansion.{bits_from}
+use Rattle.pass_laws.proofs.Alone.{is_false, links_even, no_link_faults}
+use Rattle.pass_laws.proofs.Counting.{bits_of, bits_more, cell_drives_bits, cells_more, count, count_more, counted, link_drives_bits, links_more}
+use Rattle.pass_laws.proofs.Faultless.{HasNoFaults, no_faults, none_left, none_right}
+use Rattle.pass_laws.proofs.Forming.{all_none}
+use Rattle.pass_laws.proofs.Widening.{cell_wider, link_wider}
+use Rattle.pass_laws.specs.Bits.{cells_bits, links_bits}
+use Rattle.pass_laws.specs.Replaces.{IsEven, IsFaultless}
+use Rattle.proc_laws.specs.Ready.{IsReady, with_processes, without_processes}
+use Rattle.proc_laws.specs.Rebuilds.{KeepsEnds, Rebuilds, checked_bits, rebuilt}
+use Rattle.proc_laws.proofs.CountingBits.{cells_below, count_beyond, fewer, fresh_below, fresh_once, links_below, no_two, ports_below, ports_further}
+use Rattle.proc_laws.proofs.RebuildBits.{checked_below}
+use Rattle.proc_laws.proofs.RebuildMemories.{memory_good}
+
+-- wires that are no ports have no faults
+inner_faults : (id : List ℕ) (numbers : List ℤ) (fs : List Wire) → AreInner fs → wire_faults id numbers fs ≡ []
+inner_faults id numbers [] h = refl
+inner_faults id numbers (f ∷ fs) h =
+    let good : is_bad_port numbers f ≡ false = ap (λ (r : Role). is_inout r || (is_port r && (int_lt f.number (pos 1) || list_any (int_eq f.number) numbers))) (h f (inl refl)) in
+    ap (λ t. fault_if t (BadPort (spot id f.name)) ++ wire_faults id (with_number numbers f) fs) good
+    ∙ inner_faults id (with_number numbers f) fs (λ w i. h w (inr i))
+
+further_faults : (id : List ℕ) (numbers : List ℤ) (ws fs : List Wire) → AreInner fs → wire_faults id numbers ws ≡ [] → wire_faults id numbers (ws ++ fs) ≡ []
+further_faults id numbers [] fs h e = inner_faults id numbers fs h
+further_faults id numbers (w ∷ ws) fs h e =
+    let here : List Fault = fault_if (is_bad_port numbers w) (BadPort (spot id w.name)) in
+    let a : here ≡ [] = none_left here (wire_faults id (with_number numbers w) ws) e in
+    let b : wire_faults id (with_number numbers w) (ws ++ fs) ≡ [] = further_faults id (with_number numbers w) ws fs h (none_right here (wire_faults id (with_number numbers w) ws) e) in
+    λ i. a i ++ b i
+
+-- the bits that processes drive, as the check counts them
+trees_bits : (b : WireBit) (first : ℕ) (qs : List Process) → count b (bits_of (tree_drives first qs)) + count b (bits_of (rule_drives first qs)) ≡ count b (flat_map checked_bits qs)
+trees_bits b first [] = omega arith
+trees_bits b first (q ∷ qs) =
+    let trees = ap (count b) (bits_more (all_by (FromTree first) (tree_bits q.root)) (tree_drives (first + 1) qs)) ∙ count_more b (bits_of (all_by (FromTree first) (tree_bits q.root))) (bits_of (tree_drives (first + 1) qs)) in
+    let rules = ap (count b) (bits_more (all_by (FromRules first) (updated_bits q.syncs)) (rule_drives (first + 1) qs)) ∙ count_more b (bits_of (all_by (FromRules first) (updated_bits q.syncs))) (bits_of (rule_drives (first + 1) qs)) in
+    let all = count_more b (checked_bits q) (flat_map checked_bits qs) ∙ ap (λ z. z + count b (flat_map checked_bits qs)) (count_more b (tree_bits q.root) (updated_bits q.syncs)) in
+    omega (arith, trees, rules, all, same (FromTree first) (tree_bits q.root), same (FromRules first) (updated_bits q.syncs), trees_bits b (first + 1) qs)
+  where
+    same : (source : Source) (xs : List WireBit) → count b (bits_of (all_by source xs)) ≡ count b xs
+    same source [] = refl
+    same source (x ∷ xs) = omega (arith, same source xs)
+
+-- how often a bit of a module is driven
+pub drives_count : (ports : Ports) (m : Module) → Each IsEven m.links → (b : WireBit) → drive_count (drives_of ports m) b ≡ count b (bits_of (port_drives 0 m.wires)) + (count b (cells_bits ports m.cells) + (count b (links_bits m.links) + count b (flat_map checked_bits m.processes)))
+drives_count ports m even b =
+    let p : List Drive = port_drives 0 m.wires in
+    let c : List Drive = cell_drives ports 0 m.cells in
+    let l : List Drive = link_drives m.links in
+    let t : List Drive = tree_drives 0 m.processes in
+    let r : List Drive = rule_drives 0 m.processes in
+    let f = two (((p ++ c) ++ l) ++ t) r in
+    let g = two ((p ++ c) ++ l) t in
+    let h = two (p ++ c) l in
+    let i = two p c in
+    let cells = ap (count b) (cell_drives_bits ports 0 m.cells) in
+    let links = ap (count b) (link_drives_bits m.links even) in
+    omega (arith, counted b (drives_of ports m), f, g, h, i, cells, links, trees_bits b 0 m.processes)
+  where
+    two : (xs ys : List Drive) → count b (bits_of (xs ++ ys)) ≡ count b (bits_of xs) + count b (bits_of ys)
+    two xs ys = ap (count b) (bits_more xs ys) ∙ count_more b (bits_of xs) (bits_of ys)
+
+-- which processes are taken does not matter to those that are
+taken_alike : (x y : Bool) (ports : Ports) (m : Module) (earlier qs : List Process) → process_faults (with_processes x) ports m earlier qs ≡ process_faults (with_processes y) ports m earlier qs
+taken_alike x y ports m earlier [] = refl
+taken_alike x y ports m earlier (q ∷ qs) = ap (λ z. faults_of_process (with_processes x) ports m earlier q ++ z) (taken_alike x y ports m (earlier ++ q ∷ []) qs)
+
+module _ (ports : Ports) (m : Module) (fresh : List Wire) (new : List Cell) (more : List Link) (changed : List Process) (memories : Bool) (ready : IsReady (with_processes memories) ports m) (r : Rebuilds ports m fresh new more changed) (keeps : memories ≡ true → KeepsEnds m.links more) where
+  abbrev after : Module
+  after = rebuilt fresh new more changed m
+
+  none : HasNoFaults (with_processes memories) ports m
+  none = no_faults (with_processes memories) ports m ready.faultless
+
+  even : Each IsEven m.links
+  even = links_even m.id 1 m.links none.links
+
+  even_after : Each IsEven (m.links ++ more)
+  even_after = each_both IsEven m.links more even r.links
+
+  longer : length m.wires ≤ length (m.wires ++ fresh)
+  longer = omega (arith, length-append m.wires fresh)
+
+  -- cells, where the same memories are taken
+  module _ (scope : Scope) (same : memories ≡ scope.memories) where
+    memory_none : (earlier : List Cell) (c : Cell) (kind : MemoryKind) → (t : Bool) → memories ≡ t → faults_by_type (with_processes memories) m earlier c (Library (Cells.Memory kind)) ≡ [] → memory_faults m earlier c (Cells.Memory kind) ≡ [] → memory_faults after earlier c (Cells.Memory kind) ≡ []
+    memory_none earlier c kind true e all own =
+        let good : is_bad_memory_cell m earlier c kind ≡ false = is_false (is_bad_memory_cell m earlier c kind) (BadMemory (spot m.id c.name)) own in
+        ap (λ t. fault_if t (BadMemory (spot m.id c.name))) (memory_good m.links more (keeps e) m after refl refl refl earlier c kind good)
+    memory_none earlier c kind false e all own =
+        let unknown : fault_if (not memories) (UnsupportedCell (spot m.id c.name)) ≡ UnsupportedCell (spot m.id c.name) ∷ [] = ap (λ t. fault_if (not t) (UnsupportedCell (spot m.id c.name))) e in
+        let shape : List Fault = shape_fault (spot m.id c.name) (misfit (Cells.Memory kind) c) in
+        let output : List Fault = output_faults (spot m.id c.name) (Library (Cells.Memory kind)) c.pins in
+        let some : fault_if (not memories) (UnsupportedCell (spot m.id c.name)) ≡ [] = none_left _ shape (none_left _ output (none_left _ (memory_faults m earlier c (Cells.Memory kind)) all)) in
+        absurd (cc)
+
+    by_type : (earlier : List Cell) (c : Cell) (t : CellType) → faults_by_type (with_processes memories) m earlier c t ≡ [] → faults_by_type scope after earlier c t ≡ []
+    by_type earlier c (Library (Cells.Word kind)) e = e
+    by_type earlier c (Library (Cells.Gate kind)) e = e
+    by_type earlier c (Library (Cells.Storage kind)) e = e
+    by_type earlier c (Library (Cells.StorageGate kind)) e = e
+    by_type earlier c (Library (Cells.Memory kind)) e =
+        let shape : List Fault = shape_fault (spot m.id c.name) (misfit (Cells.Memory kind) c) in
+        let output : List Fault = output_faults (spot m.id c.name) (Library (Cells.Memory kind)) c.pins in
+        let known : Bool → List Fault = λ t. (fault_if (not t) (UnsupportedCell (spot m.id c.name)) ++ shape) ++ output in
+        let first : known memories ≡ [] = none_left (known memories) (memory_faults m earlier c (Cells.Memory kind)) e in
+        let last : memory_faults after earlier c (Cells.Memory kind) ≡ [] = memory_none earlier c kind memories refl e (none_right (known memories) (memory_faults m earlier c (Cells.Memory kind)) e) in
+        (λ i. known (sym same i) ++ memory_faults after earlier c (Cells.Memory kind)) ∙ (λ i. first i ++ last i)
+    by_type earlier c (Instance lines) e = e
+    by_type earlier c Unsupported e = e
+    by_type earlier c Unknown e = e
+
+    cells_stay : (earlier cs : List Cell) → cell_faults (with_processes memories) ports m earlier cs ≡ [] → cell_faults scope ports after earlier cs ≡ []
+    cells_stay earlier [] e = refl
+    cells_stay earlier (c ∷ cs) e =
+        let here : List Fault = faults_by_type (with_processes memories) m earlier c (cell_type ports c.kind_name) in
+        let later : List Fault = cell_faults (with_processes memories) ports m (earlier ++ c ∷ []) cs in
+        λ i. by_type earlier c (cell_type ports c.kind_name) (none_left here later e) i ++ cells_stay (earlier ++ c ∷ []) cs (none_right here later e) i
+
+    -- new cells, which have no faults wherever they stand, are none of a memory
+    new_type : (earlier : List Cell) (c : Cell) (t : CellType) → faults_by_type cells_alone after earlier c t ≡ [] → faults_by_type scope after earlier c t ≡ []
+    new_type earlier c (Library (Cells.Word kind)) e = e
+    new_type earlier c (Library (Cells.Gate kind)) e = e
+    new_type earlier c (Library (Cells.Storage kind)) e = e
+    new_type earlier c (Library (Cells.StorageGate kind)) e = e
+    new_type earlier c (Library (Cells.Memory kind)) e = absurd (cc)
+    new_type earlier c (Instance lines) e = e
+    new_type earlier c Unsupported e = e
+    new_type earlier c Unknown e = e
+
+    cells_new : (earlier cs : List Cell) → Each (IsFaultless ports) cs → cell_faults scope ports after earlier cs ≡ []
+    cells_new earlier [] h = refl
+    cells_new earlier (c ∷ cs) h =
+        λ i. new_type earlier c (cell_type ports c.kind_name) (h c (inl refl) after earlier) i ++ cells_new (earlier ++ c ∷ []) cs (λ x j. h x (inr j)) i
+
+    split : (earlier cs ds : List Cell) → cell_faults scope ports after earlier (cs ++ ds) ≡ cell_faults scope ports after earlier cs ++ cell_faults scope ports after (earlier ++ cs) ds
+    split earlier [] ds = ap (λ z. cell_faults scope ports after z ds) (sym (nothing earlier))
+      where
+        nothing : (xs : List Cell) → xs ++ [] ≡ xs
+        nothing [] = refl
+        nothing (x ∷ xs) = ap (λ z. x ∷ z) (nothing xs)
+    split earlier (c ∷ cs) ds =
+        let here : List Fault = faults_by_type scope after earlier c (cell_type ports c.kind_name) in
+        ap (λ z. here ++ z) (split (earlier ++ c ∷ []) cs ds ∙ ap (λ z. cell_faults scope ports after (earlier ++ c ∷ []) cs ++ cell_faults scope ports after z ds) (append_assoc earlier (c ∷ []) cs))
+        ∙ sym (append_assoc here (cell_faults scope ports after (earlier ++ c ∷ []) cs) (cell_faults scope ports after (earlier ++ (c ∷ cs)) ds))
+
+    cells_none : cell_faults scope ports after [] (m.cells ++ new) ≡ []
+    cells_none =
+        split [] m.cells new ∙ (λ i. cells_stay [] m.cells none.cells i ++ cells_new m.cells new r.cells i)
+
+    stores_none : (ss : List Store) → flat_map (store_faults (with_processes memories) m.id) ss ≡ [] → flat_map (store_faults scope m.id) ss ≡ []
+    stores_none ss e = ap (λ t. flat_map (store_faults (with_processes t) m.id) ss) (sym same) ∙ e
+
+    module _ (processes : process_faults scope ports after [] changed ≡ []) where
+      links_none : link_faults m.id 1 (m.links ++ more) ≡ []
+      links_none = no_link_faults m.id 1 (m.links ++ more) even_after
+
+      -- how often bits are driven before and after
+      before_count : (b : WireBit) → drive_count (drives_of ports m) b ≡ count b (bits_of (port_drives 0 m.wires)) + (count b (cells_bits ports m.cells) + (count b (links_bits m.links) + count b (flat_map checked_bits m.processes)))
+      before_count b = drives_count ports m even b
+
+      after_count : (b : WireBit) → drive_count (drives_of ports after) b ≡ (count b (bits_of (port_drives 0 m.wires)) + (count b (cells_bits ports m.cells) + count b (links_bits m.links))) + count b (cells_bits ports new ++ (links_bits more ++ flat_map checked_bits changed))
+      after_count b =
+          let all = drives_count ports after even_after b in
+          let outside : count b (bits_of (port_drives 0 (m.wires ++ fresh))) ≡ count b (bits_of (port_drives 0 m.wires)) = ap (λ z. count b (bits_of z)) (ports_further 0 m.wires fresh r.inner) in
+          let cells = ap (count b) (cells_more ports m.cells new) ∙ count_more b (cells_bits ports m.cells) (cells_bits ports new) in
+          let links = ap (count b) (links_more m.links more) ∙ count_more b (links_bits m.links) (links_bits more) in
+          omega (arith, all, outside, cells, links, count_more b (cells_bits ports new) (links_bits more ++ flat_map checked_bits changed), count_more b (links_bits more) (flat_map checked_bits changed))
+
+      few : (b : WireBit) → count b (cells_bits ports new ++ (links_bits more ++ flat_map checked_bits changed)) ≤ count b (bits_from (length m.wires) fresh) + count b (flat_map checked_bits m.processes)
+      few b =
+          let less = fewer (cells_bits ports new ++ (links_bits more ++ flat_map checked_bits changed)) (bits_from (length m.wires) fresh ++ flat_map checked_bits m.processes) r.checked b in
+          omega (arith, less, count_more b (bits_from (length m.wires) fresh) (flat_map checked_bits m.processes))
+
+      old_only : (b : WireBit) → b.wire < length m.wires → drive_count (drives_of ports after) b ≤ drive_count (drives_of ports m) b
+      old_only b h = omega (arith, before_count b, after_count b, few b, fresh_below b (length m.wires) fresh h)
+
+      fresh_only : (b : WireBit) → length m.wires ≤ b.wire → drive_count (drives_of ports after) b ≤ 1
+      fresh_only b h =
+          let n : ℕ = length m.wires in
+          let p : count b (bits_of (port_drives 0 m.wires)) ≡ 0 = count_beyond n b _ (ports_below n 0 m.wires (omega arith)) h in
+          let c : count b (cells_bits ports m.cells) ≡ 0 = count_beyond n b _ (cells_below n ports m.cells ready.within.cells) h in
+          let l : count b (links_bits m.links) ≡ 0 = count_beyond n b _ (links_below n m.links ready.within.links) h in
+          let q : count b (flat_map checked_bits m.processes) ≡ 0 = count_beyond n b _ (checked_below n m.processes ready.within.processes) h in
+          omega (arith, after_count b, few b, fresh_once b n fresh, p, c, l, q)
+
+      bits_none : bits_faults m.id (drives_of ports after) 0 (m.wires ++ fresh) ≡ []
+      bits_none = no_two m.id (drives_of ports after) (drives_of ports m) (length m.wires) old_only m.wires fresh refl fresh_only none.bits
+
+      -- so the new module has no faults, and may be given on
+      pub ready_after : IsReady scope ports after
+      ready_after = record {
+        faultless = all_none (further_faults m.id [] m.wires fresh r.inner none.wires) (stores_none m.memories none.stores) cells_none processes links_none bits_none;
+        named = r.named;
+        within = record {
+          cells = each_both (CellIn (length (m.wires ++ fresh))) m.cells new (λ c i. cell_wider (length m.wires) (length (m.wires ++ fresh)) longer c (ready.within.cells c i)) r.cells_within;
+          links = each_both (LinkIn (length (m.wires ++ fresh))) m.links more (λ l i. link_wider (length m.wires) (length (m.wires ++ fresh)) longer l (ready.within.links l i)) r.links_within;
+          processes = r.processes_within;
+        };
+      }
+
+  -- with processes taken
+  pub still_ready : IsReady (with_processes memories) ports (rebuilt fresh new more changed m)
+  still_ready = ready_after (with_processes memories) refl (taken_alike memories true ports after [] changed ∙ r.processes)
+
+  -- and without, where none is left
+  pub last_ready : changed ≡ [] → IsReady (without_processes memories) ports (rebuilt fresh new more changed m)
+  last_ready e = ready_after (without_processes memories) refl (ap (process_faults (without_processes memories) ports after []) e)
