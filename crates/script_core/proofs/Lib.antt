@@ -3,6 +3,7 @@ pub mod FoldLemmas
 pub mod Tables
 pub mod Testing
 pub mod Faultless
+pub mod NoLines
 pub mod BuildLemmas
 pub mod Given
 pub mod Reading

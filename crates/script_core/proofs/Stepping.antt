@@ -64,16 +64,45 @@ record Gives (table : PortTable) (m n : Module) : Type 0 where
 gives : (table : PortTable) (m n : Module) → IsReady (table_ports table.modules) m → IsPass table m n → Gives table m n
 gives table m n h pass = record { step = as_step table m n pass; ready = pass.ready h }
 
+-- what has no process may be given to each pass
+given_on : (P : Ports) (m : Module) → steps.IsReady (without_processes false) P m → IsReady P m
+given_on P m h = record { faultless = h.faultless; named = h.named; within = h.within }
+
 -- `proc` of a module with processes
 module _ (table : PortTable) (m : Module) (h : MayBegin table m) where
-  ruled : Module
-  ruled = proc_tree_of m
+  P : Ports
+  P = table_ports table.modules
 
-  whole : steps.IsReady (with_processes false) (table_ports table.modules) m
-  whole = taken_without taken (table_ports table.modules) m refl h.ready
+  whole : steps.IsReady (with_processes true) P m
+  whole = taken_whole taken P m h.ready
 
-  proc_gives : Gives table m (proc_mux_of ruled)
-  proc_gives = ?
+  ruled_whole : steps.IsReady (with_processes true) P (proc_tree_of m)
+  ruled_whole = tree_ready m (with_processes true) (λ p e. e) P whole
+
+  ruled_alone : steps.IsReady (with_processes false) P (proc_tree_of m)
+  ruled_alone = tree_ready m (with_processes false) (λ p e. e) P (taken_without taken P m refl h.ready)
+
+  ruling : IsStep table m (proc_tree_of m)
+  ruling = tree_step m (Ok (proc_tree_of m)) refl table h.placed whole
+
+  muxing : IsInLimits (muxed m) → IsStep table (proc_tree_of m) (proc_mux_of (proc_tree_of m))
+  muxing limits = record {
+    id = mux_id (proc_tree_of m);
+    ports = mux_ports P (proc_tree_of m) true ruled_whole limits.names;
+    instances = mux_instances P (proc_tree_of m) true ruled_whole limits.names;
+    driven = λ over agree. mux_driven P over (proc_tree_of m) true ruled_whole limits.names;
+    refines = mux_refines table (proc_tree_of m) ruled_whole (are_ruled m) (have_no_lines m (no_lines P m h.ready.faultless));
+  }
+
+  proc_gives : IsInLimits (muxed m) → Gives table m (proc_mux_of (proc_tree_of m))
+  proc_gives limits = record {
+    step = IsStep_trans table m (proc_tree_of m) (proc_mux_of (proc_tree_of m)) ruling (muxing limits);
+    ready = given_on P (proc_mux_of (proc_tree_of m)) (mux_ready P (proc_tree_of m) false ruled_alone limits.names (λ e. absurd cc));
+  }
+
+  -- a module without processes
+  stays : m.processes ≡ [] → Gives table m m
+  stays none = record { step = IsStep_refl table m; ready = given_on P m (without P m none (taken_without taken P m refl h.ready)) }
 
 no_process : (table : PortTable) (m n : Module) (p : Process) (ps : List Process) → m.processes ≡ p ∷ ps → IsReady (table_ports table.modules) m → Gives table m n
 no_process table m n p ps e h = let none = (plain (table_ports table.modules) m h.faultless).processes in absurd cc
@@ -85,11 +114,11 @@ proc_word table m n h e = by m.processes refl h e
     by [] f (inr k) g = let same : m ≡ n = cc in subst (Gives table m) same (gives table m m k (IsPass_refl table m))
     by [] f (inl k) g = let same : m ≡ n = cc in subst (Gives table m) same (stays table m k f)
     by (p ∷ ps) f (inr k) g = no_process table m n p ps f k
-    by (p ∷ ps) f (inl k) g = within (is_within (muxed m)) g
+    by (p ∷ ps) f (inl k) g = within (is_within (muxed m)) refl g
       where
-        within : (t : Bool) → cond t (Some (proc_mux_of (proc_tree_of m))) None ≡ Some n → Gives table m n
-        within true w = let same : proc_mux_of (proc_tree_of m) ≡ n = cc in subst (Gives table m) same (proc_gives table m k)
-        within false w = absurd cc
+        within : (t : Bool) → is_within (muxed m) ≡ t → cond t (Some (proc_mux_of (proc_tree_of m))) None ≡ Some n → Gives table m n
+        within true e w = let same : proc_mux_of (proc_tree_of m) ≡ n = cc in subst (Gives table m) same (proc_gives table m k (within_limits (muxed m) e))
+        within false e w = absurd cc
 
 -- a word that has a pass
 pub word_gives : (table : PortTable) (word : Word) (m n : Module) → HasPass word → MayBeGiven table word m → pass_of table word m ≡ Some n → Gives table m n
