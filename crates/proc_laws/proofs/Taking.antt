@@ -5,16 +5,12 @@ use Rattle.rtl_ir.specs.declared.cell.Cell.{Cell}
 use Rattle.rtl_ir.specs.declared.module.Module.{Module}
 use Rattle.rtl_ir.specs.declared.process.Process.{Process}
 use Rattle.rtl_ir.specs.declared.store.Store.{Store}
-use Rattle.rtl_ir.specs.Drivers.{drives_of}
 use Rattle.rtl_ir.specs.Fault.{Fault, BadMemory, BadPort, BadProcess, TooWide, UnsupportedCell, Width, fault_if, spot}
 use Rattle.rtl_ir.specs.Faults.{module_faults}
-use Rattle.rtl_ir.specs.Faults.Bits.{bits_faults}
 use Rattle.rtl_ir.specs.Faults.Cells.{cell_faults, faults_by_type, is_memory_kind, memory_faults, misfit, output_faults, shape_fault}
-use Rattle.rtl_ir.specs.Faults.Links.{link_faults}
 use Rattle.rtl_ir.specs.Faults.ProcessLimits.{gives_to_constant, has_uneven, is_too_wide}
 use Rattle.rtl_ir.specs.Faults.Processes.{faults_of_process, has_bad_line, is_bad_process, process_faults}
 use Rattle.rtl_ir.specs.Faults.Stores.{is_bad_store, store_faults}
-use Rattle.rtl_ir.specs.Faults.Wires.{wire_faults}
 use Rattle.rtl_ir.specs.Scope.{Scope, everything}
 use Rattle.rtl_ir.specs.Types.{CellType, Instance, Library, Ports, Unknown, Unsupported, cell_type}
 use Rattle.rtl_ir.specs.WritePorts.{write_lines}

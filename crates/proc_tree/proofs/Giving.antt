@@ -1,7 +1,6 @@
 -- Start values that come behind others.
-use Rattle.std.proofs.Common.{◌≡◌, ℕ, ◌+◌, ◌<◌, ◌≤◌, Bool, true, false, ◌||◌, List, [], ◌∷◌, ◌++◌, length, get_or, take, Option, Some, None, append-nil, append_assoc, refl, sym, ◌∙◌, ap, subst}
+use Rattle.std.proofs.Common.{◌≡◌, ℕ, ◌+◌, ◌<◌, ◌≤◌, Bool, true, false, ◌||◌, List, [], ◌∷◌, ◌++◌, length, get_or, take, Some, None, append-nil, append_assoc, refl, sym, ◌∙◌, ap, subst}
 use Rattle.std.specs.Prelude.{◌==◌, flat_map, if◌then◌else◌, map, slice_index_or}
-use Rattle.std.specs.List.{list_any}
 use Rattle.std.specs.Option.{option_or}
 use Rattle.std.proofs.lemmas.List.{take_all, take_more}
 use Rattle.std.proofs.lemmas.List.Folds.{list_any-append}
@@ -48,11 +47,13 @@ pub adds_one : (old new : Starts) (s : Begun)
     → ((b : WireBit) → at_bit new.values b ≡ (if same_bit s.bit b then Some s.value else at_bit old.values b))
     → ((k : ℕ) → k < length old.begun.items → slice_index_or new.begun.items k false ≡ (slice_index_or old.begun.items k false || (s.bit.wire == k)))
     → length new.begun.items ≡ length old.begun.items → Adds old new (s ∷ [])
-adds_one old new s put marked size = record { adds = λ count all h. record {
-  size = size ∙ h.size;
-  values = λ b. put b ∙ (λ i. if same_bit s.bit b then Some s.value else h.values b i) ∙ sym (last_more all s b);
-  begun = λ k lt. marked k (subst (λ n. k < n) (sym h.size) lt) ∙ ap (λ t. t || (s.bit.wire == k)) (h.begun k lt) ∙ sym (begun_more all s k);
-} }
+adds_one old new s put marked size = record {
+  adds = λ count all h. record {
+    size = size ∙ h.size;
+    values = λ b. put b ∙ (λ i. if same_bit s.bit b then Some s.value else h.values b i) ∙ sym (last_more all s b);
+    begun = λ k lt. marked k (subst (λ n. k < n) (sym h.size) lt) ∙ ap (λ t. t || (s.bit.wire == k)) (h.begun k lt) ∙ sym (begun_more all s k);
+  };
+}
 
 pub adds_none : (s : Starts) → Adds s s []
 adds_none s = record { adds = λ count all h. subst (AreStarts s count) (sym (append-nil all)) h }

@@ -1,7 +1,6 @@
 -- A source starts with the constant at the end of its way along the assigns where each switch takes its first case.
-use Rattle.std.proofs.Common.{◌≡◌, ℕ, zero, suc, ◌+◌, ◌≤◌, Bool, true, false, cond, ◌||◌, List, [], ◌∷◌, ◌++◌, length, ⊎_elim, inl, inr, Option, Some, None, unwrap_or, append-nil, length-append, append_assoc, refl, sym, ◌∙◌, ap, subst, arith}
+use Rattle.std.proofs.Common.{◌≡◌, ℕ, zero, suc, ◌≤◌, Bool, true, false, cond, ◌||◌, List, [], ◌∷◌, ◌++◌, length, inl, inr, Option, Some, None, unwrap_or, append-nil, length-append, append_assoc, refl, sym, ◌∙◌, ap, subst, arith}
 use Rattle.std.specs.Prelude.{◌⊎◌, flat_map, if◌then◌else◌, map, reverse}
-use Rattle.std.specs.List.{list_any}
 use Rattle.std.specs.Option.{option_map_or, option_or}
 use Rattle.std.proofs.lemmas.Bool.{or_parts}
 use Rattle.std.proofs.lemmas.List.{reverse-append}
@@ -9,12 +8,10 @@ use Rattle.std.proofs.lemmas.List.Folds.{list_any-append}
 use Rattle.rtl_sig.specs.declared.sig.SigBit.{SigBit}
 use Rattle.rtl_sig.specs.declared.sig.SigBit.TheVariants.{Fixed, Wire as OnWire}
 use Rattle.rtl_sig.specs.declared.sig.WireBit.{WireBit}
-use Rattle.rtl_bits.specs.declared.bit.Bit.{Bit}
 use Rattle.rtl_bits.specs.declared.bit.Bit.TheVariants.{X}
 use Rattle.rtl_ir.specs.declared.module.Link.{Link}
 use Rattle.rtl_ir.specs.Assigns.{assigned, case_assigns, cases_assigns, each_once, last_source, left_bits, switches_assigns}
 use Rattle.rtl_ir.specs.Decisions.{expanded_within}
-use Rattle.rtl_ir.specs.Flat.Start.{first_constant}
 use Rattle.rtl_ir.specs.Follow.{Join, all_joins, end_within, follow, follow_joins, joins, source_at}
 use Rattle.rtl_ir.specs.Signals.{has_bit, same_bit, wire_bits}
 use Rattle.rtl_ir.specs.Tree.{Switches, NoSwitch, OneSwitch, Cases, NoCase, OneCase, CaseView}

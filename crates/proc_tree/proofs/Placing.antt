@@ -1,6 +1,6 @@
 -- Start values in the attributes of wires.
-use Rattle.std.proofs.Common.{◌≡◌, ℕ, zero, suc, ◌+◌, ◌<◌, Bool, true, false, List, [], ◌∷◌, ◌++◌, length, get_or, drop, Option, Some, None, Result, Ok, Err, zero-add, arith, append_assoc, refl, sym, ◌∙◌, ap, subst}
-use Rattle.std.specs.Prelude.{codes, flat_map, if◌then◌else◌, map, slice_get, slice_index_or, slice_set, unwrap_or, IfOk}
+use Rattle.std.proofs.Common.{◌≡◌, ℕ, zero, suc, ◌+◌, ◌<◌, Bool, true, false, List, [], ◌∷◌, ◌++◌, length, get_or, drop, Option, Some, None, Result, Ok, Err, zero-add, arith, append_assoc, refl, sym, ◌∙◌, ap}
+use Rattle.std.specs.Prelude.{codes, flat_map, if◌then◌else◌, slice_get, slice_index_or, slice_set, unwrap_or, IfOk}
 use Rattle.std.specs.Option.{option_map}
 use Rattle.std.specs.Str.{bytes_eq}
 use Rattle.std.proofs.lemmas.List.FromFn.{map-range_with_len_more}
@@ -14,7 +14,7 @@ use Rattle.rtl_ir.specs.declared.module.Module.{Module}
 use Rattle.rtl_ir.specs.declared.value.Attribute.{Attribute}
 use Rattle.rtl_ir.specs.declared.wire.Wire.{Wire}
 use Rattle.rtl_ir.specs.Flat.Start.{Begun, attribute_bits, init_bits, last_start, process_starts, start_of}
-use Rattle.net_model.specs.Proc.Start.{begun_wires, init_attribute, is_begun, wire_starts, with_attribute}
+use Rattle.net_model.specs.Proc.Start.{begun_wires, init_attribute, wire_starts, with_attribute}
 use Rattle.proc_tree.specs.declared.starts.Starts.{Starts}
 use Rattle.proc_tree.specs.Attributes.{place_of}
 use Rattle.proc_tree.specs.Starts.{AreStarts, AreStartsOf, begun_wire, wire_is_begun}
@@ -82,7 +82,7 @@ kept_wire starts place w t tells not (Err fault) e = tt
 kept_wire starts place w t tells not (Ok copy) e = λ m are get.
     e
     ∙ ap (λ t. if t then record w { attributes = with_attribute (init_attribute (wire_starts m place w.width)) w.attributes } else w)
-        (sym not ∙ tells (length m.wires) (flat_map process_starts m.processes) are (within m.wires place w get))
+    (sym not ∙ tells (length m.wires) (flat_map process_starts m.processes) are (within m.wires place w get))
 
 -- a wire of which one is
 pub begun_there : (starts : Starts) (place : ℕ) (w : Wire) (t : Bool) → ((count : ℕ) (all : List Begun) → AreStarts starts count all → place < count → t ≡ wire_is_begun all place) → t ≡ true
@@ -94,7 +94,7 @@ begun_there starts place w t tells is bits gives (Ok begun) e = λ m are get.
     e
     ∙ ap (λ bits. record w { attributes = with_attribute (init_attribute bits) w.attributes }) (gives m are get)
     ∙ ap (λ t. if t then record w { attributes = with_attribute (init_attribute (wire_starts m place w.width)) w.attributes } else w)
-        (sym is ∙ tells (length m.wires) (flat_map process_starts m.processes) are (within m.wires place w get))
+    (sym is ∙ tells (length m.wires) (flat_map process_starts m.processes) are (within m.wires place w get))
 
 -- one more wire
 pub wires_next : (m : Module) (wires : List Wire) (i : ℕ) (w : Wire) → i < length wires → w ≡ get_or wires i w → (done new all : List Wire) (made : Wire) → new ≡ done ++ made ∷ [] → made ≡ begun_wire m i w

@@ -74,22 +74,26 @@ fn body_of(alloc: Global, places: &[Place]) -> Result<Module, Memory>
 fn left_of(alloc: Global, places: &[Place]) -> Result<Vec<SigBit>, Memory>
     ensures value { IfOk result (λ left. left.items ≡ map (λ (p : Place). OnWire p.bit) (reverse places.now)) }
 {
-    Ok(places
-        .iter()
-        .rev()
-        .map(|place| SigBit::Wire(place.bit))
-        .collect(alloc)?)
+    Ok(
+        places
+            .iter()
+            .rev()
+            .map(|place| SigBit::Wire(place.bit))
+            .collect(alloc)?,
+    )
 }
 
 /// The sources of the places, from the last one to the first.
 fn right_of(alloc: Global, places: &[Place]) -> Result<Vec<SigBit>, Memory>
     ensures value { IfOk result (λ right. right.items ≡ map (λ (p : Place). p.source) (reverse places.now)) }
 {
-    Ok(places
-        .iter()
-        .rev()
-        .map(|place| place.source)
-        .collect(alloc)?)
+    Ok(
+        places
+            .iter()
+            .rev()
+            .map(|place| place.source)
+            .collect(alloc)?,
+    )
 }
 
 /// Puts the places of the assigns last that act in the case where each switch takes its first case.

@@ -32,12 +32,7 @@ pub(crate) fn begun_wires(
 }
 
 /// The wire at the place, with its start values where a process gives one to a bit of it.
-fn begun_wire(
-    alloc: Global,
-    wire: &Wire,
-    place: usize,
-    starts: &Starts,
-) -> Result<Wire, Memory>
+fn begun_wire(alloc: Global, wire: &Wire, place: usize, starts: &Starts) -> Result<Wire, Memory>
     ensures value { IfOk result (λ begun. («module» : Module) → AreStartsOf starts.now «module» → slice_get «module».wires place ≡ Some wire.now → begun ≡ begun_wire «module» place wire.now) }
 {
     if !starts.is_begun(place) {

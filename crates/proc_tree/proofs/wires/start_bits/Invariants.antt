@@ -1,6 +1,5 @@
 -- The bits so far are the start values of the bits so far.
-use Rattle.std.proofs.Common.{◌≡◌, map, Some}
-use Rattle.std.specs.List.{range_with_len}
+use Rattle.std.proofs.Common.{◌≡◌, Some}
 use Rattle.std.specs.Prelude.{slice_get}
 use Rattle.rtl_ir.specs.declared.module.Module.{Module}
 use Rattle.net_model.specs.Proc.Start.{wire_starts}

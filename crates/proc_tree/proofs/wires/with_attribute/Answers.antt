@@ -19,4 +19,4 @@ returns c =
       | in-None+in_ok-push-in-None w ↦ (λ i. (w.made-is i).items) ∙ w.in_ok-push-in-None.ensures.items ∙ ap (λ (xs : List Attribute). xs ++ c.args.put ∷ []) all
           ∙ put_last c.args.put c.args.attributes.now (sym place ∙ sym w.in-None.ensures.value)
     ] in
-    record { value = c.from_vec.ensures.value ∙ made; }
+    record { value = c.from_vec.ensures.value ∙ made }
