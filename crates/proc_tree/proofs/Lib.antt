@@ -11,3 +11,7 @@ pub mod Forming
 pub mod Promised
 pub mod PatternsLeft
 pub mod TreeReading
+pub mod FirstLeaf
+pub mod LeafWays
+pub mod Giving
+pub mod Placing

@@ -17,7 +17,7 @@ use Rattle.rtl_ir.specs.Faults.Wires.{is_inout, wire_faults, with_number}
 use Rattle.rtl_ir.specs.Ports.{in_number_order, is_port, line_of, place_wire, ports_of}
 use Rattle.rtl_ir.specs.Signals.{bits_of_wire}
 use Rattle.net_model.specs.Proc.Start.{begun_wires, init_attribute, is_begun, wire_starts, with_attribute}
-use Rattle.proc_tree.specs.Ready.{IsBitOf}
+use Rattle.proc_laws.specs.Ready.{IsBitOf}
 
 -- the wires of two lists are the same to the outside, place by place: in name, width, role and number
 abbrev pub SameLines : List Wire → List Wire → Type 0

@@ -1,15 +1,18 @@
 -- What the two steps promise of a module that may be given.
-use Rattle.std.proofs.Common.{◌≡◌, ℕ, true, length, Result, Ok, Err, refl, sym, subst}
-use Rattle.std.specs.Prelude.{IfOk, map}
+use Rattle.std.proofs.Common.{◌≡◌, ℕ, Bool, true, false, List, [], ◌∷◌, if◌then◌else◌, inl, inr, length, Result, Ok, Err, refl, sym, subst}
+use Rattle.std.specs.Prelude.{IfOk, map, not}
 use Rattle.rtl_bits.specs.declared.memory.Memory.{Memory}
 use Rattle.rtl_ir.specs.declared.module.Module.{Module}
 use Rattle.rtl_ir.specs.declared.ports.PortTable.{PortTable}
 use Rattle.rtl_ir.specs.declared.process.Process.{Process}
+use Rattle.rtl_ir.specs.declared.process.SyncRule.{SyncRule}
 use Rattle.rtl_ir.specs.declared.wire.Role.TheVariants.{Input}
 use Rattle.rtl_ir.specs.Flat.Cell as flat
 use Rattle.rtl_ir.specs.Flat.Tree as tree
 use Rattle.rtl_ir.specs.Ports.{ports_of}
-use Rattle.rtl_ir.specs.Scope.{Scope, everything}
+use Rattle.rtl_ir.specs.Rules.{has_line, is_init}
+use Rattle.rtl_ir.specs.Scope.{Scope}
+use Rattle.rtl_ir.specs.SwitchRules.{root_by_rules}
 use Rattle.rtl_ir.specs.Types as types
 use Rattle.net_model.specs.Lists.{Distinct, In}
 use Rattle.net_model.specs.Refine.{IsWellDriven, RefinesIn, RefinesOver, places_of}
@@ -18,12 +21,24 @@ use Rattle.net_model.specs.Proc.Start.{begun_wires, proc_tree_of, ruled_process}
 use Rattle.net_model.proofs.Lifted.{lifted}
 use Rattle.net_model.proofs.Ranges.{RootIn, root_in}
 use Rattle.net_model.proofs.Members.{In-mapped}
-use Rattle.proc_tree.specs.Ready.{HasItsBits, IsReady, UpdatesHaveBits}
+use Rattle.proc_laws.specs.Ready.{AreRuled, HasItsBits, HaveNoLines, HaveNoStarts, IsReady, UpdatesHaveBits, with_processes}
+use Rattle.proc_laws.specs.Step.{IsStep, StaysReady}
 use Rattle.proc_tree.proofs.Faultless.{all_write, no_faults}
 use Rattle.proc_tree.proofs.Forming.{rules_among, tree_faultless}
 use Rattle.proc_tree.proofs.Lines.{begun_lines, same_bits, same_length, same_names, same_ports}
-use Rattle.proc_tree.proofs.Ruled.{WritesNoStart, syncs_of}
+use Rattle.proc_tree.proofs.Ruled.{WritesNoStart, rules_left, syncs_of}
+use Rattle.proc_tree.proofs.Ruling.{root_again}
 use Rattle.proc_tree.proofs.Standing.{rows_stay}
+
+-- the rules that are left give no start values
+none_begins : (rules : List SyncRule) → Each (λ (r : SyncRule). is_init r.event ≡ false) (rules_left rules)
+none_begins [] x i = absurd i
+none_begins (r ∷ rules) x i = by (is_init r.event) refl (none_begins rules) i
+  where
+    by : (t : Bool) → is_init r.event ≡ t → Each (λ (r : SyncRule). is_init r.event ≡ false) (rules_left rules) → In x (if not t then r ∷ rules_left rules else rules_left rules) → is_init x.event ≡ false
+    by true e h i = h x i
+    by false e h (inl here) = subst (λ (y : SyncRule). is_init y.event ≡ false) (sym here) e
+    by false e h (inr later) = h x later
 
 module _ (m : Module) where
   pub ports_stay : ports_of (proc_tree_of m).wires ≡ ports_of m.wires
@@ -80,8 +95,21 @@ module _ (m : Module) where
       faultless = tree_faultless scope ports m takes h.faultless;
       named = subst Distinct (sym (same_names (begun_wires m 0 m.wires) m.wires (begun_lines m 0 m.wires))) h.named;
       within = within_stays h.within;
-      placed = bits_stay h.placed;
     }
+
+  -- no rule gives start values any more, and the others are as they were
+  each_ruled : (P : Process → Type 0) → Each (λ (p : Process). P (ruled_process p)) m.processes → Each P (map ruled_process m.processes)
+  each_ruled P h q i = let f = In-mapped ruled_process q m.processes i in subst P (sym f.2) (h f.0 f.1)
+
+  pub are_ruled : AreRuled (proc_tree_of m)
+  are_ruled = each_ruled (λ (p : Process). root_by_rules p.root ≡ p.root) (λ p i. root_again p.root)
+
+  pub have_no_starts : HaveNoStarts (proc_tree_of m)
+  have_no_starts = each_ruled (λ (p : Process). Each (λ (r : SyncRule). is_init r.event ≡ false) p.syncs) (λ p i. none_begins p.syncs)
+
+  pub have_no_lines : HaveNoLines m → HaveNoLines (proc_tree_of m)
+  have_no_lines h =
+      each_ruled (λ (p : Process). Each (λ (r : SyncRule). has_line r ≡ false) p.syncs) (λ p i r j. h p i r (rules_among p.syncs r j))
 
 -- no rule of a module that may be given writes at the start
 pub quiet_all : (scope : Scope) (ports : types.Ports) (m : Module) → IsReady scope ports m → Each WritesNoStart (syncs_of m.processes)
@@ -105,12 +133,37 @@ module _ (m : Module) (r : Result Module Memory) (is : IfOk r (λ after. after �
   pub same_instances : IfOk r (λ after. flat.instances after.cells ≡ flat.instances m.cells)
   same_instances = so (λ after. flat.instances after.cells ≡ flat.instances m.cells) refl
 
-  module _ (table : PortTable) (h : IsReady everything (types.table_ports table.modules) m) where
-    pub refines : IfOk r (λ after. RefinesIn m after table)
-    refines = so (λ after. RefinesIn m after table) (tree_refines m h.placed (quiet_all everything (types.table_ports table.modules) m h) (tree.table_ports table))
+  pub ruled : IfOk r (λ after. AreRuled after)
+  ruled = so (λ after. AreRuled after) (are_ruled m)
 
-    pub well_driven : IfOk r (λ after. (ports : flat.Ports) → IsWellDriven ports m → IsWellDriven ports after)
-    well_driven = so (λ after. (ports : flat.Ports) → IsWellDriven ports m → IsWellDriven ports after) (tree_driven m h.placed (quiet_all everything (types.table_ports table.modules) m h))
+  pub no_starts : IfOk r (λ after. HaveNoStarts after)
+  no_starts = so (λ after. HaveNoStarts after) (have_no_starts m)
 
-    pub well_formed : IfOk r (λ after. IsReady everything (types.table_ports table.modules) after)
-    well_formed = so (λ after. IsReady everything (types.table_ports table.modules) after) (tree_ready m everything (λ p e. e) (types.table_ports table.modules) h)
+  pub no_lines : IfOk r (λ after. HaveNoLines m → HaveNoLines after)
+  no_lines = so (λ after. HaveNoLines m → HaveNoLines after) (have_no_lines m)
+
+  pub placed_there : HasItsBits m → IfOk r (λ after. HasItsBits after)
+  placed_there placed = so (λ after. HasItsBits after) (bits_stay m placed)
+
+  module _ (table : PortTable) where
+    pub well_formed : IfOk r (λ after. StaysReady table m after)
+    well_formed = so (λ after. StaysReady table m after) (λ memories. tree_ready m (with_processes memories) (λ p e. e) (types.table_ports table.modules))
+
+    module _ (placed : HasItsBits m) (h : IsReady (with_processes true) (types.table_ports table.modules) m) where
+      quiet : Each WritesNoStart (syncs_of m.processes)
+      quiet = quiet_all (with_processes true) (types.table_ports table.modules) m h
+
+      pub refines : IfOk r (λ after. RefinesIn m after table)
+      refines = so (λ after. RefinesIn m after table) (tree_refines m placed quiet (tree.table_ports table))
+
+      pub well_driven : IfOk r (λ after. (ports : flat.Ports) → IsWellDriven ports m → IsWellDriven ports after)
+      well_driven = so (λ after. (ports : flat.Ports) → IsWellDriven ports m → IsWellDriven ports after) (tree_driven m placed quiet)
+
+      pub step : IfOk r (λ after. IsStep table m after)
+      step = so (λ after. IsStep table m after) (record {
+        id = refl;
+        ports = sym (ports_stay m);
+        instances = refl;
+        driven = λ over agree. tree_driven m placed quiet over;
+        refines = tree_refines m placed quiet (tree.table_ports table);
+      })

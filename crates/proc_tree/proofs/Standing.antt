@@ -12,7 +12,7 @@ use Rattle.rtl_ir.specs.Flat.Rows.{rows_of}
 use Rattle.rtl_ir.specs.Flat.Start.{start_of}
 use Rattle.net_model.specs.Within.{Each}
 use Rattle.net_model.specs.Proc.Start.{begun_wires, proc_tree_of, ruled_process}
-use Rattle.proc_tree.specs.Ready.{HasItsBits}
+use Rattle.proc_laws.specs.Ready.{HasItsBits}
 use Rattle.proc_tree.proofs.Naming.{SamePlaces, cells_named, links_named, memories_named}
 use Rattle.proc_tree.proofs.NamingProcesses.{processes_named}
 use Rattle.proc_tree.proofs.Ruled.{WritesNoStart, accesses_ruled, process_ruled, syncs_of}

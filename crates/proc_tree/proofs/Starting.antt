@@ -21,7 +21,7 @@ use Rattle.rtl_ir.specs.Flat.Place.{Path, wire_place}
 use Rattle.rtl_ir.specs.Flat.Point.{name_or_empty}
 use Rattle.rtl_ir.specs.Flat.Start.{Begun, attribute_bits, init_bit, init_bits, last_start, process_starts, start_of}
 use Rattle.net_model.specs.Proc.Start.{begun_wires, init_attribute, is_begun, ruled_process, wire_starts, with_attribute}
-use Rattle.proc_tree.specs.Ready.{IsBitOf}
+use Rattle.proc_laws.specs.Ready.{IsBitOf}
 use Rattle.proc_tree.proofs.Naming.{SamePlaces}
 use Rattle.proc_tree.proofs.Ruled.{no_starts_left}
 

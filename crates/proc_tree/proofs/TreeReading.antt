@@ -28,7 +28,7 @@ cases_all : (xs : List CaseView) → cases_before xs NoCase ≡ cases_of xs
 cases_all [] = refl
 cases_all (x ∷ xs) = ap (OneCase x.patterns x.assigns x.attributes x.switches) (cases_all xs)
 
-front : {A : Type 0} (items : List A) (k : ℕ) (x : A) → k < length items → x ≡ get_or items k x → drop k items ≡ x ∷ drop (k + 1) items
+pub front : {A : Type 0} (items : List A) (k : ℕ) (x : A) → k < length items → x ≡ get_or items k x → drop k items ≡ x ∷ drop (k + 1) items
 front items k x lt is =
     let next : suc k ≡ k + 1 = sym (add-one k) in
     drop-cons items k x lt ∙ (λ j. sym is j ∷ drop (next j) items)

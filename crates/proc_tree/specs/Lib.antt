@@ -1,2 +1,5 @@
-pub mod Ready
 pub mod Reading
+pub mod Places
+pub mod Leaves
+pub mod Starts
+pub mod Attributes

@@ -1,5 +1,66 @@
 //! The first two steps of `proc`: switches by their rules, and start values.
 #![tactic(auto)]
 
+mod leaves;
+mod places;
+mod processes;
 mod reading;
+mod starts;
 mod tree;
+mod wires;
+
+ghost use Rattle.std.specs.Prelude.{◌≡◌, IfOk, true};
+ghost use Rattle.rtl_ir.specs.Flat.Cell.{Ports, instances};
+ghost use Rattle.rtl_ir.specs.Ports.{ports_of};
+ghost use Rattle.rtl_ir.specs.Types.{table_ports};
+ghost use Rattle.net_model.specs.Proc.Start.{proc_tree_of};
+ghost use Rattle.net_model.specs.Refine.{IsWellDriven, RefinesIn};
+ghost use Rattle.proc_laws.specs.Ready.{AreRuled, HasItsBits, HaveNoLines, HaveNoStarts, IsReady, with_processes};
+ghost use Rattle.proc_laws.specs.Step.{IsStep, StaysReady};
+
+use crate::processes::ruled_processes;
+use crate::starts::Starts;
+use crate::wires::begun_wires;
+use rtl_bits::{Copied, Memory, Seq};
+use rtl_ir::{Module, PortTable};
+use std::alloc::Global;
+
+/// The module whose processes have their switches by the rules, and give no start values: those stand in the attributes `\init`
+/// of the wires. In the Yosys manual, the commands `proc_rmdead` and `proc_init`.
+pub fn apply(alloc: Global, module: &Module, ports: &PortTable) -> Result<Module, Memory>
+    requires ready { IsReady (with_processes true) (table_ports ports.now.modules) «module».now }
+    requires placed { HasItsBits «module».now }
+    ensures exact { IfOk result (λ after. after ≡ proc_tree_of «module».now) }
+    ensures refines { IfOk result (λ after. RefinesIn «module».now after ports.now) }
+    ensures well_driven { IfOk result (λ after. (over : Ports) → IsWellDriven over «module».now → IsWellDriven over after) }
+    ensures well_formed { IfOk result (λ after. StaysReady ports.now «module».now after) }
+    ensures placed { IfOk result (λ after. HasItsBits after) }
+    ensures step { IfOk result (λ after. IsStep ports.now «module».now after) }
+    ensures same_id { IfOk result (λ after. after.id ≡ «module».now.id) }
+    ensures same_ports { IfOk result (λ after. ports_of after.wires ≡ ports_of «module».now.wires) }
+    ensures same_instances { IfOk result (λ after. instances after.cells ≡ instances «module».now.cells) }
+    ensures ruled { IfOk result (λ after. AreRuled after) }
+    ensures no_starts { IfOk result (λ after. HaveNoStarts after) }
+    ensures no_lines { IfOk result (λ after. HaveNoLines «module».now → HaveNoLines after) }
+{
+    tree_of(alloc, module)
+}
+
+/// The module after the two steps.
+fn tree_of(alloc: Global, module: &Module) -> Result<Module, Memory>
+    ensures exact { IfOk result (λ after. after ≡ proc_tree_of «module».now) }
+{
+    let mut starts = Starts::of(alloc, module.wires.as_slice())?;
+    let processes = ruled_processes(alloc, module.processes.as_slice(), &mut starts)?;
+    let wires = begun_wires(alloc, module.wires.as_slice(), &starts)?;
+    Ok(Module {
+        id: module.id.copy()?,
+        attributes: module.attributes.copy()?,
+        parameters: module.parameters.copy()?,
+        wires: Seq::from_vec(wires),
+        memories: module.memories.copy()?,
+        cells: module.cells.copy()?,
+        processes: Seq::from_vec(processes),
+        links: module.links.copy()?,
+    })
+}

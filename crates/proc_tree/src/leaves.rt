@@ -1,0 +1,120 @@
+//! The first leaf of what a tree gives.
+
+ghost use Rattle.std.specs.Prelude.{◌≡◌, ◌++◌, map, reverse, IfOk, OnOk};
+ghost use Rattle.rtl_sig.specs.declared.sig.SigBit.TheVariants.{Wire as OnWire};
+ghost use Rattle.rtl_ir.specs.Follow.{all_joins};
+ghost use Rattle.rtl_ir.specs.Tree.{CaseView};
+ghost use Rattle.proc_tree.specs.Leaves.{AreLeaves, case_first, constant_or_x, first_start, switch_first};
+ghost use Rattle.proc_tree.specs.Places.{join_of};
+ghost use Rattle.proc_tree.specs.declared.places.Place.{Place};
+
+use crate::places::{Place, put_lines};
+use net_index::Index;
+use rtl_bits::{Bit, Memory, Seq};
+use rtl_ir::{Case, Link, Module, PortTable, Switch};
+use rtl_sig::{SigBit, SigSpec};
+use std::alloc::Global;
+
+/// The ways from the bits of a tree to their first leaves: along the assigns that act where each switch takes its
+/// first case. A start value has one leaf, whatever the decisions, so the first one is it.
+#[derive(Drop)]
+pub(crate) struct Leaves {
+    ways: Index,
+}
+
+impl Leaves {
+    /// The leaves of a tree whose switches are read by the rules.
+    pub(crate) fn of(alloc: Global, root: &Case) -> Result<Leaves, Memory>
+        ensures value { IfOk result (λ leaves. AreLeaves leaves root.now) }
+    {
+        let mut places = Vec::new(alloc);
+        put_case(&mut places, root)?;
+        let body = body_of(alloc, places.as_slice())?;
+        let none = PortTable {
+            modules: Seq::make(alloc),
+        };
+        Ok(Leaves {
+            ways: Index::of(alloc, &body, &none)?,
+        })
+    }
+
+    /// The constant that stands first among the leaves of the source, x where another bit does. It takes no memory.
+    pub(crate) fn constant(&self, source: SigBit) -> Bit
+        ensures value { (root : CaseView) → AreLeaves self.now root → result ≡ first_start root source }
+    {
+        constant_or_x(self.ways.follow(source))
+    }
+}
+
+/// The constant, x for a bit of a wire.
+fn constant_or_x(bit: SigBit) -> Bit
+    ensures value { result ≡ constant_or_x bit }
+{
+    match bit {
+        SigBit::Fixed(value) => value,
+        SigBit::Wire(_) => Bit::X,
+    }
+}
+
+/// A module that connects these places. Of the connections of a bit the first counts, and of its assigns the last.
+fn body_of(alloc: Global, places: &[Place]) -> Result<Module, Memory>
+    ensures value { IfOk result (λ body. all_joins body.links ≡ reverse (map join_of places.now)) }
+{
+    let left = left_of(alloc, places)?;
+    let right = right_of(alloc, places)?;
+    let mut body = Module::empty(alloc, b"")?;
+    body.links.push(Link {
+        left: SigSpec::from_vec(left),
+        right: SigSpec::from_vec(right),
+    })?;
+    Ok(body)
+}
+
+/// The bits of the places, from the last one to the first.
+fn left_of(alloc: Global, places: &[Place]) -> Result<Vec<SigBit>, Memory>
+    ensures value { IfOk result (λ left. left.items ≡ map (λ (p : Place). OnWire p.bit) (reverse places.now)) }
+{
+    Ok(
+        places
+            .iter()
+            .rev()
+            .map(|place| SigBit::Wire(place.bit))
+            .collect(alloc)?,
+    )
+}
+
+/// The sources of the places, from the last one to the first.
+fn right_of(alloc: Global, places: &[Place]) -> Result<Vec<SigBit>, Memory>
+    ensures value { IfOk result (λ right. right.items ≡ map (λ (p : Place). p.source) (reverse places.now)) }
+{
+    Ok(
+        places
+            .iter()
+            .rev()
+            .map(|place| place.source)
+            .collect(alloc)?,
+    )
+}
+
+/// Puts the places of the assigns last that act in the case where each switch takes its first case.
+#[cycle(first)]
+fn put_case(places: &mut Vec<Place>, case: &Case) -> Result<(), Memory>
+    ensures ok { OnOk result (map join_of places.new.items ≡ map join_of places.old.items ++ all_joins (case_first case.now)) }
+{
+    put_lines(places, case.assigns.as_slice())?;
+    for switch in &case.switches {
+        put_switch(places, switch)?;
+    }
+    Ok(())
+}
+
+/// The same of the first case of the switch.
+#[cycle(first)]
+fn put_switch(places: &mut Vec<Place>, switch: &Switch) -> Result<(), Memory>
+    ensures ok { OnOk result (map join_of places.new.items ≡ map join_of places.old.items ++ all_joins (switch_first switch.now)) }
+{
+    match switch.cases.first() {
+        Some(case) => put_case(places, case),
+        None => Ok(()),
+    }
+}
