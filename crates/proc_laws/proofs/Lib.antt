@@ -8,3 +8,4 @@ pub mod RebuildDriven
 pub mod RebuildMemories
 pub mod RebuildFaults
 pub mod RebuildProcesses
+pub mod RebuildScopes

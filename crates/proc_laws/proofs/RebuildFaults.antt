@@ -92,7 +92,7 @@ drives_count ports m even b =
     two xs ys = ap (count b) (bits_more xs ys) ∙ count_more b (bits_of xs) (bits_of ys)
 
 -- which processes are taken does not matter to those that are
-taken_alike : (x y : Bool) (ports : Ports) (m : Module) (earlier qs : List Process) → process_faults (with_processes x) ports m earlier qs ≡ process_faults (with_processes y) ports m earlier qs
+pub taken_alike : (x y : Bool) (ports : Ports) (m : Module) (earlier qs : List Process) → process_faults (with_processes x) ports m earlier qs ≡ process_faults (with_processes y) ports m earlier qs
 taken_alike x y ports m earlier [] = refl
 taken_alike x y ports m earlier (q ∷ qs) = ap (λ z. faults_of_process (with_processes x) ports m earlier q ++ z) (taken_alike x y ports m (earlier ++ q ∷ []) qs)
 

@@ -1,6 +1,6 @@
 //! Laws of the steps of `proc`. Each is the contract of a function that does nothing.
 
-ghost use Rattle.std.specs.Prelude.{◌≡◌, Bool, true, List, [], ◌++◌};
+ghost use Rattle.std.specs.Prelude.{◌≡◌, Bool, true, false, List, [], ◌++◌};
 ghost use Rattle.rtl_ir.specs.Flat.Cell as flat;
 ghost use Rattle.rtl_ir.specs.Flat.Cell.{instances};
 ghost use Rattle.rtl_ir.specs.Ports.{ports_of};
@@ -48,4 +48,10 @@ pub fn steps_may_build()
 /// Where no connection is added, all keep their ends.
 pub fn nothing_keeps_ends()
     ensures ends { (links : List Link) → KeepsEnds links (links ++ []) }
+{}
+
+/// A module that may be given where no memory is taken may be given where memories are.
+pub fn memories_may_be_taken()
+    ensures ready { (ports : Ports) (m : Module) → IsReady (with_processes false) ports m →
+        IsReady (with_processes true) ports m }
 {}
