@@ -12,3 +12,9 @@ pub mod TreeRuns
 pub mod TreeSteps
 pub mod TreeLess
 pub mod TreeRefining
+pub mod FrameCells
+pub mod FrameGrowing
+pub mod FrameTrees
+pub mod FrameRuns
+pub mod FrameSteps
+pub mod FormingModule

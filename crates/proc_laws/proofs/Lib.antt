@@ -9,3 +9,4 @@ pub mod RebuildMemories
 pub mod RebuildFaults
 pub mod RebuildProcesses
 pub mod Taking
+pub mod RebuildScopes

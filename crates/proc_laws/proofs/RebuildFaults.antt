@@ -92,11 +92,11 @@ drives_count ports m even b =
     two xs ys = ap (count b) (bits_more xs ys) ∙ count_more b (bits_of xs) (bits_of ys)
 
 -- which processes are taken does not matter to those that are
-taken_alike : (x y : Bool) (ports : Ports) (m : Module) (earlier qs : List Process) → process_faults (with_processes x) ports m earlier qs ≡ process_faults (with_processes y) ports m earlier qs
+pub taken_alike : (x y : Bool) (ports : Ports) (m : Module) (earlier qs : List Process) → process_faults (with_processes x) ports m earlier qs ≡ process_faults (with_processes y) ports m earlier qs
 taken_alike x y ports m earlier [] = refl
 taken_alike x y ports m earlier (q ∷ qs) = ap (λ z. faults_of_process (with_processes x) ports m earlier q ++ z) (taken_alike x y ports m (earlier ++ q ∷ []) qs)
 
-module _ (ports : Ports) (m : Module) (fresh : List Wire) (new : List Cell) (more : List Link) (changed : List Process) (memories : Bool) (ready : IsReady (with_processes memories) ports m) (r : Rebuilds ports m fresh new more changed) (keeps : memories ≡ true → KeepsEnds m.links more) where
+module _ (ports : Ports) (m : Module) (fresh : List Wire) (new : List Cell) (more : List Link) (changed : List Process) (memories : Bool) (ready : IsReady (with_processes memories) ports m) (r : Rebuilds ports m fresh new more changed) (keeps : memories ≡ true → KeepsEnds m.links (m.links ++ more)) where
   abbrev after : Module
   after = rebuilt fresh new more changed m
 

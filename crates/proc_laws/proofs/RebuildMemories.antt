@@ -81,7 +81,7 @@ pub place_self : (a : SigBit) → same_place a a ≡ true
 place_self (Fixed a) = value_self a
 place_self (OnWire a) = (bit_same a a).1 refl
 
-module _ (links more : List Link) (keeps : KeepsEnds links more) where
+module _ (links more : List Link) (keeps : KeepsEnds links (links ++ more)) where
   ends_same : (a b : SigBit) → same_place (follow links a) (follow links b) ≡ true → same_place (follow (links ++ more) a) (follow (links ++ more) b) ≡ true
   ends_same a b e =
       ap (same_place (follow (links ++ more) a)) (sym (keeps a b (place_is (follow links a) (follow links b) e))) ∙ place_self (follow (links ++ more) a)

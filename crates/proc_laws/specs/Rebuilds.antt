@@ -82,10 +82,9 @@ driven_bits p = tree_bits p.root ++ rules_bits (acting_rules p.syncs)
 abbrev pub AreAmong : List WireBit → List WireBit → Type 0
 AreAmong xs ys = (b : WireBit) → count_by (λ x. same_bit x b) xs ≤ count_by (λ y. same_bit y b) ys
 
--- bits that follow to one end over some connections do so with these behind them
+-- bits that follow to one end over some connections do so over others
 abbrev pub KeepsEnds : List Link → List Link → Type 0
-KeepsEnds links more =
-    (a b : SigBit) → follow links a ≡ follow links b → follow (links ++ more) a ≡ follow (links ++ more) b
+KeepsEnds links links' = (a b : SigBit) → follow links a ≡ follow links b → follow links' a ≡ follow links' b
 
 -- what is owed of what is added to a module, and of the processes that it has then
 pub record Rebuilds (ports : Ports) (m : Module) (fresh : List Wire) (new : List Cell) (more : List Link) (changed : List Process) : Type 0 where

@@ -1,6 +1,6 @@
 //! Laws of the steps of `proc`. Each is the contract of a function that does nothing.
 
-ghost use Rattle.std.specs.Prelude.{◌≡◌, Bool, true, List, [], ◌++◌};
+ghost use Rattle.std.specs.Prelude.{◌≡◌, Bool, true, false, List, [], ◌++◌};
 ghost use Rattle.rtl_ir.specs.Flat.Cell as flat;
 ghost use Rattle.rtl_ir.specs.Flat.Cell.{instances};
 ghost use Rattle.rtl_ir.specs.Ports.{ports_of};
@@ -28,11 +28,11 @@ pub fn steps_in_turn()
 pub fn steps_may_build()
     ensures ready { (ports : Ports) (m : Module) (fresh : List Wire) (new : List Cell) (more : List Link)
         (changed : List Process) (memories : Bool) → IsReady (with_processes memories) ports m →
-        Rebuilds ports m fresh new more changed → (memories ≡ true → KeepsEnds m.links more) →
+        Rebuilds ports m fresh new more changed → (memories ≡ true → KeepsEnds m.links (m.links ++ more)) →
         IsReady (with_processes memories) ports (rebuilt fresh new more changed m) }
     ensures last { (ports : Ports) (m : Module) (fresh : List Wire) (new : List Cell) (more : List Link)
         (memories : Bool) → IsReady (with_processes memories) ports m → Rebuilds ports m fresh new more [] →
-        (memories ≡ true → KeepsEnds m.links more) →
+        (memories ≡ true → KeepsEnds m.links (m.links ++ more)) →
         IsReady (without_processes memories) ports (rebuilt fresh new more [] m) }
     ensures driven { (ports : Ports) (over : flat.Ports) (m : Module) (fresh : List Wire) (new : List Cell)
         (more : List Link) (changed : List Process) → IsWithin m → Rebuilds ports m fresh new more changed →
@@ -47,5 +47,11 @@ pub fn steps_may_build()
 
 /// Where no connection is added, all keep their ends.
 pub fn nothing_keeps_ends()
-    ensures ends { (links : List Link) → KeepsEnds links [] }
+    ensures ends { (links : List Link) → KeepsEnds links (links ++ []) }
+{}
+
+/// A module that may be given where no memory is taken may be given where memories are.
+pub fn memories_may_be_taken()
+    ensures ready { (ports : Ports) (m : Module) → IsReady (with_processes false) ports m →
+        IsReady (with_processes true) ports m }
 {}
