@@ -1,3 +1,4 @@
+pub mod Taken
 pub mod Words
 pub mod Finds
 pub mod Numbers
@@ -5,3 +6,6 @@ pub mod Tallies
 pub mod Search
 pub mod Places
 pub mod Ends
+pub mod Flaws
+pub mod Reading
+pub mod Readings
