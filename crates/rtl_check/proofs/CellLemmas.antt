@@ -6,7 +6,7 @@ use Rattle.rtl_ir.specs.declared.cell.Pin.{Pin}
 use Rattle.rtl_ir.specs.declared.module.Module.{Module}
 use Rattle.rtl_ir.specs.declared.ports.PortLine.{PortLine}
 use Rattle.rtl_ir.specs.Faults.Cells.{cell_faults, faults_by_type, has_other_width, lacks_port}
-use Rattle.rtl_ir.specs.Scope.{cells_alone}
+use Rattle.rtl_check.specs.Taken.{taken}
 use Rattle.rtl_ir.specs.Types.{Ports, cell_type, port_named}
 use Rattle.rtl_ir.specs.Rules.{has_item}
 use Rattle.std.specs.Option.{option_map_or}
@@ -44,13 +44,13 @@ lacks_in_table lines p there e = rw e (by (port_named lines p.name))
 
 -- the fault of a cell is that of the cells, where those before it have none
 pub cell_fault_in : (ports : Ports) (m : Module) (earlier items : List Cell) (i : ℕ) (c : Cell) (name : List ℕ) (f : CheckFault) (all : List rtl.Fault)
-    → items ≡ m.cells → i < length items → c ≡ get_or items i c → name ≡ c.kind_name → cell_faults cells_alone ports m earlier (drop i m.cells) ≡ all
-    → IsFirst f (faults_by_type cells_alone m earlier c (cell_type ports name)) → IsFirst f all
+    → items ≡ m.cells → i < length items → c ≡ get_or items i c → name ≡ c.kind_name → cell_faults taken ports m earlier (drop i m.cells) ≡ all
+    → IsFirst f (faults_by_type taken m earlier c (cell_type ports name)) → IsFirst f all
 cell_fault_in ports m earlier items i c name f all are h is named e first =
     let here : drop i items ≡ c ∷ drop (suc i) items = drop-cons items i c h ∙ (λ j. sym is j ∷ drop (suc i) items) in
-    let mine : IsFirst f (faults_by_type cells_alone m earlier c (cell_type ports c.kind_name)) = subst (λ n. IsFirst f (faults_by_type cells_alone m earlier c (cell_type ports n))) named first in
-    subst (IsFirst f) e (subst (λ cs. IsFirst f (cell_faults cells_alone ports m earlier cs)) (sym here ∙ ap (drop i) are)
-    (first_before f (faults_by_type cells_alone m earlier c (cell_type ports c.kind_name)) (cell_faults cells_alone ports m (earlier ++ c ∷ []) (drop (suc i) items)) mine))
+    let mine : IsFirst f (faults_by_type taken m earlier c (cell_type ports c.kind_name)) = subst (λ n. IsFirst f (faults_by_type taken m earlier c (cell_type ports n))) named first in
+    subst (IsFirst f) e (subst (λ cs. IsFirst f (cell_faults taken ports m earlier cs)) (sym here ∙ ap (drop i) are)
+    (first_before f (faults_by_type taken m earlier c (cell_type ports c.kind_name)) (cell_faults taken ports m (earlier ++ c ∷ []) (drop (suc i) items)) mine))
 
 -- what a table of ports has at a name
 pub at_pin : (table : Named Port) (lines : List PortLine) → IsTable table lines → (name other : List ℕ) → name ≡ other

@@ -9,3 +9,11 @@ pub mod PlaceLemmas
 pub mod Recursions
 pub mod Designs
 pub mod Endings
+pub mod PatternsLeft
+pub mod TreeReading
+pub mod Among
+pub mod FlawLemmas
+pub mod ReadingLemmas
+pub mod Selves
+pub mod ProcessLemmas
+pub mod GraphEdges

@@ -1,5 +1,5 @@
 -- Places of a graph from which each chain ends.
-use Rattle.std.specs.Prelude.{◌+◌, ◌≡◌, ℕ, ◌<◌, Bool, false, List, length, nat_lt, count_by}
+use Rattle.std.specs.Prelude.{◌+◌, ◌≡◌, ◌⊎◌, ℕ, ◌<◌, Bool, false, List, length, nat_lt, count_by}
 use Rattle.rtl_ir.specs.Faults.Recursion.{leads_within}
 use Rattle.rtl_check.specs.Search.{In, IsMarked, followers}
 
@@ -20,6 +20,12 @@ AreMarked marks places = (k : ℕ) → In k places → IsMarked marks k
 -- places of which none follows another
 abbrev pub AreUnlinked : List (List ℕ) → Type 0
 AreUnlinked graph = (i k : ℕ) → In k (followers graph i) → ⊥
+
+-- a place follows another one now, and beside that each follows those that it followed before
+pub record Links (old : List (List ℕ)) (place at : ℕ) (new : List (List ℕ)) : Type 0 where
+  pub there : In at (followers new place)
+  pub kept : (i k : ℕ) → In k (followers old i) → In k (followers new i)
+  pub only : (i k : ℕ) → In k (followers new i) → ((i ≡ place) × (k ≡ at)) ⊎ In k (followers old i)
 
 -- how many places have followers left
 abbrev pub some_left : List ℕ → ℕ

@@ -6,3 +6,6 @@ pub mod Tallies
 pub mod Search
 pub mod Places
 pub mod Ends
+pub mod Flaws
+pub mod Reading
+pub mod Readings

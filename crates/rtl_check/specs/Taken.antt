@@ -1,6 +1,6 @@
--- Which part of designs the check takes.
+-- What the check takes.
 use Rattle.rtl_ir.specs.Scope.{Scope, trees_alone}
 
--- cells, instances and the processes in which no rule has a line
+-- no memories and no cells of memories, and the processes in which no rule has a line
 abbrev pub taken : Scope
 taken = trees_alone

@@ -5,7 +5,9 @@ use Rattle.rtl_sig.specs.declared.sig.WireBit.{WireBit}
 use Rattle.rtl_ir.specs.declared.cell.Cell.{Cell}
 use Rattle.rtl_ir.specs.declared.cell.Pin.{Pin}
 use Rattle.rtl_ir.specs.declared.module.Link.{Link}
+use Rattle.rtl_ir.specs.declared.process.Process.{Process}
 use Rattle.rtl_ir.specs.declared.wire.Wire.{Wire}
+use Rattle.rtl_ir.specs.Assigns.{tree_bits}
 use Rattle.rtl_ir.specs.Drivers.{Drive, is_input}
 use Rattle.rtl_ir.specs.Faults.Bits.{has_two}
 use Rattle.rtl_ir.specs.Outputs.{drives_pin}
@@ -55,6 +57,10 @@ bits_of_cell ports c = flat_map (bits_of_pin (cell_type ports c.kind_name)) c.pi
 -- the bits that a connection drives, of unequal sides as far as both go
 abbrev pub bits_of_link : Link → List WireBit
 bits_of_link l = wire_bits (take (min (length l.left) (length l.right)) l.left)
+
+-- the bits that the tree of a process drives
+abbrev pub bits_of_tree : Process → List WireBit
+bits_of_tree p = tree_bits p.root
 
 -- the counts tell which bits are driven more than once
 abbrev pub Tells : Tallied → List Drive → Type 0

@@ -2,7 +2,7 @@
 
 ghost use Rattle.std.specs.Prelude.{◌≡◌, [], IfErr, IfOk};
 ghost use Rattle.rtl_ir.specs.Faults.{faults_within};
-ghost use Rattle.rtl_ir.specs.Scope.{cells_alone};
+ghost use Rattle.rtl_check.specs.Taken.{taken};
 ghost use Rattle.rtl_check.specs.Finds.{IsFirst};
 
 use crate::checked::Checked;
@@ -21,9 +21,9 @@ pub struct Refused {
 /// Takes a design that has no fault, and hands any other back with its first fault.
 pub fn check(alloc: Global, design: Design) -> Result<Checked, Refused>
     ensures accepted { IfOk result (λ checked. checked.design ≡ design) }
-    ensures faultless { IfOk result (λ checked. faults_within cells_alone design.modules ≡ []) }
+    ensures faultless { IfOk result (λ checked. faults_within taken design.modules ≡ []) }
     ensures handed_back { IfErr result (λ refused. refused.design ≡ design) }
-    ensures first { IfErr result (λ refused. IsFirst refused.fault (faults_within cells_alone design.modules)) }
+    ensures first { IfErr result (λ refused. IsFirst refused.fault (faults_within taken design.modules)) }
 {
     match check_design(alloc, design.modules.as_slice()) {
         Ok(()) => Ok(Checked::make(design)),

@@ -2,28 +2,29 @@
 
 ghost use Rattle.std.specs.Prelude.{◌≡◌, ◌<◌, List, [], IfOk, OnOk, Some, flat_map, slice_index};
 ghost use Rattle.std.specs.List.{range_with_len};
-ghost use Rattle.rtl_ir.specs.Drivers.{Drive, drives_of};
+ghost use Rattle.rtl_ir.specs.Drivers.{Drive, drives_of, rule_drives};
 ghost use Rattle.rtl_ir.specs.Faults.Bits.{bit_faults, bits_faults, faults_of_two};
 ghost use Rattle.rtl_ir.specs.Signals.{bits_of_wire};
 ghost use Rattle.rtl_ir.specs.Types as rtl;
 ghost use Rattle.net_index.specs.Numbering.{widths_of};
 ghost use Rattle.net_index.specs.Types.{AreTypes, IsType};
 ghost use Rattle.rtl_check.specs.Finds.{Finds, first_answer};
-ghost use Rattle.rtl_check.specs.Tallies.{Tells, bits_of_cell, bits_of_link, bits_of_pin, bits_of_port, port_bits, with_bits};
+ghost use Rattle.rtl_check.specs.Tallies.{Tells, bits_of_cell, bits_of_link, bits_of_pin, bits_of_port, bits_of_tree, port_bits, with_bits};
 
 use crate::fault::{CheckFault, WireSpot};
 use crate::tally::Tally;
+use crate::tree_bits::tree_bits;
 use crate::wires::spot;
 use net_index::{CellType, Types, drives_pin};
 use rtl_bits::{Copied, Memory, Text};
-use rtl_ir::{Cell, Link, Module, Pin, Role, Wire};
+use rtl_ir::{Cell, Link, Module, Pin, Process, Role, Wire};
 use rtl_sig::WireBit;
 use std::alloc::Global;
 
 /// The first fault of the bits of a module, over the types of its design: a driven bit of an input port, or a bit
 /// with two drivers.
 pub(crate) fn check_bits(alloc: Global, types: &Types, body: &Module) -> Result<(), CheckFault>
-    requires process_free { body.now.processes ≡ [] }
+    requires lineless { rule_drives 0 body.now.processes ≡ [] }
     ensures first { (ports : rtl.Ports) → AreTypes types.now ports →
         Finds result (bits_faults body.now.id (drives_of ports body.now) 0 body.now.wires) }
 {
@@ -32,6 +33,7 @@ pub(crate) fn check_bits(alloc: Global, types: &Types, body: &Module) -> Result<
     count_ports(&mut tally, wires)?;
     count_cells(&mut tally, types, body.cells.as_slice());
     count_links(&mut tally, body.links.as_slice());
+    count_trees(alloc, &mut tally, body.processes.as_slice())?;
     check_wires(&body.id, &tally, wires)
 }
 
@@ -156,4 +158,24 @@ fn count_link(tally: &mut Tally, link: &Link)
     let left = link.left.as_slice();
     let width = left.len().min(link.right.as_slice().len());
     tally.add_all(&left[..width]);
+}
+
+/// Counts the bits that the trees of the processes drive.
+fn count_trees(alloc: Global, tally: &mut Tally, processes: &[Process]) -> Result<(), Memory>
+    ensures ok { OnOk result (tally.new ≡ with_bits tally.old (flat_map bits_of_tree processes.now)) }
+{
+    for process in processes {
+        let bits = tree_bits(alloc, &process.root)?;
+        count_bits(tally, bits.as_slice());
+    }
+    Ok(())
+}
+
+/// Counts each of the bits.
+fn count_bits(tally: &mut Tally, bits: &[WireBit])
+    ensures value { tally.new ≡ with_bits tally.old bits.now }
+{
+    for bit in bits {
+        tally.add(*bit);
+    }
 }

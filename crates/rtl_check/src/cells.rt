@@ -7,7 +7,7 @@ ghost use Rattle.rtl_ir.specs.declared.module.Module.{Module};
 ghost use Rattle.rtl_ir.specs.declared.ports.PortLine.{PortLine};
 ghost use Rattle.rtl_ir.specs.Fault.{spot};
 ghost use Rattle.rtl_ir.specs.Faults.Cells as cells;
-ghost use Rattle.rtl_ir.specs.Scope.{cells_alone};
+ghost use Rattle.rtl_check.specs.Taken.{taken};
 ghost use Rattle.rtl_ir.specs.Types as rtl;
 ghost use Rattle.net_index.specs.Types.{AreTypes, IsTable, IsType};
 ghost use Rattle.rtl_check.specs.Finds.{Finds};
@@ -24,7 +24,7 @@ use std::alloc::Global;
 /// The first fault of the cells of a module, over the types of its design. There are no cells of memories so far.
 pub(crate) fn check_cells(alloc: Global, types: &Types, body: &Module) -> Result<(), CheckFault>
     ensures first { (ports : rtl.Ports) → AreTypes types.now ports →
-        Finds result (cells.cell_faults cells_alone ports body.now [] body.now.cells) }
+        Finds result (cells.cell_faults taken ports body.now [] body.now.cells) }
 {
     for cell in body.cells.as_slice() {
         let cell_type = types.find(cell.kind_name.as_slice());
@@ -36,7 +36,7 @@ pub(crate) fn check_cells(alloc: Global, types: &Types, body: &Module) -> Result
 /// The first fault of a cell of this type.
 fn check_cell(alloc: Global, id: &Text, cell: &Cell, cell_type: &CellType) -> Result<(), CheckFault>
     ensures first { (type : rtl.CellType) → IsType cell_type.now type → (m : Module) → m.id ≡ id.now → (earlier : List Cell) →
-        Finds result (cells.faults_by_type cells_alone m earlier cell.now type) }
+        Finds result (cells.faults_by_type taken m earlier cell.now type) }
 {
     match cell_type {
         CellType::Library(kind) => check_library_cell(alloc, id, cell, *kind),
@@ -54,7 +54,7 @@ fn check_library_cell(
     kind: CellKind,
 ) -> Result<(), CheckFault>
     ensures first { (m : Module) → m.id ≡ id.now → (earlier : List Cell) →
-        Finds result (cells.faults_by_type cells_alone m earlier cell.now (rtl.Library kind)) }
+        Finds result (cells.faults_by_type taken m earlier cell.now (rtl.Library kind)) }
 {
     if is_memory(kind) {
         return Err(CheckFault::UnsupportedCell(spot(id, &cell.name)?));
@@ -92,7 +92,7 @@ fn check_outputs(id: &Text, cell: &Cell, cell_type: &CellType) -> Result<(), Che
 /// The first fault of an instance of a module with these ports.
 fn check_instance(id: &Text, cell: &Cell, ports: &PortNames) -> Result<(), CheckFault>
     ensures first { (lines : List PortLine) → IsTable ports.now lines → (m : Module) → m.id ≡ id.now → (earlier : List Cell) →
-        Finds result (cells.faults_by_type cells_alone m earlier cell.now (rtl.Instance lines)) }
+        Finds result (cells.faults_by_type taken m earlier cell.now (rtl.Instance lines)) }
 {
     if !cell.params.as_slice().is_empty() || lacks_port(cell.pins.as_slice(), ports) {
         return Err(CheckFault::BadParameterOrPort(spot(id, &cell.name)?));

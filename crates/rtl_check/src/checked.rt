@@ -2,7 +2,7 @@
 
 ghost use Rattle.std.specs.Prelude.{◌≡◌, []};
 ghost use Rattle.rtl_ir.specs.Faults.{faults_within};
-ghost use Rattle.rtl_ir.specs.Scope.{cells_alone};
+ghost use Rattle.rtl_check.specs.Taken.{taken};
 
 use rtl_ir::Design;
 
@@ -10,13 +10,13 @@ use rtl_ir::Design;
 #[derive(Drop)]
 pub struct Checked {
     design: Design,
-    ghost faultless: { faults_within cells_alone design.modules ≡ [] },
+    ghost faultless: { faults_within taken design.modules ≡ [] },
 }
 
 impl Checked {
     /// Takes a design that has no fault.
     pub(crate) fn make(design: Design) -> Checked
-        requires faultless { faults_within cells_alone design.modules ≡ [] }
+        requires faultless { faults_within taken design.modules ≡ [] }
         ensures value { result.design ≡ design }
     {
         Checked { design }
@@ -25,7 +25,7 @@ impl Checked {
     /// The design.
     pub fn design(&self) -> &Design
         ensures value { result.now ≡ self.now.design }
-        ensures faultless { faults_within cells_alone result.now.modules ≡ [] }
+        ensures faultless { faults_within taken result.now.modules ≡ [] }
     {
         &self.design
     }
@@ -33,7 +33,7 @@ impl Checked {
     /// The design, given away.
     pub fn into_design(self) -> Design
         ensures value { result ≡ self.design }
-        ensures faultless { faults_within cells_alone result.modules ≡ [] }
+        ensures faultless { faults_within taken result.modules ≡ [] }
     {
         self.design
     }

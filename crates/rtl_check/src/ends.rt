@@ -2,7 +2,7 @@
 
 ghost use Rattle.std.specs.Prelude.{◌≡◌, ◌<◌, ◌+◌, ℕ, length, true, IfOk, OnOk};
 ghost use Rattle.std.specs.Bool.{OnTrue};
-ghost use Rattle.rtl_check.specs.Ends.{AreBelow, AreEnding, AreMarked, to_do};
+ghost use Rattle.rtl_check.specs.Ends.{AreBelow, AreEnding, AreMarked, AreUnlinked, Links, to_do};
 ghost use Rattle.rtl_check.specs.Search.{IsGraph, rows_of};
 
 use crate::search::Graph;
@@ -46,8 +46,9 @@ fn leading_to(alloc: Global, graph: &[Vec<usize>]) -> Result<Graph, Memory>
 }
 
 /// So many places, of which none follows another.
-fn unlinked(alloc: Global, count: usize) -> Result<Graph, Memory>
+pub(crate) fn unlinked(alloc: Global, count: usize) -> Result<Graph, Memory>
     ensures size { IfOk result (λ graph. length graph.items ≡ count) }
+    ensures none { IfOk result (λ graph. AreUnlinked (rows_of graph.items)) }
     ensures graph { IfOk result (λ graph. IsGraph (rows_of graph.items)) }
 {
     let mut graph = Vec::with_capacity(alloc, count)?;
@@ -72,12 +73,13 @@ fn link_all(graph: &mut Graph, places: &[usize], at: usize) -> Result<(), Memory
 }
 
 /// Puts a place among those that follow another.
-fn link(graph: &mut Graph, place: usize, at: usize) -> Result<(), Memory>
+pub(crate) fn link(graph: &mut Graph, place: usize, at: usize) -> Result<(), Memory>
     requires graph { IsGraph (rows_of graph.old.items) }
     requires place { place < length graph.old.items }
     requires in_range { at < length graph.old.items }
     ensures size { length graph.new.items ≡ length graph.old.items }
     ensures graph { OnOk result (IsGraph (rows_of graph.new.items)) }
+    ensures links { OnOk result (Links (rows_of graph.old.items) place at (rows_of graph.new.items)) }
 {
     graph[place].push(at)?;
     Ok(())

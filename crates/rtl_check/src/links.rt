@@ -40,7 +40,7 @@ fn spot(id: &Text, at: usize) -> Result<Spot, Memory>
 }
 
 /// Whether the sides have different widths.
-fn is_uneven(link: &Link) -> bool
+pub(crate) fn is_uneven(link: &Link) -> bool
     ensures value { result ≡ is_uneven link.now }
 {
     link.left.as_slice().len() != link.right.as_slice().len()

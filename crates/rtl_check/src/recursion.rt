@@ -36,7 +36,7 @@ pub(crate) fn check_recursion(alloc: Global, modules: &[Module]) -> Result<(), C
 }
 
 /// Whether a chain leads from the place back to it. From those in `ending` each chain is known to end.
-fn is_recursive(
+pub(crate) fn is_recursive(
     alloc: Global,
     graph: &[Vec<usize>],
     ending: &[bool],
