@@ -36,27 +36,24 @@ use Rattle.net_model.specs.Valuation.{Valuation, read, read_all, read_words}
 use Rattle.net_model.specs.Value.{value_of as driver_value, worked_of}
 use Rattle.net_model.specs.Within.{BitIn, Each, SigIn}
 use Rattle.map_laws.proofs.Expanding.{cells_are, expansion, links_are, wires_count}
+use Rattle.map_laws.proofs.Renaming.{renamed}
 use Rattle.map_laws.proofs.Reordering.{to_permutation}
 use Rattle.map_laws.proofs.Wholes.{cell_more}
+use Rattle.map_laws.specs.Operand.{pin_signal}
 use Rattle.map_laws.specs.Expansion.{Adds, IsExpansion, IsWhole, IsWholeLink, StandsWith, bits_from, cells_added, kind_bits, links_added}
 use Rattle.pass_laws.proofs.Outputs.{output_wires}
 use Rattle.gate_nets.specs.Gate.{gate_of}
-use Rattle.gate_nets.specs.Give.{give_to}
-use Rattle.gate_nets.specs.Operand.{pin_signal}
+use Rattle.gate_nets.specs.Give.{give_to, given}
 use Rattle.gate_nets.specs.Reading.{IsReading, gates_of}
 use Rattle.gate_nets.specs.declared.gate.Gate.{Gate}
 use Rattle.gate_nets.proofs.Added.{adds_gates, cells_of, next_number, wires_of}
-use Rattle.gate_nets.proofs.Nets.{Net}
+use Rattle.gate_nets.proofs.Nets.{Net, nothing}
 use Rattle.gate_nets.proofs.Standing.{at_extended, fair_rows, here, here_reads, length-extended, outputs_met, reads, shape_kind}
 use Rattle.gate_nets.proofs.Wholes.{cell_names, fair_names, gates_bits, gates_whole, names, no_instances, wire_names, wires_bare}
 
 -- the connection of an output to bits
 abbrev pub line_of : List SigBit → List SigBit → Link
 line_of y bits = record { left = y; right = extended bits (length y) false }
-
--- a net, and its result given to an output
-abbrev pub given : List SigBit → Build (List SigBit) → Building → Building
-given y m b = give_to y (m b).0 (m b).1
 
 -- gates, and then bits given to an output
 adds_line : (y bits : List SigBit) (gates : List Gate) (b : Building) → Adds b (give_to y bits (gates_of gates b)) (cells_of b.next (length b.body.wires) gates) (wires_of b.next gates) (line_of y bits ∷ [])
@@ -77,6 +74,10 @@ pub adds_given : (y : List SigBit) (m : Build (List SigBit)) (b : Building) (gat
     → Adds b (given y m b) (cells_of b.next (length b.body.wires) gates) (wires_of b.next gates) (line_of y (m b).0 ∷ [])
 adds_given y m b gates e =
     subst (λ z. Adds b (give_to y (m b).0 z) (cells_of b.next (length b.body.wires) gates) (wires_of b.next gates) (line_of y (m b).0 ∷ [])) (sym e) (adds_line y (m b).0 gates b)
+
+-- what is given does not go by the name of the module
+pub given_renamed : (id : List ℕ) (y : List SigBit) (m : Build (List SigBit)) (b : Building) {W : List SigBit → Type 0} → Net nothing (Unit {0}) m W → given y m (renamed id b) ≡ renamed id (given y m b)
+given_renamed id y m b n = ap (λ z. give_to y z.0 z.1) (n.unnamed id b)
 
 -- how many numbers gates take
 next_after : (gates : List Gate) (b : Building) → (gates_of gates b).next ≡ b.next + 2 * length gates
@@ -128,7 +129,7 @@ plain_reads = record { constant = λ b. refl }
 
 line_whole : (count : ℕ) (y bits : List SigBit) → SigIn count y → SigIn count bits → has_constant y ≡ false → Each (IsWholeLink count) (line_of y bits ∷ [])
 line_whole count y bits h k e l (inl is) = subst (IsWholeLink count) (sym is) (record {
-  even = ap (λ n. not (length y == n)) (length-extended bits (length y)) ∙ same_number (length y);
+  even = ap (λ n. not (length y == n)) (length-extended bits (length y) false) ∙ same_number (length y);
   left = e;
   within = (h, extended_in count bits (length y) k);
 })
@@ -211,5 +212,5 @@ module _ (c : Cell) (kind : WordKind) (m : Build (List SigBit)) (b : Building) w
           let zero_more : k ≡ 0 + k = omega arith in
           subst (λ z. Below (driver_value (Worked shape words z) t w) (f (slice_index_or (extended (m b).0 (length y) false) k (Fixed S0)))) zero_more
           (subst (λ z. Below (driver_value (Worked shape words k) t w) (f z)) (sym (at_extended (m b).0 (length y) k lt)) (subst (λ z. Below z (f (slice_index_or (m b).0 k (Fixed S0)))) (value k) (says k lt))) in
-          outputs_met ports start p wires t w shape words y (extended (m b).0 (length y) false) 0 (length-extended (m b).0 (length y)) below
+          outputs_met ports start p wires t w shape words y (extended (m b).0 (length y) false) 0 (length-extended (m b).0 (length y) false) below
           (λ x j. all x (In-right x cells links (In-left x (joins (points p wires y) (points p wires (extended (m b).0 (length y) false))) [] j))) d i

@@ -2,8 +2,6 @@
 use Rattle.std.proofs.Common.{◌≡◌, ℕ, suc, ◌+◌, ◌*◌, ◌^◌, List, [], ◌∷◌, length, refl, sym, ◌∙◌, ap, subst}
 use Rattle.std.specs.Prelude.{map, slice_index_or}
 use Rattle.std.specs.List.{fold}
-use Rattle.cell_gate.proofs.Monotone.{output_below}
-use Rattle.cell_gate.specs.Gates.{output_of}
 use Rattle.cell_types.specs.declared.word.BitwiseKind.{BitwiseKind}
 use Rattle.rtl_bits.proofs.Lists.{AreBelow_known}
 use Rattle.rtl_bits.proofs.Orders.{Below_known, Below_refl, Below_trans}
@@ -14,13 +12,14 @@ use Rattle.rtl_bits.specs.declared.bit.Bit.{Bit}
 use Rattle.rtl_bits.specs.declared.bit.Bit.TheVariants.{X}
 use Rattle.rtl_ir.specs.Build.{Build, Building}
 use Rattle.rtl_sig.specs.declared.sig.SigBit.{SigBit}
-use Rattle.gate_nets.specs.Gate.{gate_for}
 use Rattle.gate_nets.specs.Reading.{Computes, IsReading, Obeys}
 use Rattle.gate_nets.specs.Sum.{sum_of}
-use Rattle.gate_nets.specs.Words.{fold_of, inverse_of, neutral_of}
+use Rattle.gate_nets.specs.Words.{fold_of, inverse_of}
 use Rattle.gate_nets.specs.declared.gate.Gate.{Gate}
 use Rattle.gate_nets.proofs.Adding.{low_of, sums}
-use Rattle.gate_nets.proofs.Nets.{Fair, Goods, Net, carry_at, folded_at, net_fold_from, net_inverse, net_sum, sum_bit}
+use Rattle.gate_nets.proofs.Folds.{join_below, joined}
+use Rattle.gate_nets.proofs.Nets.{Fair, Goods, Net, carry_at, joined_at, net_fold, net_inverse, net_sum, neutral_bit, sum_bit}
+use Rattle.gate_nets.proofs.Operands.{length_map}
 use Rattle.gate_nets.proofs.Standing.{reads}
 
 module _ (f : SigBit → Bit) (is : IsReading f) where
@@ -52,17 +51,11 @@ module _ (f : SigBit → Bit) (is : IsReading f) where
   read_below v [] h = tt
   read_below v (y ∷ ys) h = (h.0, read_below (λ i. v (suc i)) ys h.1)
 
-  fold_below : (kind : BitwiseKind) (bits : List SigBit) (c d : Bit) → Below c d → Below (fold (λ x y. output_of (gate_for kind) x y X) c (map f bits)) (folded_at kind d (at_of bits) (length bits))
-  fold_below kind [] c d h = h
-  fold_below kind (b ∷ bits) c d h =
-      fold_below kind bits (output_of (gate_for kind) c (f b) X) (output_of (gate_for kind) d (f b) X) (output_below (gate_for kind) c d (f b) (f b) X X h (Below_refl (f b)) tt)
-
-  pub fold_computes : (kind : BitwiseKind) (e : Bit) → Below e (f (neutral_of kind)) → ((b : Bit) → Below (output_of (gate_for kind) e b X) b) → (bits : List SigBit) (old : Building)
-      → Computes f old (fold_of kind bits old) (Below (fold (λ x y. output_of (gate_for kind) x y X) e (map f bits)) (f (fold_of kind bits old).0))
-  fold_computes kind e h k [] old = record { gates = []; is = refl; holds = λ o. h }
-  fold_computes kind e h k (b ∷ bits) old =
-      computes (net_fold_from (reads f is) kind (f b) (at_of bits) b bits (λ r. Below_refl (f b)) (λ r. own_bits bits)) old
-      (Below_trans _ _ _ (fold_below kind bits (output_of (gate_for kind) e (f b) X) (f b) (k (f b))))
+  pub fold_computes : (kind : BitwiseKind) (bits : List SigBit) (old : Building) → Computes f old (fold_of kind bits old) (Below (fold (joined kind) (neutral_bit kind) (map f bits)) (f (fold_of kind bits old).0))
+  fold_computes kind bits old =
+      let value : Bit = fold (joined kind) (neutral_bit kind) (map f bits) in
+      let below : Below value (joined_at kind (at_of bits) (length bits)) = subst (λ n. Below value (joined_at kind (at_of bits) n)) (length_map f bits) (join_below kind (map f bits)) in
+      computes (net_fold (reads f is) kind (at_of bits) bits (λ r. own_bits bits)) old (Below_trans value _ _ below)
 
   inverse_low : (bits : List SigBit) → low_of (λ at. not_of (at_of bits at)) (length bits) ≡ map not_of (map f bits)
   inverse_low [] = refl

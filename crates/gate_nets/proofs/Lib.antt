@@ -6,5 +6,9 @@ pub mod Limits
 pub mod Wholes
 pub mod Standing
 pub mod Expanding
+pub mod Operands
+pub mod Values
+pub mod Folds
+pub mod Widths
 pub mod Residues
 pub mod Lawful

@@ -6,7 +6,7 @@ use Rattle.rtl_sig.specs.declared.sig.SigBit.{SigBit}
 use Rattle.net_index.specs.Builder.{IsInLimits, PassesLimit}
 use Rattle.gate_nets.specs.Gate.{after, gate_of}
 use Rattle.gate_nets.specs.Sum.{adder_of, sum_of}
-use Rattle.gate_nets.specs.Words.{each_of, fold_from, pairs_of}
+use Rattle.gate_nets.specs.Words.{each_of, fold_from, fold_of, pairs_of}
 use Rattle.gate_nets.specs.declared.adder.Total.{Total}
 use Rattle.gate_nets.specs.declared.gate.Gate.{Gate}
 use Rattle.gate_nets.specs.declared.gate.Gate.TheVariants.{Bitwise}
@@ -29,6 +29,10 @@ unfolding after
 fold_limits kind acc [] b h = h
 fold_limits kind acc (x ∷ bits) b h =
     one_limits (Bitwise kind acc x) b (fold_limits kind (gate_of (Bitwise kind acc x) b).0 bits (gate_of (Bitwise kind acc x) b).1 h)
+
+pub whole_fold_limits : (kind : BitwiseKind) (bits : List SigBit) (b : Building) → IsInLimits (fold_of kind bits b).1 → IsInLimits b
+whole_fold_limits kind [] b h = h
+whole_fold_limits kind (x ∷ bits) b h = fold_limits kind x bits b h
 
 adder_limits : (x y c : SigBit) (b : Building) → IsInLimits (adder_of x y c b).1 → IsInLimits b
 unfolding after

@@ -1,19 +1,20 @@
 -- Nets: steps that add gates alone, and what their results have under a reading.
 use Rattle.std.specs.Prelude.{replicate}
-use Rattle.std.proofs.Common.{◌≡◌, ℕ, zero, suc, ◌+◌, List, [], ◌∷◌, ◌++◌, length, refl, sym, ◌∙◌, ap, subst, arith, length-append}
+use Rattle.std.proofs.Common.{◌≡◌, ℕ, zero, suc, min, ◌+◌, List, [], ◌∷◌, ◌++◌, length, refl, sym, ◌∙◌, ap, subst, arith, length-append}
 use Rattle.cell_gate.specs.Gates.{output_of}
 use Rattle.cell_types.specs.declared.word.BitwiseKind.{BitwiseKind}
-use Rattle.cell_types.specs.declared.word.BitwiseKind.TheVariants.{And, Or, Xor}
+use Rattle.cell_types.specs.declared.word.BitwiseKind.TheVariants.{And, Or, Xor, Xnor}
 use Rattle.rtl_bits.specs.declared.bit.Bit.{Bit}
 use Rattle.rtl_bits.specs.Tables.{and_of, mux_of, not_of, or_of, xor_of}
 use Rattle.rtl_bits.specs.declared.bit.Bit.TheVariants.{S0, S1, X}
 use Rattle.rtl_ir.specs.Build.{Build, Building}
 use Rattle.rtl_sig.specs.declared.sig.SigBit.{SigBit}
 use Rattle.rtl_sig.specs.declared.sig.SigBit.TheVariants.{Fixed}
+use Rattle.map_laws.proofs.Renaming.{renamed}
 use Rattle.gate_nets.specs.Gate.{after, pure, bit_of, gate_of, gate_for}
 use Rattle.gate_nets.specs.Reading.{gates_of}
 use Rattle.gate_nets.specs.Sum.{adder_of, negative_of, sum_of}
-use Rattle.gate_nets.specs.Words.{bitwise_of, fold_from, inverse_of, select_of}
+use Rattle.gate_nets.specs.Words.{bitwise_of, fold_from, fold_of, inverse_of, pairs_of, select_of}
 use Rattle.gate_nets.specs.declared.adder.Total.{Total}
 use Rattle.gate_nets.specs.declared.gate.Gate.{Gate}
 use Rattle.gate_nets.specs.declared.gate.Gate.TheVariants.{Not, Bitwise, Mux}
@@ -46,6 +47,18 @@ abbrev pub folded_at : BitwiseKind → Bit → (ℕ → Bit) → ℕ → Bit
 folded_at kind c u zero = c
 folded_at kind c u (suc n) = folded_at kind (output_of (gate_for kind) c (u 0) X) (λ at. u (suc at)) n
 
+-- what a kind makes of no bits
+abbrev pub neutral_bit : BitwiseKind → Bit
+neutral_bit And = S1
+neutral_bit Or = S0
+neutral_bit Xor = S0
+neutral_bit Xnor = S1
+
+-- so many bits joined by a kind
+abbrev pub joined_at : BitwiseKind → (ℕ → Bit) → ℕ → Bit
+joined_at kind u zero = neutral_bit kind
+joined_at kind u (suc n) = folded_at kind (u 0) (λ at. u (suc at)) n
+
 -- a bit of a sum
 abbrev pub sum_bit : Bit → Bit → Bit → Bit
 sum_bit a b c = xor_of (xor_of a b) c
@@ -58,6 +71,13 @@ carry_bit a b c = or_of (and_of a b) (and_of (xor_of a b) c)
 abbrev pub carry_at : (ℕ → Bit) → (ℕ → Bit) → Bit → ℕ → Bit
 carry_at u v c zero = c
 carry_at u v c (suc at) = carry_at (λ i. u (suc i)) (λ i. v (suc i)) (carry_bit (u 0) (v 0) c) at
+
+-- how many gates there are for two words
+pub length-pairs : (f : SigBit → SigBit → Gate) (a b : List SigBit) (old : Building) → length (pairs_of f a b old).0 ≡ min (length a) (length b)
+unfolding after
+length-pairs f [] b old = omega arith
+length-pairs f (x ∷ a) [] old = omega arith
+length-pairs f (x ∷ a) (y ∷ b) old = omega (arith, length-pairs f a b (gate_of (f x y) old).1)
 
 -- what is said of bits: which value a bit has at least; what is assumed of a gate whose output is the wire at a place; what
 -- is shown of a gate; and how the one leads to the other
@@ -73,6 +93,18 @@ pub record Logic : Type 1 where
   pub choice :
       (u v c : Bit) (a b s : SigBit) → Has u a → Has v b → Has c s →
       Fed (Mux a b s) × ((at : ℕ) → Made at (Mux a b s) → Has (mux_of u v c) (bit_of at))
+
+-- nothing is said of bits
+abbrev pub nothing : Logic
+nothing = record {
+  Has = λ a y. Unit {0};
+  Made = λ at g. Unit {0};
+  Fed = λ g. Unit {0};
+  constant = λ b. tt;
+  inverse = λ u a h. (tt, λ at made. tt);
+  bitwise = λ kind u v a b h k. (tt, λ at made. tt);
+  choice = λ u v c a b s h k j. (tt, λ at made. tt);
+}
 
 module _ (l : Logic) where
   -- the bits of a word have these values at least, place by place
@@ -103,14 +135,38 @@ module _ (l : Logic) where
   fed-append [] ys h k = k
   fed-append (x ∷ xs) ys h k = (h.0, fed-append xs ys h.1 k)
 
-  -- a step adds gates alone; under a premise their inputs have the property, and the result is as it is said to be
+  -- a step adds gates alone, which do not go by the name of the module; under a premise their inputs have the property, and
+  -- the result is as it is said to be
   pub record Net {A : Type 0} (R : Type 0) (m : Build A) (W : A → Type 0) : Type 0 where
     pub gates : Building → List Gate
     pub is : (b : Building) → (m b).1 ≡ gates_of (gates b) b
+    pub unnamed : (id : List ℕ) (b : Building) → m (renamed id b) ≡ ((m b).0, renamed id (m b).1)
     pub holds : (b : Building) → R → Fair (length b.body.wires) (gates b) → AreFed (gates b) × W (m b).0
 
   pub net_pure : {A R : Type 0} {a : A} {W : A → Type 0} → (R → W a) → Net R (pure a) W
-  net_pure h = record { gates = λ b. []; is = λ b. refl; holds = λ b r o. (tt, h r) }
+  net_pure h = record { gates = λ b. []; is = λ b. refl; unnamed = λ id b. refl; holds = λ b r o. (tt, h r) }
+
+  -- what is so of the result, and what follows from it and from the premise
+  pub net_since : {A R : Type 0} {m : Build A} {W V : A → Type 0} → Net R m W → ((a : A) → R → W a → V a) → Net R m V
+  net_since {m = m} n h = record {
+    gates = n.gates;
+    is = n.is;
+    unnamed = n.unnamed;
+    holds = λ b r o. let x = n.holds b r o in (x.0, h (m b).0 r x.1);
+  }
+
+  -- the same without the premise
+  pub net_weaker : {A R : Type 0} {m : Build A} {W V : A → Type 0} → Net R m W → ((a : A) → W a → V a) → Net R m V
+  net_weaker n h = net_since n (λ a r. h a)
+
+  -- what is so of the result anyhow
+  pub net_also : {A R : Type 0} {m : Build A} {W V : A → Type 0} → Net R m W → ((b : Building) → V (m b).0) → Net R m (λ a. W a × V a)
+  net_also n h = record {
+    gates = n.gates;
+    is = n.is;
+    unnamed = n.unnamed;
+    holds = λ b r o. let x = n.holds b r o in (x.0, (x.1, h b));
+  }
 
   pub net_then : {A B R : Type 0} {m : Build A} {k : A → Build B} {W : A → Type 0} {V : B → Type 0} → Net R m W → ((a : A) → Net (R × W a) (k a) V) → Net R (after m k) V
   unfolding after
@@ -118,6 +174,7 @@ module _ (l : Logic) where
     gates = λ b. n.gates b ++ (h (m b).0).gates (m b).1;
     is = λ b.
         (h (m b).0).is (m b).1 ∙ ap (gates_of ((h (m b).0).gates (m b).1)) (n.is b) ∙ sym (gates-append (n.gates b) ((h (m b).0).gates (m b).1) b);
+    unnamed = λ id b. ap (λ z. k z.0 z.1) (n.unnamed id b) ∙ (h (m b).0).unnamed id (m b).1;
     holds = λ b r o.
         let xs : List Gate = n.gates b in
         let ys : List Gate = (h (m b).0).gates (m b).1 in
@@ -132,6 +189,7 @@ module _ (l : Logic) where
   net_gate g v h = record {
     gates = λ b. g ∷ [];
     is = λ b. refl;
+    unnamed = λ id b. refl;
     holds = λ b r o. (((h r).0, tt), (h r).1 (length b.body.wires) o.0);
   }
 
@@ -183,6 +241,14 @@ module _ (l : Logic) where
   net_fold_from kind c u acc (b ∷ bits) h k =
       net_then (net_bitwise kind c (u 0) h (λ r. (k r).0)) λ y.
       net_fold_from kind (output_of (gate_for kind) c (u 0) X) (λ at. u (suc at)) y bits (λ r. r.1) (λ r. (k r.0).1)
+
+  -- all bits of a word joined
+  pub net_fold : (kind : BitwiseKind) (u : ℕ → Bit) (bits : List SigBit) {R : Type 0} → (R → Goods u bits) → Net R (fold_of kind bits) (l.Has (joined_at kind u (length bits)))
+  net_fold And u [] h = net_pure (λ r. l.constant S1)
+  net_fold Or u [] h = net_pure (λ r. l.constant S0)
+  net_fold Xor u [] h = net_pure (λ r. l.constant S0)
+  net_fold Xnor u [] h = net_pure (λ r. l.constant S1)
+  net_fold kind u (b ∷ bits) h = net_fold_from kind (u 0) (λ at. u (suc at)) b bits (λ r. (h r).0) (λ r. (h r).1)
 
   -- a bit of a sum, and the carry
   pub net_adder : {R : Type 0} (u v w : Bit) {a b c : SigBit} → (R → l.Has u a) → (R → l.Has v b) → (R → l.Has w c)

@@ -1,5 +1,5 @@
 -- Nets that stand for word cells: what a net gives to the output of a cell is at least the cell's value.
-use Rattle.std.proofs.Common.{◌≡◌, ◌<◌, ℕ, zero, suc, ◌+◌, ◌-◌, false, List, [], ◌∷◌, ◌++◌, length, Some, inl, inr, refl, sym, ◌∙◌, ap, subst, arith, length-append}
+use Rattle.std.proofs.Common.{◌≡◌, ◌<◌, ℕ, zero, suc, ◌+◌, ◌-◌, Bool, false, List, [], ◌∷◌, ◌++◌, length, Some, inl, inr, refl, sym, ◌∙◌, ap, subst, arith, length-append}
 use Rattle.std.specs.Prelude.{replicate, slice_index_or, take}
 use Rattle.std.proofs.lemmas.List.{length-take}
 use Rattle.cell_gate.proofs.Monotone.{output_below}
@@ -20,7 +20,7 @@ use Rattle.rtl_ir.specs.Flat.Place.{Path, Place}
 use Rattle.rtl_ir.specs.Flat.Point.{Point, Constant, At, bit_place, point, points}
 use Rattle.rtl_ir.specs.declared.cell.CellParam.{CellParam}
 use Rattle.rtl_ir.specs.declared.wire.Wire.{Wire}
-use Rattle.rtl_sig.specs.Signal.{extended}
+use Rattle.rtl_sig.specs.Signal.{extended, fill_of}
 use Rattle.rtl_sig.specs.declared.sig.SigBit.{SigBit}
 use Rattle.rtl_sig.specs.declared.sig.SigBit.TheVariants.{Fixed}
 use Rattle.net_model.proofs.Members.{In-left, In-right}
@@ -152,6 +152,6 @@ at_extended (b ∷ bits) (suc n) (suc k) h =
     let e : suc n - suc (length bits) ≡ n - length bits = omega arith in
     ap (λ z. slice_index_or (take n bits ++ replicate z (Fixed S0)) k (Fixed S0)) e ∙ at_extended bits n k (omega arith)
 
-pub length-extended : (bits : List SigBit) (n : ℕ) → length (extended bits n false) ≡ n
-length-extended bits n =
-    omega (arith, length-append (take n bits) (replicate (n - length bits) (Fixed S0)), length-take n bits, length-replicate (n - length bits) (Fixed S0))
+pub length-extended : (bits : List SigBit) (n : ℕ) (signed : Bool) → length (extended bits n signed) ≡ n
+length-extended bits n signed =
+    omega (arith, length-append (take n bits) (replicate (n - length bits) (fill_of bits signed)), length-take n bits, length-replicate (n - length bits) (fill_of bits signed))

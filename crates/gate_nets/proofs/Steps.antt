@@ -21,7 +21,7 @@ abbrev pub below_total : List SigBit → Total × Building → Total × Building
 below_total made r = (record { bits = made ++ r.0.bits; carry = r.0.carry }, r.1)
 
 -- what is left at a place of a word that is not its end
-left_at : (bits : List SigBit) (at : ℕ) (d : SigBit) → at < length bits → drop at bits ≡ get_or bits at d ∷ drop (at + 1) bits
+pub left_at : (bits : List SigBit) (at : ℕ) (d : SigBit) → at < length bits → drop at bits ≡ get_or bits at d ∷ drop (at + 1) bits
 left_at bits at d h =
     let e : suc at ≡ at + 1 = omega arith in
     drop-cons bits at d h ∙ ap (λ n. get_or bits at d ∷ drop n bits) e

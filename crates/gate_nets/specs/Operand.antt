@@ -1,20 +1,16 @@
--- The operands of cells.
-use Rattle.std.specs.Prelude.{◌≡◌, List, Ok, Some}
-use Rattle.cell_types.specs.PinName.{pin_text}
-use Rattle.cell_types.specs.Shape.{shape_of}
+-- The operands of cells, at a width.
+use Rattle.std.specs.Prelude.{ℕ, Bool, List, length, max}
 use Rattle.cell_types.specs.declared.pin_name.PinName.{PinName}
-use Rattle.cell_types.specs.declared.shape.Shape.{Shape}
-use Rattle.rtl_ir.specs.Faults.Cells.{pin_widths}
-use Rattle.rtl_ir.specs.Flat.Cell.{cell_kind}
-use Rattle.rtl_ir.specs.Parameters.{given_params, signal_at}
+use Rattle.cell_types.specs.declared.pin_name.PinName.TheVariants.{A, B}
 use Rattle.rtl_ir.specs.declared.cell.Cell.{Cell}
+use Rattle.rtl_sig.specs.Signal.{extended}
 use Rattle.rtl_sig.specs.declared.sig.SigBit.{SigBit}
+use Rattle.map_laws.specs.Operand.{pin_signal}
 
--- the shape is that of the cell
-pub record IsShapeOf (c : Cell) (shape : Shape) : Type 0 where
-  pub kind : cell_kind c ≡ Some shape.kind
-  pub given : shape_of shape.kind (given_params c.params) (pin_widths c.pins) ≡ Ok shape
+-- the greater width of the operands A and B
+abbrev pub greater_width : Cell → ℕ
+greater_width c = max (length (pin_signal c A)) (length (pin_signal c B))
 
--- the signal at a pin of a cell
-abbrev pub pin_signal : Cell → PinName → List SigBit
-pin_signal c name = signal_at c.pins (pin_text name)
+-- an operand, cut or filled up to a width
+abbrev pub operand_of : Cell → PinName → ℕ → Bool → List SigBit
+operand_of c name width signed = extended (pin_signal c name) width signed

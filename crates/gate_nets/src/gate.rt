@@ -23,7 +23,7 @@ pub enum Gate {
 }
 
 /// The gate that does with bits what the kind does with words.
-fn gate_for(kind: BitwiseKind) -> GateKind
+pub fn gate_for(kind: BitwiseKind) -> GateKind
     ensures value { result ≡ gate_for kind }
 {
     match kind {
@@ -35,7 +35,7 @@ fn gate_for(kind: BitwiseKind) -> GateKind
 }
 
 /// A pin of one bit.
-fn one(alloc: Global, name: PinName, bit: SigBit) -> Result<Pin, Memory>
+pub fn one(alloc: Global, name: PinName, bit: SigBit) -> Result<Pin, Memory>
     ensures value { IfOk result (λ pin. pin ≡ one name bit) }
 {
     Ok(Pin {

@@ -3,7 +3,8 @@
 ghost use Rattle.std.specs.Prelude.{◌≡◌, IfOk};
 ghost use Rattle.rtl_ir.specs.Parameters.{signal_at};
 ghost use Rattle.rtl_sig.specs.Signal.{extended, fill_of};
-ghost use Rattle.gate_nets.specs.Operand.{pin_signal};
+ghost use Rattle.map_laws.specs.Operand.{pin_signal};
+ghost use Rattle.gate_nets.specs.Operand.{greater_width, operand_of};
 
 use cell_types::PinName;
 use rtl_bits::{Bit, Memory};
@@ -30,7 +31,7 @@ fn signal_at<'a>(pins: &'a [Pin], name: &[u8]) -> &'a [SigBit]
 }
 
 /// What fills an operand up: its top bit where it is signed, else 0.
-fn fill_of(signed: bool, bits: &[SigBit]) -> SigBit
+pub fn fill_of(signed: bool, bits: &[SigBit]) -> SigBit
     ensures value { result ≡ fill_of bits.now signed }
 {
     match bits.last() {
@@ -51,4 +52,27 @@ pub fn extended(
     let mut wide = Vec::from_slice(alloc, bits)?;
     wide.resize(width, fill_of(signed, bits))?;
     Ok(SigSpec::from_vec(wide))
+}
+
+/// An operand of a cell, cut or filled up to a width.
+pub fn operand_of(
+    alloc: Global,
+    cell: &Cell,
+    pin: PinName,
+    width: usize,
+    signed: bool,
+) -> Result<SigSpec, Memory>
+    ensures value { IfOk result (λ bits. bits ≡ operand_of cell.now pin width signed) }
+{
+    extended(alloc, pin_signal(cell, pin), width, signed)
+}
+
+/// The greater width of the operands A and B: to it the operands of the cells that compare words are
+/// extended.
+pub fn greater_width(cell: &Cell) -> usize
+    ensures value { result ≡ greater_width cell.now }
+{
+    let a = pin_signal(cell, PinName::A).len();
+    let b = pin_signal(cell, PinName::B).len();
+    a.max(b)
 }

@@ -1,13 +1,10 @@
 -- The gates of a cell are an expansion of it, and stand for it.
-use Rattle.std.proofs.Common.{◌≡◌, ℕ, suc, true, List, [], ◌∷◌, Option, Some, None, Ok, length, inl, inr, refl, sym, ◌∙◌, ap, subst, arith}
+use Rattle.std.proofs.Common.{◌≡◌, true, List, Some, length, sym, ◌∙◌, ap, subst, arith}
 use Rattle.std.specs.Prelude.{if◌then◌else◌, map, slice_index_or}
-use Rattle.cell_types.specs.Fault.{fault_of}
 use Rattle.cell_types.specs.PinName.{pin_text}
-use Rattle.cell_types.specs.Shape.{made_shape, unless}
-use Rattle.cell_types.specs.declared.fault.CellFault.{CellFault}
 use Rattle.cell_types.specs.declared.kind.CellKind.{CellKind}
 use Rattle.cell_types.specs.declared.kind.CellKind.TheVariants.{Word}
-use Rattle.cell_types.specs.declared.pin_name.PinName.TheVariants.{A, B, S}
+use Rattle.cell_types.specs.declared.pin_name.PinName.TheVariants.{A, B, S, Y}
 use Rattle.cell_types.specs.declared.shape.Shape.{Shape}
 use Rattle.cell_types.specs.declared.word.WordKind.{WordKind}
 use Rattle.cell_word.specs.Values as word_values
@@ -16,48 +13,29 @@ use Rattle.rtl_bits.specs.Knowledge.{Below}
 use Rattle.rtl_bits.specs.declared.bit.Bit.{Bit}
 use Rattle.rtl_bits.specs.declared.bit.Bit.TheVariants.{S0, X}
 use Rattle.rtl_ir.specs.Build.{Building}
-use Rattle.rtl_ir.specs.Faults.Cells.{pin_widths}
 use Rattle.rtl_ir.specs.Flat.Cell.{Ports, cell_kind, cell_shape}
-use Rattle.rtl_ir.specs.Parameters.{given_params}
 use Rattle.rtl_ir.specs.declared.cell.Cell.{Cell}
 use Rattle.rtl_ir.specs.declared.wire.Wire.{Wire}
 use Rattle.rtl_sig.specs.declared.sig.SigBit.{SigBit}
 use Rattle.rtl_sig.specs.declared.sig.SigBit.TheVariants.{Fixed}
 use Rattle.net_model.proofs.Ranges.{signal_in}
-use Rattle.net_model.specs.Within.{BitIn, SigIn}
 use Rattle.map_laws.proofs.Wholes.{cell_more}
 use Rattle.map_laws.specs.Expansion.{IsExpansion, IsWhole, StandsWith, cells_added, links_added}
-use Rattle.gate_nets.specs.Operand.{IsShapeOf, pin_signal}
+use Rattle.map_laws.proofs.Shaping.{shape_is}
+use Rattle.map_laws.specs.Operand.{IsShapeOf, pin_signal}
+use Rattle.gate_nets.specs.Give.{given}
+use Rattle.gate_nets.specs.Operand.{greater_width}
+use Rattle.gate_nets.proofs.Operands.{goods_in, length_map}
 use Rattle.gate_nets.proofs.Expanding.{net_expands, net_stands}
-use Rattle.gate_nets.proofs.Nets.{Goods}
+use Rattle.gate_nets.proofs.Nets.{net_weaker}
 use Rattle.gate_nets.proofs.Standing.{reads}
 use Rattle.gate_nets.proofs.Wholes.{names}
-use Rattle.map_add.specs.Expand.{given, greater_width, is_mapped, map_of, value_of}
-use Rattle.map_add.proofs.Nets.{net_value, net_weaker}
+use Rattle.map_add.specs.Expand.{is_mapped, map_of, value_of}
+use Rattle.map_add.proofs.Nets.{net_value}
 use Rattle.map_add.proofs.Values.{value_below}
 
-given_shape : (fault : Option CellFault) (made shape : Shape) → unless fault made ≡ Ok shape → shape ≡ made
-given_shape None made shape e = cc
-given_shape (Some fault) made shape e = absurd (cc)
-
--- the shape of a cell is that of its parameters
-shape_is : (c : Cell) (shape : Shape) → IsShapeOf c shape → shape ≡ cell_shape shape.kind c.params
-unfolding cell_shape
-shape_is c shape is =
-    given_shape (fault_of shape.kind (given_params c.params) (pin_widths c.pins)) (made_shape shape.kind (given_params c.params)) shape is.given
-
--- bits that are said to name wires do
-goods_in : (count : ℕ) (v : ℕ → Bit) (bits : List SigBit) → Goods (names count) v bits → SigIn count bits
-goods_in count v [] h s i = absurd i
-goods_in count v (b ∷ bits) h s (inl e) = subst (BitIn count) (sym e) h.0
-goods_in count v (b ∷ bits) h s (inr i) = goods_in count (λ k. v (suc k)) bits h.1 s i
-
-length_map : (f : SigBit → Bit) (bits : List SigBit) → length (map f bits) ≡ length bits
-length_map f [] = refl
-length_map f (b ∷ bits) = ap suc (length_map f bits)
-
 module _ (c : Cell) (kind : WordKind) (b : Building) where
-  word_expands : (shape : Shape) → IsWhole (length b.body.wires) (Word kind) c → IsExpansion b (given (value_of (Word kind) shape c) c b) c
+  word_expands : (shape : Shape) → IsWhole (length b.body.wires) (Word kind) c → IsExpansion b (given (pin_signal c Y) (value_of (Word kind) shape c) b) c
   word_expands shape whole =
       net_expands c kind (value_of (Word kind) shape c) b whole
       (λ count more.
@@ -66,7 +44,7 @@ module _ (c : Cell) (kind : WordKind) (b : Building) where
       (λ bits w. goods_in count _ bits w.0))
 
   word_stands : (shape : Shape) → shape ≡ cell_shape (Word kind) c.params → cell_kind c ≡ Some (Word kind) → is_mapped (Word kind) ≡ true → (ports : Ports) (start : SigBit → Bit) (wires : List Wire)
-      → StandsWith ports start wires c (cells_added b (given (value_of (Word kind) shape c) c b)) (links_added b (given (value_of (Word kind) shape c) c b))
+      → StandsWith ports start wires c (cells_added b (given (pin_signal c Y) (value_of (Word kind) shape c) b)) (links_added b (given (pin_signal c Y) (value_of (Word kind) shape c) b))
   word_stands shape same word m =
       net_stands c kind (value_of (Word kind) shape c) b word
       (λ f is.
@@ -77,19 +55,19 @@ module _ (c : Cell) (kind : WordKind) (b : Building) where
       (omega (arith, length_map f (pin_signal c A))) (omega (arith, length_map f (pin_signal c B))) w.0 w.1 at)))
 
 module _ (c : Cell) (b : Building) where
-  kind_expands : (kind : CellKind) (shape : Shape) → is_mapped kind ≡ true → IsWhole (length b.body.wires) kind c → IsExpansion b (given (value_of kind shape c) c b) c
+  kind_expands : (kind : CellKind) (shape : Shape) → is_mapped kind ≡ true → IsWhole (length b.body.wires) kind c → IsExpansion b (given (pin_signal c Y) (value_of kind shape c) b) c
   kind_expands (Word kind) shape m whole = word_expands c kind b shape whole
   kind_expands kind shape m whole = absurd (cc)
 
   kind_stands : (kind : CellKind) (shape : Shape) → shape ≡ cell_shape kind c.params → cell_kind c ≡ Some kind → is_mapped kind ≡ true → (ports : Ports) (start : SigBit → Bit) (wires : List Wire)
-      → StandsWith ports start wires c (cells_added b (given (value_of kind shape c) c b)) (links_added b (given (value_of kind shape c) c b))
+      → StandsWith ports start wires c (cells_added b (given (pin_signal c Y) (value_of kind shape c) b)) (links_added b (given (pin_signal c Y) (value_of kind shape c) b))
   kind_stands (Word kind) shape same word m = word_stands c kind b shape same word m
   kind_stands kind shape same word m = absurd (cc)
 
 -- the same of what is answered
 module _ (c : Cell) (b new : Building) (shape : Shape) (e : new ≡ map_of shape c b) where
-  is_given : is_mapped shape.kind ≡ true → new ≡ given (value_of shape.kind shape c) c b
-  is_given m = e ∙ ap (λ t. if t then given (value_of shape.kind shape c) c b else b) m
+  is_given : is_mapped shape.kind ≡ true → new ≡ given (pin_signal c Y) (value_of shape.kind shape c) b
+  is_given m = e ∙ ap (λ t. if t then given (pin_signal c Y) (value_of shape.kind shape c) b else b) m
 
   pub expanded : IsShapeOf c shape → is_mapped shape.kind ≡ true → IsWhole (length b.body.wires) shape.kind c → IsExpansion b new c
   expanded is m whole = subst (λ n. IsExpansion b n c) (sym (is_given m)) (kind_expands c b shape.kind shape m whole)

@@ -3,3 +3,4 @@ pub mod Nets
 pub mod Ranks
 pub mod Values
 pub mod Expanded
+pub mod Renaming

@@ -1,7 +1,6 @@
 -- What the nets of sums and orders have, whatever is said of bits.
-use Rattle.std.proofs.lemmas.List.{length-replicate, length-take}
-use Rattle.std.proofs.Common.{◌≡◌, length-append, ℕ, zero, suc, ◌-◌, Bool, true, false, List, [], ◌∷◌, ◌++◌, length, inl, inr, refl, sym, ◌∙◌, ap, subst, arith}
-use Rattle.std.specs.Prelude.{map, replicate, slice_get, slice_index_or, take, unwrap_or}
+use Rattle.std.proofs.Common.{◌≡◌, ℕ, zero, suc, Bool, true, false, List, [], ◌∷◌, length, refl, sym, ◌∙◌, ap, subst}
+use Rattle.std.specs.Prelude.{map}
 use Rattle.cell_types.specs.declared.kind.CellKind.{CellKind}
 use Rattle.cell_types.specs.declared.kind.CellKind.TheVariants.{Word}
 use Rattle.cell_types.specs.declared.pin_name.PinName.TheVariants.{A, B}
@@ -13,21 +12,20 @@ use Rattle.cell_types.specs.declared.word.OrderKind.TheVariants.{Lt, Le, Ge, Gt}
 use Rattle.cell_types.specs.declared.word.UnaryKind.TheVariants.{Neg}
 use Rattle.cell_types.specs.declared.word.WordKind.TheVariants.{Unary, Arith, Order}
 use Rattle.cell_word.specs.Values.{both_signed}
-use Rattle.cell_word.specs.Words as words
 use Rattle.cell_word.specs.Words.{extended_at}
-use Rattle.rtl_bits.specs.Numbers.{top_of}
 use Rattle.rtl_bits.specs.Tables.{not_of}
 use Rattle.rtl_bits.specs.declared.bit.Bit.{Bit}
 use Rattle.rtl_bits.specs.declared.bit.Bit.TheVariants.{S0, S1, X}
-use Rattle.rtl_ir.specs.Build.{Build}
 use Rattle.rtl_ir.specs.declared.cell.Cell.{Cell}
-use Rattle.rtl_sig.specs.Signal.{extended, fill_of}
 use Rattle.rtl_sig.specs.declared.sig.SigBit.{SigBit}
 use Rattle.rtl_sig.specs.declared.sig.SigBit.TheVariants.{Fixed}
 use Rattle.net_model.specs.Lists.{In}
-use Rattle.gate_nets.specs.Operand.{pin_signal}
-use Rattle.gate_nets.proofs.Nets.{Goods, IsSum, Logic, Net, carry_at, net_inverse, net_negative, net_not, net_pure, net_sum, net_then, sum_bit}
-use Rattle.map_add.specs.Expand.{greater_width, operand_of, value_of}
+use Rattle.map_laws.specs.Operand.{pin_signal}
+use Rattle.gate_nets.specs.Operand.{greater_width, operand_of}
+use Rattle.gate_nets.proofs.Operands.{goods_extended}
+use Rattle.gate_nets.proofs.Standing.{length-extended}
+use Rattle.gate_nets.proofs.Nets.{Goods, IsSum, Logic, Net, carry_at, net_inverse, net_negative, net_not, net_pure, net_sum, net_then, net_weaker, sum_bit}
+use Rattle.map_add.specs.Expand.{value_of}
 use Rattle.map_add.specs.Order.{less_of, not_less_of, order_of, ranked_of, top_inverted}
 use Rattle.map_add.specs.Sum.{arith_of, difference_of}
 
@@ -67,14 +65,6 @@ width_of Sub n = n
 width_of Mul n = 0
 
 module _ (l : Logic) where
-  -- what is so of the result, and what follows from it
-  pub net_weaker : {A R : Type 0} {m : Build A} {W V : A → Type 0} → Net l R m W → ((a : A) → W a → V a) → Net l R m V
-  net_weaker {m = m} n h = record {
-    gates = n.gates;
-    is = n.is;
-    holds = λ b r o. let x = n.holds b r o in (x.0, h (m b).0 x.1);
-  }
-
   pub net_difference : (u v : ℕ → Bit) (a b : List SigBit) {R : Type 0} → (R → Goods l u a) → (R → Goods l v b) → (R → length a ≡ length b)
       → Net l R (difference_of a b) (IsSum l u (λ i. not_of (v i)) S1 (length a))
   net_difference u v a b h k e =
@@ -126,47 +116,6 @@ module _ (l : Logic) where
   net_order Ge signed u v n a b h k d e = net_not_less signed u v n a b h k d e
   net_order Gt signed u v n a b h k d e = net_less signed v u n b a k h e d
 
-  -- a word that goes on with a last bit has that bit's value from its end on
-  goods_filled : (g : SigBit → Bit) (d : Bit) (s : SigBit) → l.Has d s → (n : ℕ) (bits : List SigBit) → ((x : SigBit) → In x bits → l.Has (g x) x)
-      → Goods l (λ at. slice_index_or (map g bits) at d) (take n bits ++ replicate (n - length bits) s)
-  goods_filled g d s h zero [] k = tt
-  goods_filled g d s h zero (b ∷ bits) k =
-      let e : 0 ≡ 0 - suc (length bits) = omega arith in
-      subst (λ z. Goods l (λ at. slice_index_or (map g (b ∷ bits)) at d) (replicate z s)) e tt
-  goods_filled g d s h (suc n) [] k =
-      let e : suc n ≡ suc n - 0 = omega arith in subst (λ z. Goods l (λ at. d) (replicate z s)) e (all (suc n))
-    where
-      all : (n : ℕ) → Goods l (λ at. d) (replicate n s)
-      all zero = tt
-      all (suc n) = (h, all n)
-  goods_filled g d s h (suc n) (b ∷ bits) k =
-      let e : n - length bits ≡ suc n - suc (length bits) = omega arith in (
-        k b (inl refl),
-        subst (λ z. Goods l (λ at. slice_index_or (map g bits) at d) (take n bits ++ replicate z s)) e (goods_filled g d s h n bits (λ x i. k x (inr i))),
-      )
-
-  top_has : (g : SigBit → Bit) (bits : List SigBit) → ((x : SigBit) → In x bits → l.Has (g x) x) → l.Has (top_of (map g bits)) (fill_of bits true)
-  top_has g [] k = l.constant S0
-  top_has g (b ∷ []) k = k b (inl refl)
-  top_has g (b ∷ c ∷ bits) k =
-      let e : length (c ∷ bits) - 1 ≡ length bits = omega arith in
-      let f : length (b ∷ c ∷ bits) - 1 ≡ suc (length bits) = omega arith in
-      let rest : l.Has (top_of (map g (c ∷ bits))) (unwrap_or (slice_get (c ∷ bits) (length bits)) (Fixed S0)) = subst (λ z. l.Has (top_of (map g (c ∷ bits))) (unwrap_or (slice_get (c ∷ bits) z) (Fixed S0))) e (top_has g (c ∷ bits) (λ x i. k x (inr i))) in
-      subst (λ z. l.Has (top_of (map g (c ∷ bits))) (unwrap_or (slice_get (b ∷ c ∷ bits) z) (Fixed S0))) (sym f) rest
-
-  fill_has : (g : SigBit → Bit) (signed : Bool) (bits : List SigBit) → ((x : SigBit) → In x bits → l.Has (g x) x) → l.Has (words.fill_of signed (map g bits)) (fill_of bits signed)
-  fill_has g true bits k = top_has g bits k
-  fill_has g false bits k = l.constant S0
-
-  -- an operand at a width has the bits of the extended word
-  pub goods_extended : (g : SigBit → Bit) (signed : Bool) (n : ℕ) (bits : List SigBit) → ((x : SigBit) → In x bits → l.Has (g x) x) → Goods l (extended_at signed (map g bits)) (extended bits n signed)
-  goods_extended g signed n bits k =
-      goods_filled g (words.fill_of signed (map g bits)) (fill_of bits signed) (fill_has g signed bits k) n bits k
-
-length_extended : (bits : List SigBit) (n : ℕ) (signed : Bool) → length (extended bits n signed) ≡ n
-length_extended bits n signed =
-    omega (arith, length-append (take n bits) (replicate (n - length bits) (fill_of bits signed)), length-take n bits, length-replicate (n - length bits) (fill_of bits signed))
-
 -- the bits of the value of a cell, by the words at its operands; the widths are those of Y and of the operands
 abbrev pub value_at : CellKind → Shape → ℕ → List Bit → List Bit → ℕ → Bit
 value_at (Word (Unary Neg)) shape n a b at =
@@ -190,17 +139,17 @@ module _ (l : Logic) (g : SigBit → Bit) (shape : Shape) (c : Cell) where
       → Net l (Unit {0}) (value_of kind shape c) (λ bits. Goods l (value_at kind shape (greater_width c) (map g (pin_signal c A)) (map g (pin_signal c B))) bits × (length bits ≡ value_width kind shape))
   net_value (Word (Unary Neg)) h k =
       net_weaker l (net_negative l (extended_at shape.signs.a (map g (pin_signal c A))) (operand_of c A shape.widths.y shape.signs.a) (λ r. goods_extended l g shape.signs.a shape.widths.y (pin_signal c A) h))
-      (λ bits w. (w.0, w.1 ∙ length_extended (pin_signal c A) shape.widths.y shape.signs.a))
+      (λ bits w. (w.0, w.1 ∙ length-extended (pin_signal c A) shape.widths.y shape.signs.a))
   net_value (Word (Arith kind)) h k =
       let signed : Bool = both_signed shape in
       let n : ℕ = shape.widths.y in
-      let d : length (operand_of c A n signed) ≡ n = length_extended (pin_signal c A) n signed in
-      let e : length (operand_of c B n signed) ≡ n = length_extended (pin_signal c B) n signed in
+      let d : length (operand_of c A n signed) ≡ n = length-extended (pin_signal c A) n signed in
+      let e : length (operand_of c B n signed) ≡ n = length-extended (pin_signal c B) n signed in
       net_weaker l (net_arith l kind (extended_at signed (map g (pin_signal c A))) (extended_at signed (map g (pin_signal c B))) (operand_of c A n signed) (operand_of c B n signed) (λ r. goods_extended l g signed n (pin_signal c A) h) (λ r. goods_extended l g signed n (pin_signal c B) k) (λ r. d ∙ sym e))
       (λ bits w. (w.0, w.1 ∙ ap (width_of kind) d))
   net_value (Word (Order kind)) h k =
       let signed : Bool = both_signed shape in
       let n : ℕ = greater_width c in
-      net_then l (net_order l kind signed (extended_at signed (map g (pin_signal c A))) (extended_at signed (map g (pin_signal c B))) n (operand_of c A n signed) (operand_of c B n signed) (λ r. goods_extended l g signed n (pin_signal c A) h) (λ r. goods_extended l g signed n (pin_signal c B) k) (length_extended (pin_signal c A) n signed) (length_extended (pin_signal c B) n signed)) λ y.
+      net_then l (net_order l kind signed (extended_at signed (map g (pin_signal c A))) (extended_at signed (map g (pin_signal c B))) n (operand_of c A n signed) (operand_of c B n signed) (λ r. goods_extended l g signed n (pin_signal c A) h) (λ r. goods_extended l g signed n (pin_signal c B) k) (length-extended (pin_signal c A) n signed) (length-extended (pin_signal c B) n signed)) λ y.
       net_pure l (λ r. ((r.1, tt), refl))
   net_value kind h k = net_pure l (λ r. (tt, refl))

@@ -1,6 +1,6 @@
 -- The bits of the nets are at least those of the values of cells.
-use Rattle.std.proofs.Common.{◌≡◌, ◌≤◌, ℕ, zero, suc, ◌+◌, ◌-◌, Bool, true, false, not, List, [], ◌∷◌, length, refl, sym, ◌∙◌, ap, subst, arith, ℤ, neg_ℤ, ◌+ℤ◌, ◌-ℤ◌}
-use Rattle.std.specs.Prelude.{◌&&◌, if◌then◌else◌, int_lt, replicate, slice_index_or}
+use Rattle.std.proofs.Common.{◌≡◌, ◌≤◌, ℕ, zero, suc, ◌+◌, Bool, true, false, not, List, [], ◌∷◌, length, refl, sym, ◌∙◌, ap, subst, arith, ℤ, neg_ℤ, ◌+ℤ◌, ◌-ℤ◌}
+use Rattle.std.specs.Prelude.{◌&&◌, if◌then◌else◌, int_lt, slice_index_or}
 use Rattle.std.proofs.lemmas.Int.{ints}
 use Rattle.cell_types.specs.declared.kind.CellKind.TheVariants.{Word}
 use Rattle.cell_types.specs.declared.shape.Shape.{Shape}
@@ -15,7 +15,7 @@ use Rattle.cell_word.specs.Arithmetic.{is_ordered}
 use Rattle.cell_word.specs.Integers.{integer_bits, integer_in}
 use Rattle.cell_word.specs.Values as word_values
 use Rattle.cell_word.specs.Values.{both_signed}
-use Rattle.cell_word.specs.Words.{extended_at, fill_of, one_bit_of, unknown_of}
+use Rattle.cell_word.specs.Words.{extended_at, fill_of}
 use Rattle.rtl_bits.proofs.Lists.{all_known_true}
 use Rattle.rtl_bits.proofs.Numbers.{bits_of_number_of}
 use Rattle.rtl_bits.specs.Knowledge.{AreKnown, Below, IsKnown, all_known}
@@ -27,6 +27,7 @@ use Rattle.rtl_sig.specs.declared.sig.SigBit.{SigBit}
 use Rattle.rtl_sig.specs.declared.sig.SigBit.TheVariants.{Fixed}
 use Rattle.gate_nets.specs.Reading.{IsReading}
 use Rattle.gate_nets.proofs.Standing.{reads}
+use Rattle.gate_nets.proofs.Values.{if_known, one_below}
 use Rattle.gate_nets.proofs.Adding.{inverse_known, inverse_number, low-length, low_of, sums}
 use Rattle.gate_nets.proofs.Nets.{Goods, carry_at, sum_bit}
 use Rattle.gate_nets.proofs.Residues.{Residue, residue_bits, residue_extended, residue_less, residue_negative, residue_sum}
@@ -93,12 +94,6 @@ module _ (n : ℕ) (signed : Bool) (a b : List Bit) (j : AreKnown a) (k : AreKno
       zeros_known zero = tt
       zeros_known (suc n) = (tt, zeros_known n)
 
--- x is below all
-unknown_below : (n at : ℕ) (z : Bit) → Below (slice_index_or (unknown_of n) at X) z
-unknown_below zero at z = tt
-unknown_below (suc n) zero z = tt
-unknown_below (suc n) (suc at) z = unknown_below n at z
-
 both_true : (x y : Bool) → x && y ≡ true → (x ≡ true) × (y ≡ true)
 both_true true true e = (refl, refl)
 both_true true false e = absurd (cc)
@@ -127,31 +122,6 @@ order_is kind signed n a b d e j k =
     by Gt x y = y ∙ bit_if (int_lt (integer_in signed b) (integer_in signed a))
 
 module _ (f : SigBit → Bit) (is : IsReading f) where
-  -- bits that are read at least as a function gives are read at least as the word of the function
-  low_below : (v : ℕ → Bit) (bits : List SigBit) → Goods (reads f is) v bits → (at : ℕ) → Below (slice_index_or (low_of v (length bits)) at X) (f (slice_index_or bits at (Fixed S0)))
-  low_below v [] h at = tt
-  low_below v (y ∷ bits) h zero = h.0
-  low_below v (y ∷ bits) h (suc at) = low_below (λ i. v (suc i)) bits h.1 at
-
-  -- a word of known operands, else unknown
-  if_known : (t : Bool) (word : List Bit) (n : ℕ) (v : ℕ → Bit) (bits : List SigBit) → Goods (reads f is) v bits → length bits ≡ n → (t ≡ true → low_of v n ≡ word)
-      → (at : ℕ) → Below (slice_index_or (if t then word else unknown_of n) at X) (f (slice_index_or bits at (Fixed S0)))
-  if_known true word n v bits h e same at =
-      subst (λ z. Below (slice_index_or z at X) (f (slice_index_or bits at (Fixed S0)))) (same refl)
-      (subst (λ m. Below (slice_index_or (low_of v m) at X) (f (slice_index_or bits at (Fixed S0)))) e (low_below v bits h at))
-  if_known false word n v bits h e same at = unknown_below n at (f (slice_index_or bits at (Fixed S0)))
-
-  zeros_below : (n at : ℕ) → Below (slice_index_or (replicate n S0) at X) (f (Fixed S0))
-  zeros_below zero at = tt
-  zeros_below (suc n) zero = is.constant S0
-  zeros_below (suc n) (suc at) = zeros_below n at
-
-  one_below : (b : Bit) (n : ℕ) (v : ℕ → Bit) (bits : List SigBit) → Goods (reads f is) v bits → length bits ≡ 1 → ((z : Bit) → Below (v 0) z → Below b z) → (at : ℕ) → Below (slice_index_or (one_bit_of b n) at X) (f (slice_index_or bits at (Fixed S0)))
-  one_below b n v [] h e says at = absurd (omega (arith, e))
-  one_below b n v (y ∷ []) h e says zero = says (f y) h.0
-  one_below b n v (y ∷ []) h e says (suc at) = zeros_below (n - 1) at
-  one_below b n v (y ∷ z ∷ bits) h e says at = absurd (omega (arith, e))
-
   order_below : (t : Bool) (b c : Bit) → (t ≡ true → c ≡ b) → (z : Bit) → Below c z → Below (if t then b else X) z
   order_below true b c same z h = subst (λ k. Below k z) (same refl) h
   order_below false b c same z h = tt
@@ -161,16 +131,16 @@ module _ (f : SigBit → Bit) (is : IsReading f) where
       → Goods (reads f is) (value_at (Word kind) shape n a b) bits → length bits ≡ value_width (Word kind) shape
       → (at : ℕ) → Below (slice_index_or (word_values.value_of kind shape a b s) at X) (f (slice_index_or bits at (Fixed S0)))
   value_below (Unary Neg) shape n a b s bits m d e h w =
-      if_known (all_known a) (integer_bits (neg_ℤ (integer_in shape.signs.a a)) shape.widths.y) shape.widths.y _ bits h w
+      if_known f is (all_known a) (integer_bits (neg_ℤ (integer_in shape.signs.a a)) shape.widths.y) shape.widths.y _ bits h w
       (λ t. negative_is shape.widths.y shape.signs.a a a (all_known_true a t) (all_known_true a t))
   value_below (Arith Add) shape n a b s bits m d e h w =
-      if_known (all_known a && all_known b) _ shape.widths.y _ bits h w
+      if_known f is (all_known a && all_known b) _ shape.widths.y _ bits h w
       (λ t. let p = both_true (all_known a) (all_known b) t in sum_is shape.widths.y (both_signed shape) a b (all_known_true a p.0) (all_known_true b p.1))
   value_below (Arith Sub) shape n a b s bits m d e h w =
-      if_known (all_known a && all_known b) _ shape.widths.y _ bits h w
+      if_known f is (all_known a && all_known b) _ shape.widths.y _ bits h w
       (λ t. let p = both_true (all_known a) (all_known b) t in difference_is shape.widths.y (both_signed shape) a b (all_known_true a p.0) (all_known_true b p.1))
   value_below (Order kind) shape n a b s bits m d e h w =
-      one_below (cells.order_of kind (both_signed shape) a b) shape.widths.y _ bits h w
+      one_below f is (cells.order_of kind (both_signed shape) a b) shape.widths.y _ bits h w
       (order_below (all_known a && all_known b) _ (order_bit kind (both_signed shape) n (extended_at (both_signed shape) a) (extended_at (both_signed shape) b))
       (λ t. let p = both_true (all_known a) (all_known b) t in order_is kind (both_signed shape) n a b d e (all_known_true a p.0) (all_known_true b p.1)))
   value_below kind shape n a b s bits m d e h w = absurd (cc)

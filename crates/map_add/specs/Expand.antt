@@ -1,8 +1,7 @@
 -- The gates of a cell, by its kind.
-use Rattle.std.specs.Prelude.{ℕ, Bool, true, false, List, [], ◌∷◌, if◌then◌else◌, length, max}
+use Rattle.std.specs.Prelude.{Bool, true, false, List, [], ◌∷◌, if◌then◌else◌}
 use Rattle.cell_types.specs.declared.kind.CellKind.{CellKind}
 use Rattle.cell_types.specs.declared.kind.CellKind.TheVariants.{Word}
-use Rattle.cell_types.specs.declared.pin_name.PinName.{PinName}
 use Rattle.cell_types.specs.declared.pin_name.PinName.TheVariants.{A, B, Y}
 use Rattle.cell_types.specs.declared.shape.Shape.{Shape}
 use Rattle.cell_types.specs.declared.word.ArithKind.{ArithKind}
@@ -13,11 +12,11 @@ use Rattle.cell_types.specs.declared.word.WordKind.TheVariants.{Unary, Arith, Or
 use Rattle.cell_word.specs.Values.{both_signed}
 use Rattle.rtl_ir.specs.Build.{Build, Building}
 use Rattle.rtl_ir.specs.declared.cell.Cell.{Cell}
-use Rattle.rtl_sig.specs.Signal.{extended}
 use Rattle.rtl_sig.specs.declared.sig.SigBit.{SigBit}
+use Rattle.map_laws.specs.Operand.{pin_signal}
 use Rattle.gate_nets.specs.Gate.{◌>>=◌, pure}
-use Rattle.gate_nets.specs.Give.{give_to}
-use Rattle.gate_nets.specs.Operand.{pin_signal}
+use Rattle.gate_nets.specs.Give.{given}
+use Rattle.gate_nets.specs.Operand.{greater_width, operand_of}
 use Rattle.gate_nets.specs.Sum.{negative_of}
 use Rattle.map_add.specs.Order.{order_of}
 use Rattle.map_add.specs.Sum.{arith_of}
@@ -29,14 +28,6 @@ is_mapped (Word (Arith Add)) = true
 is_mapped (Word (Arith Sub)) = true
 is_mapped (Word (Order kind)) = true
 is_mapped kind = false
-
--- the width to which the operands of an order cell are extended
-abbrev pub greater_width : Cell → ℕ
-greater_width c = max (length (pin_signal c A)) (length (pin_signal c B))
-
--- an operand at a width
-abbrev pub operand_of : Cell → PinName → ℕ → Bool → List SigBit
-operand_of c name width signed = extended (pin_signal c name) width signed
 
 -- the negative of the operand
 abbrev pub negated_of : Shape → Cell → Build (List SigBit)
@@ -60,10 +51,6 @@ value_of (Word (Arith kind)) shape c = arithmetic_of kind shape c
 value_of (Word (Order kind)) shape c = ordered_of kind shape c
 value_of kind shape c = pure []
 
--- a net, and its result given to the output of a cell
-abbrev pub given : Build (List SigBit) → Cell → Building → Building
-given net c b = give_to (pin_signal c Y) (net b).0 (net b).1
-
 -- what a cell of this shape becomes
 abbrev pub map_of : Shape → Cell → Building → Building
-map_of shape c b = if is_mapped shape.kind then given (value_of shape.kind shape c) c b else b
+map_of shape c b = if is_mapped shape.kind then given (pin_signal c Y) (value_of shape.kind shape c) b else b

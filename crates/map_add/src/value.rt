@@ -2,14 +2,13 @@
 
 ghost use Rattle.std.specs.Prelude.{◌≡◌, Err, IfOk, OnOk};
 ghost use Rattle.net_index.specs.Builder.{IsInLimits, PassesLimit};
-ghost use Rattle.map_add.specs.Expand.{arithmetic_of, greater_width, is_mapped, negated_of, operand_of, ordered_of, value_of};
+ghost use Rattle.map_add.specs.Expand.{arithmetic_of, is_mapped, negated_of, ordered_of, value_of};
 
 use crate::order::order;
 use crate::sums::arith;
 use cell_types::{ArithKind, CellKind, OrderKind, PinName, Shape, UnaryKind, WordKind};
-use gate_nets::{extended, negate, pin_signal};
+use gate_nets::{greater_width, negate, operand_of};
 use net_index::{Builder, PassFault};
-use rtl_bits::Memory;
 use rtl_ir::Cell;
 use rtl_sig::SigSpec;
 use std::alloc::Global;
@@ -28,28 +27,6 @@ pub(crate) fn is_mapped(kind: CellKind) -> bool
     )
 }
 
-/// An operand, cut or filled up to a width.
-fn operand(
-    alloc: Global,
-    cell: &Cell,
-    pin: PinName,
-    width: usize,
-    signed: bool,
-) -> Result<SigSpec, Memory>
-    ensures value { IfOk result (λ bits. bits ≡ operand_of cell.now pin width signed) }
-{
-    extended(alloc, pin_signal(cell, pin), width, signed)
-}
-
-/// The width to which the operands of an order cell are extended.
-fn greater_width(cell: &Cell) -> usize
-    ensures value { result ≡ greater_width cell.now }
-{
-    let a = pin_signal(cell, PinName::A).len();
-    let b = pin_signal(cell, PinName::B).len();
-    a.max(b)
-}
-
 /// The bit of an order cell.
 #[tactic(auto, unfolding(gate_nets::specs::Gate::after))]
 fn ordered(
@@ -65,8 +42,8 @@ fn ordered(
 {
     let signed = shape.signs.a && shape.signs.b;
     let width = greater_width(cell);
-    let a = operand(alloc, cell, PinName::A, width, signed)?;
-    let b = operand(alloc, cell, PinName::B, width, signed)?;
+    let a = operand_of(alloc, cell, PinName::A, width, signed)?;
+    let b = operand_of(alloc, cell, PinName::B, width, signed)?;
     let bit = order(alloc, kind, signed, a.as_slice(), b.as_slice(), builder)?;
     Ok(SigSpec::from_slice(alloc, &[bit])?)
 }
@@ -85,8 +62,8 @@ fn arithmetic(
 {
     let signed = shape.signs.a && shape.signs.b;
     let width = shape.widths.y as usize;
-    let a = operand(alloc, cell, PinName::A, width, signed)?;
-    let b = operand(alloc, cell, PinName::B, width, signed)?;
+    let a = operand_of(alloc, cell, PinName::A, width, signed)?;
+    let b = operand_of(alloc, cell, PinName::B, width, signed)?;
     arith(alloc, kind, a.as_slice(), b.as_slice(), builder)
 }
 
@@ -102,7 +79,7 @@ fn negated(
     ensures within { IsInLimits builder.old → OnOk result (IsInLimits builder.new) }
 {
     let width = shape.widths.y as usize;
-    let a = operand(alloc, cell, PinName::A, width, shape.signs.a)?;
+    let a = operand_of(alloc, cell, PinName::A, width, shape.signs.a)?;
     negate(alloc, a.as_slice(), builder)
 }
 

@@ -20,7 +20,7 @@ use Rattle.map_laws.proofs.Expanding.{adds_more, adds_none, expansion, links_are
 use Rattle.map_laws.proofs.Reordering.{to_permutation}
 use Rattle.map_laws.proofs.Wholes.{gate_more}
 use Rattle.pass_laws.proofs.Outputs.{output_wires}
-use Rattle.gate_nets.specs.Operand.{pin_signal}
+use Rattle.map_laws.specs.Operand.{pin_signal}
 use Rattle.map_flop.specs.Expand.{each_bit, storage_gates}
 use Rattle.map_flop.proofs.Adding.{cells_from, gate_here, puts}
 use Rattle.map_flop.proofs.Gating.{IsGateFor, gate_is}

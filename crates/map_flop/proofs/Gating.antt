@@ -38,7 +38,7 @@ use Rattle.net_model.proofs.Ranges.{signal_in}
 use Rattle.net_model.specs.Lists.{In}
 use Rattle.net_model.specs.Within.{BitIn, CellIn, SigIn}
 use Rattle.map_laws.specs.Expansion.{IsWholeGate, cell_bits, kind_bits}
-use Rattle.gate_nets.specs.Operand.{pin_signal}
+use Rattle.map_laws.specs.Operand.{pin_signal}
 use Rattle.map_flop.specs.Gate.{bit_gate, gate_for, is_one}
 use Rattle.map_flop.specs.Pins.{gate_bit, gate_pin, gate_pins, pin_bit, reset_bit}
 use Rattle.map_flop.proofs.Adding.{cell_named, gate_here}

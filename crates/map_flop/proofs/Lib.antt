@@ -4,3 +4,4 @@ pub mod Gating
 pub mod Standing
 pub mod Expanding
 pub mod Expanded
+pub mod Renaming

@@ -21,7 +21,7 @@ use Rattle.net_model.specs.Refine.{IsMet}
 use Rattle.net_model.specs.Run.{Time}
 use Rattle.net_model.specs.Valuation.{Valuation}
 use Rattle.map_laws.specs.Expansion.{StandsWith, cells_added}
-use Rattle.gate_nets.specs.Operand.{pin_signal}
+use Rattle.map_laws.specs.Operand.{pin_signal}
 use Rattle.map_flop.specs.Expand.{storage_gates}
 use Rattle.map_flop.specs.Gate.{bit_gate, is_one}
 use Rattle.map_flop.specs.Pins.{gate_pins}

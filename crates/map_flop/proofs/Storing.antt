@@ -29,7 +29,7 @@ use Rattle.rtl_sig.specs.declared.sig.SigBit.TheVariants.{Fixed}
 use Rattle.net_model.specs.Run.{Time, Start, Step}
 use Rattle.net_model.specs.Valuation.{Valuation}
 use Rattle.net_model.specs.Value.{pins_of, value_of}
-use Rattle.gate_nets.specs.Operand.{pin_signal}
+use Rattle.map_laws.specs.Operand.{pin_signal}
 use Rattle.map_flop.specs.Gate.{bit_gate, gate_for, is_one}
 use Rattle.map_flop.specs.Pins.{gate_pins, pin_bit}
 

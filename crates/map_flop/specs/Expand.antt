@@ -1,5 +1,5 @@
 -- The gates of a storage cell.
-use Rattle.std.specs.Prelude.{ℕ, suc, List, [], ◌∷◌}
+use Rattle.std.specs.Prelude.{ℕ, suc, Bool, true, false, List, [], ◌∷◌}
 use Rattle.cell_types.specs.declared.kind.CellKind.{CellKind}
 use Rattle.cell_types.specs.declared.kind.CellKind.TheVariants as Cells
 use Rattle.cell_types.specs.declared.pin_name.PinName.TheVariants.{Q}
@@ -10,14 +10,14 @@ use Rattle.rtl_ir.specs.Build.{Building, new_cell}
 use Rattle.rtl_ir.specs.declared.cell.Cell.{Cell}
 use Rattle.rtl_sig.specs.declared.sig.SigBit.{SigBit}
 use Rattle.net_index.specs.BuilderNames.{name_of}
-use Rattle.gate_nets.specs.Operand.{pin_signal}
+use Rattle.map_laws.specs.Operand.{pin_signal}
 use Rattle.map_flop.specs.Gate.{bit_gate}
 use Rattle.map_flop.specs.Pins.{gate_pins}
 
 -- a kind becomes gates here: a storage cell on words
-abbrev pub IsMapped : CellKind → Type 0
-IsMapped (Cells.Storage kind) = Unit {0}
-IsMapped kind = ⊥
+abbrev pub is_mapped : CellKind → Bool
+is_mapped (Cells.Storage kind) = true
+is_mapped kind = false
 
 -- a cell for each bit of an output, bits rising from a place on
 abbrev pub each_bit : (ℕ → SigBit → Building → Building) → ℕ → List SigBit → Building → Building

@@ -13,7 +13,7 @@ use Rattle.cell_types.specs.declared.storage_gate.StorageGate.{StorageGate}
 use Rattle.rtl_ir.specs.Build.{pin_of}
 use Rattle.rtl_ir.specs.declared.cell.Cell.{Cell}
 use Rattle.rtl_ir.specs.declared.cell.Pin.{Pin}
-use Rattle.gate_nets.specs.Operand.{pin_signal}
+use Rattle.map_laws.specs.Operand.{pin_signal}
 
 -- the bit at a place of a pin, x past its end
 abbrev pub pin_bit : Cell → PinName → ℕ → SigBit

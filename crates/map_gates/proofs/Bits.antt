@@ -34,12 +34,15 @@ use Rattle.net_model.specs.Run.{Time}
 use Rattle.net_model.specs.Swap.{StandsFor}
 use Rattle.net_model.specs.Valuation.{Valuation, read, read_all, read_words}
 use Rattle.net_model.specs.Value.{value_of, worked_of}
-use Rattle.map_gates.specs.Bitwise.{gate_for}
+use Rattle.gate_nets.specs.Gate.{gate_for}
 use Rattle.map_gates.specs.Expand.{gates_of}
 use Rattle.map_laws.specs.Expansion.{cells_added}
-use Rattle.map_gates.specs.Gates.{bit_at, one, pin_signal}
+use Rattle.map_laws.specs.Operand.{pin_signal}
+use Rattle.gate_nets.specs.Gate.{one}
+use Rattle.map_gates.specs.Gates.{bit_at}
 use Rattle.map_gates.proofs.Adding.{cell_named}
-use Rattle.map_gates.proofs.Operands.{operand_below, operand_read, word_below}
+use Rattle.gate_nets.proofs.Values.{word_below}
+use Rattle.map_gates.proofs.Operands.{operand_below, operand_read}
 use Rattle.map_gates.proofs.Standing.{gate_named, gate_value, gates_stand, shape_kind, words_of}
 
 -- a bit of a word cell's output
@@ -84,7 +87,7 @@ module _ (ports : Ports) (start : SigBit → Bit) (wires : List Wire) (c : Cell)
           let value : value_of (Worked (cell_shape (Gate GateOf.Not) []) ((point p wires (a_at shape.signs.a at) ∷ []) ∷ [] ∷ [] ∷ []) 0) t w ≡ not_of (extended_at shape.signs.a (read_all w (points p wires (pin_signal c A))) at) =
           gate_value GateOf.Not ((point p wires (a_at shape.signs.a at) ∷ []) ∷ [] ∷ [] ∷ []) t w ∙ ap not_of (sym (operand_read p wires w shape.signs.a (pin_signal c A) at))
           in
-          let below = word_below (λ at. not_of (extended_at shape.signs.a (read_all w (points p wires (pin_signal c A))) at)) shape.widths.y at z (subst (λ v. Below v z) value h) in
+          let below = word_below (λ at. not_of (extended_at shape.signs.a (read_all w (points p wires (pin_signal c A))) at)) shape.widths.y at z (λ lt. subst (λ v. Below v z) value h) in
           let same : value_of (Worked shape (words_of p wires c) at) t w ≡ value_of (Worked (cell_shape (Word (Unary Not)) c.params) (words_of p wires c) at) t w = ap (λ s. value_of (Worked s (words_of p wires c) at) t w) e in
           subst (λ v. Below v z) (sym (word_value (Unary Not) shape (words_of p wires c) at t w (ap (λ s. s.kind) e ∙ shape_kind (Word (Unary Not)) c.params)) ∙ same) below)
 
@@ -110,7 +113,7 @@ module _ (ports : Ports) (start : SigBit → Bit) (wires : List Wire) (c : Cell)
           let value : value_of (Worked (cell_shape (Gate (gate_for kind)) []) inputs 0) t w ≡ bit_by kind x y =
           gate_value (gate_for kind) inputs t w ∙ sym (same_gate kind a b X) ∙ ab
           in
-          let below = word_below (λ at. bit_by kind (extended_at (both_signed shape) (read_all w (points p wires (pin_signal c A))) at) (extended_at (both_signed shape) (read_all w (points p wires (pin_signal c B))) at)) shape.widths.y at z (subst (λ v. Below v z) value h) in
+          let below = word_below (λ at. bit_by kind (extended_at (both_signed shape) (read_all w (points p wires (pin_signal c A))) at) (extended_at (both_signed shape) (read_all w (points p wires (pin_signal c B))) at)) shape.widths.y at z (λ lt. subst (λ v. Below v z) value h) in
           let same : value_of (Worked shape (words_of p wires c) at) t w ≡ value_of (Worked (cell_shape (Word (Bitwise kind)) c.params) (words_of p wires c) at) t w = ap (λ s. value_of (Worked s (words_of p wires c) at) t w) e in
           subst (λ v. Below v z) (sym (word_value (Bitwise kind) shape (words_of p wires c) at t w (ap (λ s. s.kind) e ∙ shape_kind (Word (Bitwise kind)) c.params)) ∙ same) below)
 
@@ -131,6 +134,6 @@ module _ (ports : Ports) (start : SigBit → Bit) (wires : List Wire) (c : Cell)
           (mux_of_mono _ _ _ _ _ _ (operand_below p wires w (pin_signal c A) at) (operand_below p wires w (pin_signal c B) at) (operand_below p wires w (pin_signal c S) 0))
           (subst (λ v. Below v z) (gate_value GateOf.Mux inputs t w) h)
           in
-          let word' = word_below (λ at. mux_of (slice_index_or (read_all w (points p wires (pin_signal c A))) at X) (slice_index_or (read_all w (points p wires (pin_signal c B))) at X) (slice_index_or (read_all w (points p wires (pin_signal c S))) 0 X)) shape.widths.y at z below in
+          let word' = word_below (λ at. mux_of (slice_index_or (read_all w (points p wires (pin_signal c A))) at X) (slice_index_or (read_all w (points p wires (pin_signal c B))) at X) (slice_index_or (read_all w (points p wires (pin_signal c S))) 0 X)) shape.widths.y at z (λ lt. below) in
           let same : value_of (Worked shape (words_of p wires c) at) t w ≡ value_of (Worked (cell_shape (Word Mux) c.params) (words_of p wires c) at) t w = ap (λ s. value_of (Worked s (words_of p wires c) at) t w) e in
           subst (λ v. Below v z) (sym (word_value Mux shape (words_of p wires c) at t w (ap (λ s. s.kind) e ∙ shape_kind (Word Mux) c.params)) ∙ same) word')

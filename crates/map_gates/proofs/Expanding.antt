@@ -19,7 +19,8 @@ use Rattle.map_laws.proofs.Expanding.{adds_more, adds_none, expansion, wires_cou
 use Rattle.map_laws.proofs.Reordering.{to_permutation}
 use Rattle.map_laws.proofs.Wholes.{gate_more}
 use Rattle.pass_laws.proofs.Outputs.{output_wires}
-use Rattle.map_gates.specs.Gates.{each_bit, pin_signal}
+use Rattle.map_laws.specs.Operand.{pin_signal}
+use Rattle.map_gates.specs.Gates.{each_bit}
 use Rattle.map_gates.proofs.Adding.{cells_from, puts}
 use Rattle.map_gates.proofs.Gating.{IsGateFor}
 

@@ -18,8 +18,9 @@ use Rattle.rtl_ir.specs.declared.cell.Pin.{Pin}
 use Rattle.net_index.specs.BuilderNames.{gate_name}
 use Rattle.net_model.specs.Within.{BitIn, CellIn, SigIn}
 use Rattle.map_laws.specs.Expansion.{IsWholeGate, cell_bits, kind_bits}
-use Rattle.map_gates.specs.Bitwise.{gate_for}
-use Rattle.map_gates.specs.Gates.{bit_at, one}
+use Rattle.gate_nets.specs.Gate.{gate_for}
+use Rattle.gate_nets.specs.Gate.{one}
+use Rattle.map_gates.specs.Gates.{bit_at}
 use Rattle.map_gates.proofs.Adding.{cell_named}
 use Rattle.map_gates.proofs.Standing.{gate_named}
 

@@ -1,8 +1,13 @@
 pub mod Adding
+pub mod Limits
 pub mod Standing
 pub mod Operands
 pub mod Bits
 pub mod Gating
 pub mod Expanding
 pub mod Over
+pub mod Folding
+pub mod Choosing
+pub mod Valued
 pub mod Expanded
+pub mod Renaming

@@ -1,13 +1,9 @@
 -- What the bits of operands have under a valuation.
-use Rattle.std.proofs.Common.{◌≡◌, ◌⊎◌, ℕ, zero, suc, ◌-◌, Bool, true, false, List, [], ◌∷◌, length, inl, inr, ⊎_elim, refl, sym, ◌∙◌, ap, subst, arith}
+use Rattle.std.proofs.Common.{◌≡◌, ℕ, zero, suc, ◌-◌, Bool, true, false, List, [], ◌∷◌, length, refl, sym, ◌∙◌, ap, arith}
 use Rattle.std.specs.Prelude.{slice_get, slice_index_or, unwrap_or}
-use Rattle.std.proofs.Math.ListN.{get_or-eq_default}
-use Rattle.std.proofs.lemmas.List.FromFn.{get_or-map-range_with_len, length-map-range_with_len}
-use Rattle.std.proofs.lemmas.Bool.{cases_lt}
 use Rattle.rtl_bits.proofs.Orders.{Below_refl}
 use Rattle.rtl_bits.specs.Knowledge.{Below}
 use Rattle.rtl_bits.specs.Numbers.{top_of}
-use Rattle.rtl_bits.specs.declared.bit.Bit.{Bit}
 use Rattle.rtl_bits.specs.declared.bit.Bit.TheVariants.{S0, X}
 use Rattle.rtl_sig.specs.Signal.{fill_of}
 use Rattle.rtl_sig.specs.declared.sig.SigBit.{SigBit}
@@ -48,15 +44,3 @@ module _ (p : Path) (wires : List Wire) (w : Valuation) where
   operand_below [] at = tt
   operand_below (b ∷ bits) zero = Below_refl (read w (point p wires b))
   operand_below (b ∷ bits) (suc at) = operand_below bits at
-
--- a bit of a word is what the word's function gives, or x behind its end
-word_at : (f : ℕ → Bit) (width at : ℕ) → (slice_index_or (word_of f width) at X ≡ f at) ⊎ (slice_index_or (word_of f width) at X ≡ X)
-word_at f width at =
-    ⊎_elim
-    (λ lt. inl (get_or-map-range_with_len f 0 width at at X lt (omega arith)))
-    (λ ge. inr (get_or-eq_default (word_of f width) X (omega (arith, length-map-range_with_len f 0 width))))
-    (cases_lt at width)
-
-pub word_below : (f : ℕ → Bit) (width at : ℕ) (z : Bit) → Below (f at) z → Below (slice_index_or (word_of f width) at X) z
-word_below f width at z h =
-    ⊎_elim (λ e. subst (λ a. Below a z) (sym e) h) (λ e. subst (λ a. Below a z) (sym e) tt) (word_at f width at)

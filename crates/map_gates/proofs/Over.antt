@@ -7,7 +7,8 @@ use Rattle.rtl_ir.specs.Build.{Building}
 use Rattle.rtl_sig.specs.declared.sig.SigBit.{SigBit}
 use Rattle.net_index.specs.Builder.{PassesLimit}
 use Rattle.net_index.specs.BuilderNames.{gate_name}
-use Rattle.map_gates.specs.Gates.{binary_gate, bit_at, each_bit, mux_gate, one, unary_gate}
+use Rattle.gate_nets.specs.Gate.{one}
+use Rattle.map_gates.specs.Gates.{binary_gate, bit_at, each_bit, mux_gate, unary_gate}
 use Rattle.map_gates.proofs.Adding.{cell_named, over_here}
 
 pub unary_over : (kind : GateKind) (signed : Bool) (a : List SigBit) (at : ℕ) (ys : List SigBit) (b all : Building) (d : SigBit) → at < length ys

@@ -29,7 +29,8 @@ use Rattle.net_model.specs.Swap.{StandsFor}
 use Rattle.net_model.specs.Valuation.{Valuation, read_words}
 use Rattle.net_model.specs.Value.{gate_input, value_of, worked_of}
 use Rattle.map_laws.specs.Expansion.{cells_added}
-use Rattle.map_gates.specs.Gates.{each_bit, pin_signal}
+use Rattle.map_laws.specs.Operand.{pin_signal}
+use Rattle.map_gates.specs.Gates.{each_bit}
 use Rattle.map_gates.proofs.Adding.{added_is, cell_named, cells_from, puts}
 
 -- a gate is named by its kind

@@ -1,19 +1,9 @@
 -- The gates of the cells that work bit by bit: each drives its bit of Y.
 use Rattle.std.specs.Prelude.{Bool, false, List}
 use Rattle.cell_types.specs.declared.gate.GateKind.{GateKind}
-use Rattle.cell_types.specs.declared.gate.GateKind.TheVariants as Gate
-use Rattle.cell_types.specs.declared.word.BitwiseKind.{BitwiseKind}
-use Rattle.cell_types.specs.declared.word.BitwiseKind.TheVariants.{And, Or, Xor, Xnor}
 use Rattle.rtl_ir.specs.Build.{Building}
 use Rattle.rtl_sig.specs.declared.sig.SigBit.{SigBit}
 use Rattle.map_gates.specs.Gates.{binary_gate, bit_at, each_bit, mux_gate, unary_gate}
-
--- the gate that does with bits what a kind does with words
-abbrev pub gate_for : BitwiseKind → GateKind
-gate_for And = Gate.And
-gate_for Or = Gate.Or
-gate_for Xor = Gate.Xor
-gate_for Xnor = Gate.Xnor
 
 -- Y[i] = the gate of A[i]
 abbrev pub unary_gates : GateKind → Bool → List SigBit → List SigBit → Building → Building

@@ -1,29 +1,17 @@
 -- Gates that are added to a module, one for each bit of an output.
 use Rattle.std.specs.Prelude.{ℕ, suc, Bool, List, [], ◌∷◌, slice_index_or}
-use Rattle.cell_types.specs.PinName.{pin_text}
 use Rattle.cell_types.specs.declared.gate.GateKind.{GateKind}
 use Rattle.cell_types.specs.declared.gate.GateKind.TheVariants.{Mux}
-use Rattle.cell_types.specs.declared.pin_name.PinName.{PinName}
 use Rattle.cell_types.specs.declared.pin_name.PinName.TheVariants.{A, B, S, Y}
-use Rattle.rtl_ir.specs.Build.{Building, new_cell, pin_of}
-use Rattle.rtl_ir.specs.Parameters.{signal_at}
-use Rattle.rtl_ir.specs.declared.cell.Cell.{Cell}
-use Rattle.rtl_ir.specs.declared.cell.Pin.{Pin}
+use Rattle.rtl_ir.specs.Build.{Building, new_cell}
 use Rattle.rtl_sig.specs.Signal.{fill_of}
 use Rattle.rtl_sig.specs.declared.sig.SigBit.{SigBit}
 use Rattle.net_index.specs.BuilderNames.{gate_name}
+use Rattle.gate_nets.specs.Gate.{one}
 
 -- the bit of an operand at any place: past its end its top bit where it is signed, else 0
 abbrev pub bit_at : Bool → List SigBit → ℕ → SigBit
 bit_at signed bits at = slice_index_or bits at (fill_of bits signed)
-
--- the signal at a pin of a cell
-abbrev pub pin_signal : Cell → PinName → List SigBit
-pin_signal c name = signal_at c.pins (pin_text name)
-
--- a pin of one bit
-abbrev pub one : PinName → SigBit → Pin
-one name s = pin_of (pin_text name) (s ∷ [])
 
 -- a gate of one input goes last
 abbrev pub unary_gate : GateKind → SigBit → SigBit → Building → Building

@@ -1,3 +1,5 @@
 pub mod Gates
 pub mod Bitwise
+pub mod Folds
+pub mod Choice
 pub mod Expand

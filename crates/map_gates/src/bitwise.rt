@@ -2,26 +2,14 @@
 
 ghost use Rattle.std.specs.Prelude.{◌≡◌, Err, OnOk};
 ghost use Rattle.net_index.specs.Builder.{IsInLimits, PassesLimit};
-ghost use Rattle.map_gates.specs.Bitwise.{binary_gates, gate_for, mux_gates, unary_gates};
+ghost use Rattle.map_gates.specs.Bitwise.{binary_gates, mux_gates, unary_gates};
 
 use crate::gate::{binary_gate, mux_gate, unary_gate};
 use crate::operand::bit_at;
-use cell_types::{BitwiseKind, GateKind};
+use cell_types::GateKind;
 use net_index::{Builder, PassFault};
 use rtl_sig::SigBit;
 use std::alloc::Global;
-
-/// The gate that does with bits what the kind does with words.
-pub(crate) fn gate_for(kind: BitwiseKind) -> GateKind
-    ensures value { result ≡ gate_for kind }
-{
-    match kind {
-        BitwiseKind::And => GateKind::And,
-        BitwiseKind::Or => GateKind::Or,
-        BitwiseKind::Xor => GateKind::Xor,
-        BitwiseKind::Xnor => GateKind::Xnor,
-    }
-}
 
 /// A gate of one input for each bit of Y.
 pub(crate) fn unary_gates(

@@ -1,25 +1,14 @@
 //! Gates of one bit.
 
-ghost use Rattle.std.specs.Prelude.{◌≡◌, [], ◌∷◌, Err, IfOk, OnOk};
+ghost use Rattle.std.specs.Prelude.{◌≡◌, Err, OnOk};
 ghost use Rattle.net_index.specs.Builder.{IsInLimits, PassesLimit};
-ghost use Rattle.map_gates.specs.Gates.{binary_gate, mux_gate, one, unary_gate};
+ghost use Rattle.map_gates.specs.Gates.{binary_gate, mux_gate, unary_gate};
 
 use cell_types::{CellKind, GateKind, PinName};
+use gate_nets::one;
 use net_index::{Builder, PassFault};
-use rtl_bits::{Memory, Text};
-use rtl_ir::Pin;
-use rtl_sig::{SigBit, SigSpec};
+use rtl_sig::SigBit;
 use std::alloc::Global;
-
-/// A pin of one bit.
-fn one(alloc: Global, name: PinName, bit: SigBit) -> Result<Pin, Memory>
-    ensures value { IfOk result (λ pin. pin ≡ one name bit) }
-{
-    Ok(Pin {
-        name: Text::from_slice(alloc, name.text())?,
-        sig: SigSpec::from_slice(alloc, &[bit])?,
-    })
-}
 
 /// A gate of one input, which drives this bit.
 pub(crate) fn unary_gate(

@@ -1,22 +1,30 @@
-//! Gates for the word cells that work bit by bit.
+//! Gates for the word cells that work bit by bit, that make one bit of words, that choose and that join.
 #![tactic(auto)]
 
 mod bitwise;
+mod choice;
+mod folds;
 mod gate;
 mod operand;
+mod value;
 
-ghost use Rattle.std.specs.Prelude.{◌≡◌, Err, List, OnOk, length};
+ghost use Rattle.std.specs.Prelude.{◌≡◌, true, Err, List, OnOk, length};
 ghost use Rattle.rtl_bits.specs.declared.bit.Bit.{Bit};
 ghost use Rattle.rtl_sig.specs.declared.sig.SigBit.{SigBit};
 ghost use Rattle.rtl_ir.specs.Flat.Cell.{Ports};
 ghost use Rattle.rtl_ir.specs.declared.wire.Wire.{Wire};
 ghost use Rattle.net_index.specs.Builder.{IsInLimits, PassesLimit};
 ghost use Rattle.map_laws.specs.Expansion.{IsExpansion, IsWhole, StandsWith, cells_added, links_added};
-ghost use Rattle.map_gates.specs.Expand.{IsMapped, IsShapeOf, map_of};
+ghost use Rattle.map_laws.specs.Operand.{IsShapeOf, pin_signal};
+ghost use Rattle.cell_types.specs.declared.pin_name.PinName.TheVariants.{Y};
+ghost use Rattle.gate_nets.specs.Give.{given};
+ghost use Rattle.map_gates.specs.Expand.{is_mapped, map_of, value_of};
 
-use crate::bitwise::{binary_gates, gate_for, mux_gates, unary_gates};
-use crate::operand::{bit_at, pin_signal};
+use crate::bitwise::{binary_gates, mux_gates, unary_gates};
+use crate::operand::bit_at;
+use crate::value::{is_given, value};
 use cell_types::{CellKind, GateKind, PinName, Shape, UnaryKind, WordKind};
+use gate_nets::{gate_for, give, pin_signal};
 use net_index::{Builder, PassFault};
 use rtl_ir::Cell;
 use std::alloc::Global;
@@ -32,9 +40,9 @@ pub fn expand(
     ensures exact { OnOk result (builder.new ≡ map_of shape.now cell.now builder.old) }
     ensures over { result ≡ Err PassFault.Over → PassesLimit (map_of shape.now cell.now builder.old) }
     ensures within { IsInLimits builder.old → OnOk result (IsInLimits builder.new) }
-    ensures expansion { OnOk result (IsShapeOf cell.now shape.now → IsMapped shape.now.kind →
+    ensures expansion { OnOk result (IsShapeOf cell.now shape.now → is_mapped shape.now.kind ≡ true →
         IsWhole (length builder.old.body.wires) shape.now.kind cell.now → IsExpansion builder.old builder.new cell.now) }
-    ensures refines { OnOk result (IsShapeOf cell.now shape.now → IsMapped shape.now.kind →
+    ensures refines { OnOk result (IsShapeOf cell.now shape.now → is_mapped shape.now.kind ≡ true →
         (ports : Ports) (start : SigBit → Bit) (wires : List Wire) →
         StandsWith ports start wires cell.now (cells_added builder.old builder.new) (links_added builder.old builder.new)) }
 {
@@ -67,6 +75,25 @@ fn add_gates(
             let s = bit_at(false, pin_signal(cell, PinName::S), 0);
             mux_gates(alloc, a, b, s, y, builder)
         }
+        CellKind::Word(kind) if is_given(kind) => give_value(alloc, kind, cell, shape, builder),
         _ => Ok(()),
     }
+}
+
+/// The net of the value of the cell, whose result is given to Y.
+fn give_value(
+    alloc: Global,
+    kind: WordKind,
+    cell: &Cell,
+    shape: &Shape,
+    builder: &mut Builder,
+) -> Result<(), PassFault>
+    ensures exact { OnOk result (builder.new ≡ given (pin_signal cell.now Y) (value_of kind shape.now cell.now) builder.old) }
+    ensures over { result ≡ Err PassFault.Over → PassesLimit (given (pin_signal cell.now Y) (value_of kind shape.now cell.now) builder.old) }
+    ensures within { IsInLimits builder.old → OnOk result (IsInLimits builder.new) }
+{
+    let bits = value(alloc, kind, cell, shape, builder)?;
+    let y = pin_signal(cell, PinName::Y);
+    give(alloc, y, bits.as_slice(), builder)?;
+    Ok(())
 }

@@ -2,17 +2,10 @@
 use Rattle.std.proofs.Common.{◌≡◌, ℕ, zero, suc, List, [], ◌∷◌, ◌++◌, Bool, true, false, cond, Option, Some, None, refl, ap, ◌∙◌}
 use Rattle.std.specs.Option.{option_map}
 use Rattle.cell_types.specs.declared.kind.CellKind.{CellKind}
-use Rattle.cell_types.specs.declared.kind.CellKind.TheVariants.{Word}
-use Rattle.cell_types.specs.declared.shape.Shape.{Shape}
-use Rattle.cell_types.specs.declared.word.UnaryKind.TheVariants.{Not}
-use Rattle.cell_types.specs.declared.word.WordKind.TheVariants.{Unary, Bitwise, Mux}
-use Rattle.cell_types.specs.declared.pin_name.PinName.TheVariants.{Y}
-use Rattle.rtl_sig.specs.declared.sig.SigBit.{SigBit}
 use Rattle.rtl_ir.specs.declared.cell.Cell.{Cell}
 use Rattle.rtl_ir.specs.declared.module.Module.{Module}
 use Rattle.rtl_ir.specs.declared.ports.PortTable.{PortTable}
 use Rattle.rtl_ir.specs.Build.{Building, building_of}
-use Rattle.rtl_ir.specs.Flat.Cell.{cell_shape}
 use Rattle.rtl_ir.specs.Types.{Ports, table_ports}
 use Rattle.follow_laws.specs.Inputs.{followed}
 use Rattle.opt_expr.specs.Sweep.{expr_of}
@@ -20,9 +13,8 @@ use Rattle.opt_merge.specs.Merge.{drives_own, merge_of, merging_of, with_merging
 use Rattle.opt_clean.specs.Clean.{clean_of, is_all_inside, reduced}
 use Rattle.opt_clean.specs.Wires.{trimmed}
 use Rattle.opt_rounds.specs.Rounds.{opt_of, round_of, rounds_of}
-use Rattle.map_gates.specs.Expand.{gates_of}
-use Rattle.map_gates.specs.Gates.{each_bit, pin_signal}
 use Rattle.map_laws.specs.Expansion.{cells_added}
+use Rattle.tech_map.proofs.Renaming.{expand_renamed}
 use Rattle.tech_map.specs.Techmap.{taken_kind, with_gates, stand_in, with_all_gates, stand_ins, beside, techmap_of}
 use Rattle.script_core.specs.declared.word.Word as words
 use Rattle.script_core.specs.declared.word.Word.TheVariants.{Proc, OptExpr, OptMerge, OptClean, Opt, Fsm, Memory, Techmap}
@@ -41,20 +33,9 @@ module _ (id : List ℕ) where
   abbrev renamed : Building → Building
   renamed b = record { body = under b.body; next = b.next }
 
-  each_renamed : (gate : ℕ → SigBit → Building → Building) → ((at : ℕ) (y : SigBit) (b : Building) → gate at y (renamed b) ≡ renamed (gate at y b)) → (at : ℕ) (ys : List SigBit) (b : Building) → each_bit gate at ys (renamed b) ≡ renamed (each_bit gate at ys b)
-  each_renamed gate same at [] b = refl
-  each_renamed gate same at (y ∷ ys) b = ap (each_bit gate (suc at) ys) (same at y b) ∙ each_renamed gate same (suc at) ys (gate at y b)
-
-  kind_renamed : (kind : CellKind) (shape : Shape) (c : Cell) (b : Building) → gates_of kind shape c (renamed b) ≡ renamed (gates_of kind shape c b)
-  kind_renamed (Word (Unary Not)) shape c b = each_renamed _ (λ at y b. refl) 0 (pin_signal c Y) b
-  kind_renamed (Word (Bitwise kind)) shape c b = each_renamed _ (λ at y b. refl) 0 (pin_signal c Y) b
-  kind_renamed (Word Mux) shape c b = each_renamed _ (λ at y b. refl) 0 (pin_signal c Y) b
-  kind_renamed kind shape c b = refl
-
   one_renamed : (c : Cell) (b : Building) (k : Option CellKind) → with_gates k c (renamed b) ≡ renamed (with_gates k c b)
-  unfolding cell_shape
   one_renamed c b None = refl
-  one_renamed c b (Some kind) = kind_renamed kind (cell_shape kind c.params) c b
+  one_renamed c b (Some kind) = expand_renamed id kind c b
 
   gates_renamed : (c : Cell) (b : Building) → with_gates (taken_kind c) c (renamed b) ≡ renamed (with_gates (taken_kind c) c b)
   gates_renamed c b = one_renamed c b (taken_kind c)

@@ -1,24 +1,27 @@
 -- What the maps owe of the cells that become gates: the one place that goes by their kinds.
 use Rattle.std.proofs.Common.{◌≡◌, ℕ, true, false, Some, None, if◌then◌else◌, Bool, Option, List, length, refl, sym, ◌∙◌, ap}
-use Rattle.cell_types.specs.Shape.{made_shape, unless}
 use Rattle.cell_types.specs.declared.kind.CellKind.{CellKind}
 use Rattle.cell_types.specs.declared.kind.CellKind.TheVariants.{Gate, Memory, Storage, StorageGate, Word}
 use Rattle.cell_types.specs.declared.pin_name.PinName.TheVariants.{Q, Y}
-use Rattle.cell_types.specs.declared.word.BitwiseKind.TheVariants.{And, Or, Xor}
-use Rattle.cell_types.specs.declared.word.UnaryKind.TheVariants.{Not}
-use Rattle.cell_types.specs.declared.word.WordKind.TheVariants.{Unary, Bitwise}
+use Rattle.cell_types.specs.declared.shape.Shape.{Shape}
+use Rattle.cell_types.specs.declared.word.UnaryKind.TheVariants.{Not, Neg}
+use Rattle.cell_types.specs.declared.word.WordKind.TheVariants.{Unary, Bitwise, Order, Arith}
 use Rattle.rtl_bits.specs.declared.bit.Bit.{Bit}
 use Rattle.rtl_sig.specs.declared.sig.SigBit.{SigBit}
 use Rattle.rtl_ir.specs.Build.{Building}
 use Rattle.rtl_ir.specs.Faults.Cells.{is_memory_kind, misfit}
-use Rattle.rtl_ir.specs.Flat.Cell.{Ports, cell_kind, cell_shape}
-use Rattle.rtl_ir.specs.Parameters.{given_params}
+use Rattle.rtl_ir.specs.Flat.Cell.{Ports, cell_shape}
 use Rattle.rtl_ir.specs.Types.{Library}
 use Rattle.rtl_ir.specs.declared.cell.Cell.{Cell}
 use Rattle.rtl_ir.specs.declared.wire.Wire.{Wire}
 use Rattle.map_laws.specs.Expansion.{IsExpansion, IsWhole, StandsWith, cell_bits, cells_added, kind_bits, links_added}
-use Rattle.map_gates.specs.Expand.{IsMapped, IsShapeOf}
-use Rattle.map_gates.proofs.Expanded as gates
+use Rattle.map_laws.proofs.Shaping.{shape_fits}
+use Rattle.map_add.proofs.Expanded as add_maps
+use Rattle.map_add.specs.Expand as adds
+use Rattle.map_flop.proofs.Expanded as flop_maps
+use Rattle.map_flop.specs.Expand as flops
+use Rattle.map_gates.proofs.Expanded as gate_maps
+use Rattle.map_gates.specs.Expand as gates
 use Rattle.pass_laws.proofs.Outputs.{output_bits}
 use Rattle.pass_laws.specs.Bits.{pin_bits}
 use Rattle.tech_map.specs.Techmap.{expand_by_kind, if_taken, is_taken}
@@ -28,30 +31,63 @@ pub record IsMappedTo (old new : Building) (c : Cell) : Type 0 where
   pub expansion : IsExpansion old new c
   pub stands : (ports : Ports) (start : SigBit → Bit) (wires : List Wire) → StandsWith ports start wires c (cells_added old new) (links_added old new)
 
--- a cell that fits its kind has the shape of its parameters
-shape_fits : (c : Cell) (kind : CellKind) → cell_kind c ≡ Some kind → misfit kind c ≡ None → IsShapeOf c (cell_shape kind c.params)
-unfolding misfit cell_shape
-shape_fits c kind own fit = record { kind = own; given = ap (λ fault. unless fault (made_shape kind (given_params c.params))) fit }
+-- each map owes what is asked of it, for the kinds that it has
+module _ (kind : CellKind) (c : Cell) (b : Building) (whole : IsWhole (length b.body.wires) kind c) where
+  abbrev shape : Shape
+  shape = cell_shape kind c.params
 
-taken_here : (kind : CellKind) → is_taken kind ≡ true → IsMapped kind
-taken_here (Word (Unary Not)) e = tt
-taken_here (Word (Bitwise And)) e = tt
-taken_here (Word (Bitwise Or)) e = tt
-taken_here (Word (Bitwise Xor)) e = tt
+  by_gates : gates.is_mapped kind ≡ true → IsMappedTo b (gates.map_of shape c b) c
+  unfolding cell_shape
+  by_gates e =
+      let is = shape_fits c kind whole.own whole.shape in
+      record {
+        expansion = gate_maps.expanded c b (gates.map_of shape c b) shape refl is e whole;
+        stands = λ ports start wires. gate_maps.expanded_stands c b (gates.map_of shape c b) shape refl is e ports start wires;
+      }
+
+  by_adds : adds.is_mapped kind ≡ true → IsMappedTo b (adds.map_of shape c b) c
+  unfolding cell_shape
+  by_adds e =
+      let is = shape_fits c kind whole.own whole.shape in
+      record {
+        expansion = add_maps.expanded c b (adds.map_of shape c b) shape refl is e whole;
+        stands = λ ports start wires. add_maps.expanded_stands c b (adds.map_of shape c b) shape refl is e ports start wires;
+      }
+
+  by_flops : flops.is_mapped kind ≡ true → IsMappedTo b (flops.map_of shape c b) c
+  unfolding cell_shape
+  by_flops e =
+      let is = shape_fits c kind whole.own whole.shape in
+      record {
+        expansion = flop_maps.expanded c b shape (flops.map_of shape c b) refl is e whole;
+        stands = λ ports start wires. flop_maps.expanded_stands c b shape (flops.map_of shape c b) refl is e ports start wires;
+      }
+
+-- a kind has a map
+abbrev has_map : CellKind → Bool
+has_map (Word (Unary Neg)) = true
+has_map (Word (Arith kind)) = adds.is_mapped (Word (Arith kind))
+has_map (Word (Order kind)) = true
+has_map (Storage kind) = true
+has_map kind = gates.is_mapped kind
+
+-- what a map owes of a cell of its kinds
+by_map : (kind : CellKind) → has_map kind ≡ true → (c : Cell) (b : Building) → IsWhole (length b.body.wires) kind c → IsMappedTo b (expand_by_kind kind c b) c
+by_map (Word (Unary Neg)) e c b whole = by_adds (Word (Unary Neg)) c b whole refl
+by_map (Word (Arith kind)) e c b whole = by_adds (Word (Arith kind)) c b whole e
+by_map (Word (Order kind)) e c b whole = by_adds (Word (Order kind)) c b whole refl
+by_map (Storage kind) e c b whole = by_flops (Storage kind) c b whole refl
+by_map kind e c b whole = by_gates kind c b whole e
+
+-- a kind that becomes gates has a map
+taken_here : (kind : CellKind) → is_taken kind ≡ true → has_map kind ≡ true
+taken_here (Word (Unary Not)) e = refl
+taken_here (Word (Bitwise kind)) e = refl
 taken_here kind e = absurd (cc)
 
-by_gates : (kind : CellKind) → IsMapped kind → (c : Cell) (b : Building) → IsWhole (length b.body.wires) kind c → IsMappedTo b (expand_by_kind kind c b) c
-unfolding cell_shape
-by_gates kind e c b whole =
-    let shape = shape_fits c kind whole.own whole.shape in
-    record {
-      expansion = gates.expands c b (cell_shape kind c.params) e whole;
-      stands = λ ports start wires. gates.stands c b (cell_shape kind c.params) shape e ports start wires;
-    }
-
--- each map owes what is asked of it, for each kind that becomes gates
+-- so what is owed is so of each kind that becomes gates
 pub mapped : (kind : CellKind) → is_taken kind ≡ true → (c : Cell) (b : Building) → IsWhole (length b.body.wires) kind c → IsMappedTo b (expand_by_kind kind c b) c
-mapped kind e c b whole = by_gates kind (taken_here kind e) c b whole
+mapped kind e c b whole = by_map kind (taken_here kind e) c b whole
 
 -- no cell of a memory becomes gates
 pub no_memory : (kind : CellKind) → is_taken kind ≡ true → is_memory_kind kind ≡ false

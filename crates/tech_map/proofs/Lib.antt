@@ -1,6 +1,7 @@
 pub mod Fits
 pub mod Moving
 pub mod ByKind
+pub mod Renaming
 pub mod Growing
 pub mod Placing
 pub mod Standing

@@ -1,16 +1,19 @@
 -- Each cell of a kind that becomes gates, replaced in its place by them.
 use Rattle.std.specs.Prelude.{Bool, true, false, List, [], ◌∷◌, ◌++◌, Option, Some, None, if◌then◌else◌}
 use Rattle.cell_types.specs.declared.kind.CellKind.{CellKind}
-use Rattle.cell_types.specs.declared.kind.CellKind.TheVariants.{Word}
+use Rattle.cell_types.specs.declared.kind.CellKind.TheVariants.{Storage, Word}
+use Rattle.cell_types.specs.declared.shape.Shape.{Shape}
 use Rattle.cell_types.specs.declared.word.BitwiseKind.TheVariants.{And, Or, Xor}
-use Rattle.cell_types.specs.declared.word.UnaryKind.TheVariants.{Not}
-use Rattle.cell_types.specs.declared.word.WordKind.TheVariants.{Unary, Bitwise}
+use Rattle.cell_types.specs.declared.word.UnaryKind.TheVariants.{Not, Neg}
+use Rattle.cell_types.specs.declared.word.WordKind.TheVariants.{Unary, Bitwise, Order, Arith}
 use Rattle.rtl_ir.specs.Build.{Building, building_of}
 use Rattle.rtl_ir.specs.Flat.Cell.{cell_kind, cell_shape}
 use Rattle.rtl_ir.specs.declared.cell.Cell.{Cell}
 use Rattle.rtl_ir.specs.declared.module.Module.{Module}
 use Rattle.net_index.specs.Builder.{PassesLimit}
-use Rattle.map_gates.specs.Expand.{map_of}
+use Rattle.map_add.specs.Expand as adds
+use Rattle.map_flop.specs.Expand as flops
+use Rattle.map_gates.specs.Expand as gates
 use Rattle.map_laws.specs.Expansion.{cells_added}
 
 -- cells of these kinds become gates
@@ -30,9 +33,17 @@ if_taken None = None
 abbrev pub taken_kind : Cell → Option CellKind
 taken_kind c = if_taken (cell_kind c)
 
+-- what the map of a kind adds for a cell of this shape
+abbrev pub expansion_of : CellKind → Shape → Cell → Building → Building
+expansion_of (Word (Unary Neg)) shape c = adds.map_of shape c
+expansion_of (Word (Arith kind)) shape c = adds.map_of shape c
+expansion_of (Word (Order kind)) shape c = adds.map_of shape c
+expansion_of (Storage kind) shape c = flops.map_of shape c
+expansion_of kind shape c = gates.map_of shape c
+
 -- what the map of a kind adds for a cell of it
 abbrev pub expand_by_kind : CellKind → Cell → Building → Building
-expand_by_kind kind c b = map_of (cell_shape kind c.params) c b
+expand_by_kind kind c b = expansion_of kind (cell_shape kind c.params) c b
 
 -- the gates of a cell of this kind go last, with fresh wires and connections, under fresh names
 abbrev pub with_gates : Option CellKind → Cell → Building → Building

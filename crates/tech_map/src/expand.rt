@@ -5,7 +5,7 @@ ghost use Rattle.rtl_ir.specs.Flat.Cell.{cell_shape};
 ghost use Rattle.net_index.specs.Builder.{IsInLimits, PassesLimit};
 ghost use Rattle.tech_map.specs.Techmap.{expand_by_kind};
 
-use cell_types::{CellKind, Shape};
+use cell_types::{CellKind, Shape, UnaryKind, WordKind};
 use net_index::{Builder, PassFault, cell_shape};
 use rtl_bits::Memory;
 use rtl_ir::Cell;
@@ -24,7 +24,16 @@ pub(crate) fn expand_by_kind(
     ensures within { IsInLimits builder.old → OnOk result (IsInLimits builder.new) }
 {
     let shape = shape_of(alloc, kind, cell)?;
-    map_gates::expand(alloc, cell, &shape, builder)
+    match kind {
+        CellKind::Word(WordKind::Unary(UnaryKind::Neg)) => {
+            map_add::expand(alloc, cell, &shape, builder)
+        }
+        CellKind::Word(WordKind::Arith(_) | WordKind::Order(_)) => {
+            map_add::expand(alloc, cell, &shape, builder)
+        }
+        CellKind::Storage(_) => map_flop::expand(alloc, cell, &shape, builder),
+        _ => map_gates::expand(alloc, cell, &shape, builder),
+    }
 }
 
 /// The shape of a cell without faults of its parameters and pins, so that memory alone can be missing.
