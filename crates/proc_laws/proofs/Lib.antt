@@ -4,6 +4,7 @@ pub mod CountingBits
 pub mod RebuildPlaces
 pub mod RebuildSpots
 pub mod RebuildBits
+pub mod CountingRules
 pub mod RebuildDriven
 pub mod RebuildMemories
 pub mod RebuildFaults
