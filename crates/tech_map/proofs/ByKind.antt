@@ -4,8 +4,9 @@ use Rattle.cell_types.specs.declared.kind.CellKind.{CellKind}
 use Rattle.cell_types.specs.declared.kind.CellKind.TheVariants.{Gate, Memory, Storage, StorageGate, Word}
 use Rattle.cell_types.specs.declared.pin_name.PinName.TheVariants.{Q, Y}
 use Rattle.cell_types.specs.declared.shape.Shape.{Shape}
-use Rattle.cell_types.specs.declared.word.UnaryKind.TheVariants.{Not, Neg}
-use Rattle.cell_types.specs.declared.word.WordKind.TheVariants.{Unary, Bitwise, Order, Arith}
+use Rattle.cell_types.specs.declared.word.ArithKind.TheVariants.{Add, Sub}
+use Rattle.cell_types.specs.declared.word.UnaryKind.TheVariants.{Not, Pos, Neg}
+use Rattle.cell_types.specs.declared.word.WordKind.TheVariants.{Unary, Fold, Bitwise, Logic, Equal, Order, Arith, Mux, Pmux, Slice, Concat}
 use Rattle.rtl_bits.specs.declared.bit.Bit.{Bit}
 use Rattle.rtl_sig.specs.declared.sig.SigBit.{SigBit}
 use Rattle.rtl_ir.specs.Build.{Building}
@@ -79,10 +80,23 @@ by_map (Word (Order kind)) e c b whole = by_adds (Word (Order kind)) c b whole r
 by_map (Storage kind) e c b whole = by_flops (Storage kind) c b whole refl
 by_map kind e c b whole = by_gates kind c b whole e
 
--- a kind that becomes gates has a map
+-- a kind that becomes gates has a map, whichever kinds do
 taken_here : (kind : CellKind) → is_taken kind ≡ true → has_map kind ≡ true
 taken_here (Word (Unary Not)) e = refl
+taken_here (Word (Unary Pos)) e = refl
+taken_here (Word (Unary Neg)) e = refl
+taken_here (Word (Fold kind)) e = refl
 taken_here (Word (Bitwise kind)) e = refl
+taken_here (Word (Logic kind)) e = refl
+taken_here (Word (Equal kind)) e = refl
+taken_here (Word (Order kind)) e = refl
+taken_here (Word (Arith Add)) e = refl
+taken_here (Word (Arith Sub)) e = refl
+taken_here (Word Mux) e = refl
+taken_here (Word Pmux) e = refl
+taken_here (Word Slice) e = refl
+taken_here (Word Concat) e = refl
+taken_here (Storage kind) e = refl
 taken_here kind e = absurd (cc)
 
 -- so what is owed is so of each kind that becomes gates
