@@ -3,6 +3,7 @@ use Rattle.std.specs.Prelude.{Some, IfOk, slice_get}
 use Rattle.rtl_ir.specs.declared.module.Design.{Design}
 use Rattle.sim_eval.specs.Sim.{IsSimOf}
 use Rattle.sim_eval.proofs.Kept.{at_in, module_at}
+use Rattle.sim_eval.proofs.Scopes.{taken_faultless}
 use Rattle.sim_eval.proofs.sim.Sim.start.Goals as goal
 
 pub returns : goal.returns
@@ -23,7 +24,7 @@ of-requires c =
         design = d;
         body = found.0;
         bits = net.0;
-        faultless = c.design.ensures.faultless;
+        faultless = taken_faultless d.modules c.design.ensures.faultless;
         among = at_in d.modules c.args.at found.0 found.1;
         is = net.1;
       };
