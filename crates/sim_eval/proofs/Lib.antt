@@ -2,6 +2,7 @@ pub mod Tables
 pub mod Taking
 pub mod Bridges
 pub mod Trees
+pub mod TreeLoops
 pub mod Settling
 pub mod Firsts
 pub mod Afterwards

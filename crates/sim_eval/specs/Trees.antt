@@ -68,4 +68,4 @@ bit_of bits at = slice_index_or bits at X
 -- the merge of a bit with what the branches gave that may match, where there was one
 abbrev pub merged_with : Option (List Bit) → ℕ → Bit → Bit
 merged_with None at b = b
-merged_with (Some open') at b = merge_of (bit_of open' at) b
+merged_with (Some others) at b = merge_of (bit_of others at) b

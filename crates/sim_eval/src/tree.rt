@@ -8,11 +8,12 @@ ghost use Rattle.flat_net.specs.Picks.{tree_row};
 ghost use Rattle.flat_net.specs.Points.{AreApart};
 ghost use Rattle.flat_net.specs.Within.{IsTreeWithin};
 ghost use Rattle.sim_eval.specs.Advance.{Advances, AreFewer};
+ghost use Rattle.sim_eval.specs.Numbers.{number_word};
 ghost use Rattle.sim_eval.specs.Trees.{assigned_value, bit_of, branch_value, branches_value, merged_with, tree_value};
 
 use crate::cell::{Worked, put_all};
 use crate::matching::branch_match;
-use crate::values::{read, read_all};
+use crate::values::{bit_in, read, read_all};
 use flat_net::{Assign, Branch, Choice, Tree};
 use rtl_bits::{Bit, Memory, Seq, merge};
 use std::alloc::Global;
@@ -55,26 +56,26 @@ fn take(alloc: Global, values: &[Bit], branch: &Branch, bits: &mut [Bit]) -> Res
 #[cycle(decide)]
 fn choose(alloc: Global, values: &[Bit], choice: &Choice, bits: &mut [Bit]) -> Result<(), Memory>
     ensures value { OnOk result ((at : ℕ) → at < length bits.old →
-        bit_of bits.new at ≡ branches_value values.now at (map (number_read values.now) choice.now.signal) choice.now.branches (bit_of bits.old at) (bit_of bits.old at)) }
+        bit_of bits.new at ≡ branches_value values.now at (number_word values.now choice.now.signal) choice.now.branches (bit_of bits.old at) (bit_of bits.old at)) }
 {
     let signal = read_all(alloc, values, choice.signal.as_slice())?;
-    let mut open = None;
+    let mut merged = None;
     for branch in &choice.branches {
         match branch_match(values, signal.as_slice(), branch.patterns.as_slice()) {
             Bit::S0 => {}
             Bit::S1 => {
                 take(alloc, values, branch, bits)?;
-                merge_open(bits, &open);
+                merge_open(bits, &merged);
                 return Ok(());
             }
             _ => {
                 let mut other = bits.to_vec(alloc)?;
                 take(alloc, values, branch, &mut other)?;
-                put_open(&mut open, other);
+                put_open(&mut merged, other);
             }
         }
     }
-    merge_open(bits, &open);
+    merge_open(bits, &merged);
     Ok(())
 }
 
@@ -91,21 +92,21 @@ fn assign(values: &[Bit], assigns: &[Assign], bits: &mut [Bit])
 }
 
 /// One more branch that may match gave these bits.
-fn put_open(open: &mut Option<Vec<Bit>>, bits: Vec<Bit>)
-    ensures value { (at : ℕ) (b : Bit) → merged_with (option_map (λ v. v.items) open.new) at b ≡ merged_with (option_map (λ v. v.items) open.old) at (merge_of (bit_of bits.items at) b) }
+fn put_open(merged: &mut Option<Vec<Bit>>, bits: Vec<Bit>)
+    ensures value { (at : ℕ) (b : Bit) → merged_with (option_map (λ v. v.items) merged.new) at b ≡ merged_with (option_map (λ v. v.items) merged.old) at (merge_of (bit_of bits.items at) b) }
 {
-    match open {
-        Some(open) => merge_all(open, bits.as_slice()),
-        None => *open = Some(bits),
+    match merged {
+        Some(merged) => merge_all(merged, bits.as_slice()),
+        None => *merged = Some(bits),
     }
 }
 
 /// Merges these bits with what the branches gave that may match.
-fn merge_open(bits: &mut [Bit], open: &Option<Vec<Bit>>)
-    ensures value { (at : ℕ) → at < length bits.old → bit_of bits.new at ≡ merged_with (option_map (λ v. v.items) open.now) at (bit_of bits.old at) }
+fn merge_open(bits: &mut [Bit], merged: &Option<Vec<Bit>>)
+    ensures value { (at : ℕ) → at < length bits.old → bit_of bits.new at ≡ merged_with (option_map (λ v. v.items) merged.now) at (bit_of bits.old at) }
 {
-    if let Some(open) = open {
-        merge_all(bits, open.as_slice());
+    if let Some(merged) = merged {
+        merge_all(bits, merged.as_slice());
     }
 }
 
@@ -114,9 +115,6 @@ fn merge_all(bits: &mut [Bit], others: &[Bit])
     ensures value { (at : ℕ) → bit_of bits.new at ≡ merge_of (bit_of others.now at) (bit_of bits.old at) }
 {
     for at in 0..bits.len() {
-        bits[at] = match others.get(at) {
-            Some(other) => merge(*other, bits[at]),
-            None => Bit::X,
-        };
+        bits[at] = merge(bit_in(others, at), bits[at]);
     }
 }

@@ -2,6 +2,7 @@
 use Rattle.std.proofs.Common.{◌≡◌, ◌<◌, ℕ, drop, length}
 use Rattle.std.specs.Prelude.{option_map}
 use Rattle.flat_net.specs.Choices.{branches_of, choices_of}
+use Rattle.sim_eval.specs.Numbers.{number_word}
 use Rattle.sim_eval.specs.Trees.{bit_of, branch_value, branches_value, choices_value, merged_with}
 use Rattle.sim_eval.proofs.tree.+decide.Given as goal
 
@@ -12,7 +13,7 @@ invariant-take-loop-choice l =
 abbrev pub invariant-choose-loop-branch : goal.invariant-choose-loop-branch
 invariant-choose-loop-branch l = record {
   same : l.bits ≡ l.initial.bits;
-  merged : (at : ℕ) → let b = bit_of l.initial.bits at in
-      merged_with (option_map (λ v. v.items) l.open) at (branches_value l.values at l.signal (branches_of (drop l.branch-index l.branch-items)) b b)
-      ≡ branches_value l.values at l.signal (branches_of l.branch-items) b b;
+  merged : (at : ℕ) → at < length l.fn.bits → let b = bit_of l.initial.bits at in
+      merged_with (option_map (λ v. v.items) l.merged) at (branches_value l.values at (number_word l.values l.choice.signal) (branches_of (drop l.branch-index l.branch-items)) b b)
+      ≡ branches_value l.values at (number_word l.values l.choice.signal) (branches_of l.branch-items) b b;
 }

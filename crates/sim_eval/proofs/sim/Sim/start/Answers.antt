@@ -29,3 +29,6 @@ of-requires c =
         is = net.1;
       };
     }
+
+pub flatten-requires-clause-faultless : goal.flatten-requires-clause-faultless
+flatten-requires-clause-faultless c = taken_faultless c.design.result.now.modules c.design.ensures.faultless
