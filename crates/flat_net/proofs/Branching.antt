@@ -1,5 +1,5 @@
 -- Trees of decisions in numbers, one part more.
-use Rattle.std.proofs.Common.{◌≡◌, ℕ, zero, suc, ◌+◌, ◌<◌, ◌≤◌, Bool, true, false, cond, if◌then◌else◌, List, [], ◌∷◌, ◌++◌, length, get_or, take, drop, ◌-◌, min, Option, Some, None, slice_get, refl, sym, ◌∙◌, ap, subst, arith, map, append_assoc}
+use Rattle.std.proofs.Common.{◌≡◌, ℕ, zero, suc, ◌+◌, ◌<◌, ◌≤◌, Bool, true, false, if◌then◌else◌, List, [], ◌∷◌, ◌++◌, length, get_or, take, drop, ◌-◌, min, Option, Some, None, slice_get, refl, sym, ◌∙◌, ap, subst, arith, map, append_assoc}
 use Rattle.std.specs.Prelude.{nat_eq, reverse}
 use Rattle.std.specs.List.{AllByRecursion}
 use Rattle.std.specs.Option.{option_map_or, option_or}
@@ -23,7 +23,7 @@ use Rattle.rtl_ir.specs.Flat.Point.{bit_place, point, points}
 use Rattle.rtl_ir.specs.Flat.Process.{tree_bit_rows}
 use Rattle.rtl_ir.specs.Follow.{Join, all_joins, joins}
 use Rattle.rtl_ir.specs.Signals.{same_bit}
-use Rattle.rtl_ir.specs.Tree.{Cases, OneCase, CaseView, Switches, OneSwitch, SwitchView, cases_of, switches_of}
+use Rattle.rtl_ir.specs.Tree.{OneCase, CaseView, SwitchView, cases_of, switches_of}
 use Rattle.flat_net.specs.declared.choices.Assign.{Assign}
 use Rattle.std.specs.Global.{Box}
 use Rattle.flat_net.specs.declared.choices.Tree.{Tree}
@@ -37,7 +37,7 @@ use Rattle.flat_net.specs.Parts.{part_rows}
 use Rattle.flat_net.specs.Picks.{assigned_pick, branch_pick, branches_pick, choices_pick, tree_row}
 use Rattle.flat_net.specs.Points.{place_at, point_of, points_of}
 use Rattle.flat_net.specs.Reads.{IsPoint, ArePoints}
-use Rattle.flat_net.specs.Trees.{AreAssigns, AreBranches, AreChoices, AreOutputs, AreSignals, IsOutput, IsTree, IsBranch, IsBranchAt, IsChoice, IsFound, after_joins, is_at}
+use Rattle.flat_net.specs.Trees.{AreAssigns, AreBranches, AreChoices, AreOutputs, AreSignals, IsOutput, IsTree, IsBranch, IsBranchAt, IsChoice, IsFound, after_joins}
 use Rattle.flat_net.specs.Within.{AreChoicesWithin, AreBranchesWithin, IsOutputWithin, IsPartWithin, IsTreeWithin}
 use Rattle.flat_net.proofs.TreeBits.{drop_here}
 use Rattle.flat_net.proofs.Reading.{ArePoints-kept, AreSignals-kept, all_end, assigns-kept, assigns-within, branch-kept, branches-kept, branches-within, choices-kept, choices-within}
@@ -358,9 +358,3 @@ joins-all (suc n) [] right h = refl
 joins-all (suc n) (x ∷ left) [] h = refl
 joins-all (suc n) (Fixed c ∷ left) (y ∷ right) h = joins-all n left right (omega arith)
 joins-all (suc n) (OnWire b ∷ left) (y ∷ right) h = ap (λ js. record { bit = b; source = y } ∷ js) (joins-all n left right (omega arith))
-
--- there is a bit at each place
-pub no_bit : (bits : List WireBit) (at : ℕ) → at < length bits → slice_get bits at ≡ None → ⊥
-no_bit [] at h e = omega arith
-no_bit (b ∷ bits) zero h e = let some : Some b ≡ None = e in cc
-no_bit (b ∷ bits) (suc at) h e = no_bit bits at (omega arith) e

@@ -1,6 +1,6 @@
 //! The tree bits of a process.
 
-ghost use Rattle.std.specs.Prelude.{◌≡◌, IfOk, IfSome, length, reverse, slice_get};
+ghost use Rattle.std.specs.Prelude.{◌≡◌, ◌<◌, IfOk, Some, length, reverse, slice_get};
 ghost use Rattle.rtl_ir.specs.Assigns.{tree_bits};
 ghost use Rattle.flat_net.specs.Trees.{IsFound};
 
@@ -52,10 +52,14 @@ impl TreeBits {
     }
 
     /// The bit at a place.
-    pub(crate) fn get(&self, at: usize) -> Option<WireBit>
-        ensures value { result ≡ slice_get self.now at }
+    pub(crate) fn at(&self, at: usize) -> WireBit
+        requires in_range { at < length self.now }
+        ensures value { slice_get self.now at ≡ Some result }
     {
-        self.bits.get_index(at).copied()
+        match self.bits.get_index(at) {
+            Some(bit) => *bit,
+            None => unreachable!(),
+        }
     }
 
     /// How many there are.

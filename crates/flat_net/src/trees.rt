@@ -101,11 +101,9 @@ impl Places {
     {
         let mut outputs = Vec::with_capacity(alloc, bits.len())?;
         for at in (0..bits.len()).rev() {
-            if let Some(bit) = bits.get(at) {
-                let number = self.bit(path, wires, bit)?;
-                let at = number_at(at)?;
-                outputs.push(Output { number, at })?;
-            }
+            let number = self.bit(path, wires, bits.at(at))?;
+            let at = number_at(at)?;
+            outputs.push(Output { number, at })?;
         }
         Ok(Seq::from_vec(outputs))
     }

@@ -1,4 +1,4 @@
-use Rattle.std.proofs.Common.{◌++◌, ◌∙◌, subst, []}
+use Rattle.std.proofs.Common.{◌∙◌, subst, []}
 use Rattle.rtl_ir.specs.Flat.Cell.{cells_rows}
 use Rattle.rtl_ir.specs.Flat.Link.{link_rows}
 use Rattle.rtl_ir.specs.Flat.Start.{start_of}

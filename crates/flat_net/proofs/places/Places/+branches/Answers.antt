@@ -3,7 +3,6 @@ use Rattle.std.proofs.lemmas.List.{take_all}
 use Rattle.rtl_ir.specs.Flat.Point.{points}
 use Rattle.rtl_ir.specs.Follow.{all_joins}
 use Rattle.rtl_ir.specs.Tree.{CaseView, SwitchView, cases_of, switches_of}
-use Rattle.flat_net.specs.Choices.{ChoiceView, BranchView}
 use Rattle.flat_net.specs.Reads.{ArePoints}
 use Rattle.flat_net.specs.Trees.{AreBranches, AreChoices, IsBranchAt, IsChoice}
 use Rattle.flat_net.proofs.Branching.{AreBranches-next, AreBranches-none, AreChoices-next, AreChoices-none, branch_made, choice_made}

@@ -1,5 +1,5 @@
 use Rattle.std.proofs.Common.{◌++◌, ◌∷◌, [], sym, subst}
-use Rattle.std.specs.Prelude.{None, Some}
+use Rattle.std.specs.Prelude.{Some}
 use Rattle.rtl_ir.specs.Follow.{joins}
 use Rattle.flat_net.specs.Trees.{AreAssigns, IsFound}
 use Rattle.flat_net.proofs.Branching.{AreAssigns-next, AreAssigns-other}

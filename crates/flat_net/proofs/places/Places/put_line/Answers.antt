@@ -1,4 +1,4 @@
-use Rattle.std.proofs.Common.{◌≡◌, ◌++◌, ◌∙◌, append_assoc, ap, arith, subst, sym, take}
+use Rattle.std.proofs.Common.{◌++◌, ◌∙◌, append_assoc, ap, arith, subst, sym, take}
 use Rattle.rtl_ir.specs.Follow.{joins}
 use Rattle.flat_net.specs.Trees.{AreAssigns}
 use Rattle.flat_net.proofs.Branching.{joins-all, joins-next}

@@ -1,4 +1,4 @@
-use Rattle.std.proofs.Common.{◌∙◌, subst, sym}
+use Rattle.std.proofs.Common.{◌∙◌, subst}
 use Rattle.rtl_ir.specs.Flat.Point.{points}
 use Rattle.flat_net.specs.Reads.{ArePoints}
 use Rattle.flat_net.proofs.Branching.{AreSignals-next}

@@ -1,5 +1,5 @@
-use Rattle.std.proofs.Common.{◌≡◌, ◌++◌, ◌∷◌, ◌-◌, ◌<◌, [], length, ◌∙◌, arith, sym}
-use Rattle.flat_net.proofs.Branching.{AreOutputs-next, no_bit}
+use Rattle.std.proofs.Common.{arith}
+use Rattle.flat_net.proofs.Branching.{AreOutputs-next}
 use Rattle.flat_net.proofs.Kept.{within-Keeps}
 use Rattle.flat_net.proofs.Reading.{Extends-then}
 use Rattle.flat_net.proofs.places.Places.tree_outputs.Goals as goal
@@ -7,16 +7,11 @@ use Rattle.flat_net.proofs.places.Places.tree_outputs.Goals as goal
 pub bit-requires : goal.bit-requires
 bit-requires c = record { in_range = within-Keeps _ _ _ c.loop-at.invariant.grows.paths c.requires.in_range }
 
-pub loop-at-preserved-in-Continue-branch-4 : goal.loop-at-preserved-in-Continue-branch-4
-loop-at-preserved-in-Continue-branch-4 c = record {
+pub loop-at-preserved : goal.loop-at-preserved
+loop-at-preserved c = record {
   grows = Extends-then _ _ _ c.loop-at.invariant.grows c.in_ok-number.ensures.grows;
   made = λ p path.
-      AreOutputs-next p c.args.wires.now c.args.bits.now c.loop-at.self.places c.bit.new.self.places c.loop-at.outputs.items c.push.new.self.items c.in_ok-number.number c.in_ok-at.at c.in-Some.bit c.loop-at.at
+      AreOutputs-next p c.args.wires.now c.args.bits.now c.loop-at.self.places c.bit.new.self.places c.loop-at.outputs.items c.push.new.self.items c.in_ok-number.number c.in_ok-at.at c.at.result c.loop-at.at
       c.in_ok-number.ensures.grows.places c.loop-at-test.true (omega (arith, c.loop-at.auto.at, c.len-at.ensures.value)) (c.loop-at.invariant.made p path)
-      (c.in_ok-number.ensures.value p (c.loop-at.invariant.grows.paths _ _ path)) (sym c.get.ensures.value ∙ c.in-Some.is) c.in_ok-at.ensures.value c.in_ok-push.ensures.items;
+      (c.in_ok-number.ensures.value p (c.loop-at.invariant.grows.paths _ _ path)) c.at.ensures.value c.in_ok-at.ensures.value c.in_ok-push.ensures.items;
 }
-
-pub loop-at-preserved : goal.loop-at-preserved
-loop-at-preserved c =
-    let long : c.loop-at.at - 1 < length c.args.bits.now = omega (arith, c.len-at.ensures.value) in
-    absurd (no_bit c.args.bits.now (c.loop-at.at - 1) long (sym c.get.ensures.value ∙ c.in_default.is))
