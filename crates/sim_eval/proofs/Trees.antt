@@ -1,11 +1,10 @@
 -- Trees over numbered bits are trees over bits.
-use Rattle.std.proofs.Common.{◌≡◌, ◌<◌, ℕ, zero, suc, ◌+◌, ◌≤◌, Bool, true, false, cond, if◌then◌else◌, List, [], ◌∷◌, length, get_or, drop, set, map, refl, sym, ◌∙◌, ap, subst, arith}
+use Rattle.std.proofs.Common.{◌≡◌, ◌<◌, ℕ, Bool, true, false, if◌then◌else◌, List, [], ◌∷◌, length, map, refl, sym, ◌∙◌, ap, subst}
 use Rattle.std.specs.Prelude.{nat_eq}
 use Rattle.std.specs.List.{AllByRecursion}
 use Rattle.rtl_bits.specs.declared.bit.Bit.{Bit}
-use Rattle.rtl_bits.specs.declared.bit.Bit.TheVariants.{S0, S1, X, Z, M, Dash}
-use Rattle.rtl_bits.specs.Tables.{and_of, merge_of, or_of}
-use Rattle.rtl_ir.specs.Flat.Driver.{Driven}
+use Rattle.rtl_bits.specs.declared.bit.Bit.TheVariants.{X}
+use Rattle.rtl_bits.specs.Tables.{and_of, or_of}
 use Rattle.rtl_ir.specs.Flat.Pick.{Pick, Is}
 use Rattle.rtl_ir.specs.Flat.Place.{Place}
 use Rattle.rtl_ir.specs.Flat.Point as flat
@@ -22,10 +21,10 @@ use Rattle.flat_net.specs.Picks.{assigned_pick, branches_pick, choices_pick, tre
 use Rattle.flat_net.specs.Points.{place_at, AreApart, point_of, points_of}
 use Rattle.flat_net.specs.Within.{AreBranchesWithin, AreChoicesWithin, ArePointsWithin, IsAssignWithin, IsBranchWithin, IsOutputWithin, IsPointWithin, IsTreeWithin}
 use Rattle.sim_eval.specs.declared.cell.Worked.{Worked}
-use Rattle.sim_eval.specs.Advance.{Advances, Fact, Takes, output_fact}
+use Rattle.sim_eval.specs.Advance.{Advances, Takes, output_fact}
 use Rattle.sim_eval.specs.Numbers.{number_read, number_word, worked_bit}
 use Rattle.sim_eval.specs.Shown.{shown}
-use Rattle.sim_eval.specs.Trees.{assigned_value, bit_of, branch_match, branches_value, choices_value, number_case_match, number_pattern_match, number_place_match, tree_value}
+use Rattle.sim_eval.specs.Trees.{assigned_value, branches_value, choices_value, number_case_match, number_pattern_match, number_place_match, tree_value}
 use Rattle.sim_eval.proofs.Bridges.{read_same, word_same}
 use Rattle.sim_eval.proofs.Tables.{found_at}
 use Rattle.sim_eval.proofs.Taking.{advances_by, fact_of}

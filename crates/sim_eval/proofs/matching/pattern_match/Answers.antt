@@ -1,4 +1,4 @@
-use Rattle.std.proofs.Common.{◌∙◌, ap, arith, sym}
+use Rattle.std.proofs.Common.{◌∙◌, arith, sym}
 use Rattle.rtl_bits.specs.Tables.{and_of}
 use Rattle.sim_eval.proofs.TreeLoops.{pattern_here, pattern_none}
 use Rattle.sim_eval.proofs.matching.pattern_match.Goals as goal

@@ -3,7 +3,7 @@ use Rattle.std.proofs.Common.{◌≡◌, ◌<◌, ℕ, drop, length}
 use Rattle.std.specs.Prelude.{option_map}
 use Rattle.flat_net.specs.Choices.{branches_of, choices_of}
 use Rattle.sim_eval.specs.Numbers.{number_word}
-use Rattle.sim_eval.specs.Trees.{bit_of, branch_value, branches_value, choices_value, merged_with}
+use Rattle.sim_eval.specs.Trees.{bit_of, branches_value, choices_value, merged_with}
 use Rattle.sim_eval.proofs.tree.+decide.Given as goal
 
 abbrev pub invariant-take-loop-choice : goal.invariant-take-loop-choice

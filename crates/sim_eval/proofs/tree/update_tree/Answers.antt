@@ -1,4 +1,4 @@
-use Rattle.std.proofs.Common.{◌≡◌, ◌<◌, ◌∙◌, ℕ, ap, length, map, subst, sym}
+use Rattle.std.proofs.Common.{◌<◌, ◌∙◌, ap, length, map, subst, sym}
 use Rattle.std.specs.List.{AllByRecursion}
 use Rattle.flat_net.specs.declared.net.Output.{Output}
 use Rattle.sim_eval.specs.declared.cell.Worked.TheVariants.{Word}
