@@ -10,7 +10,6 @@ use Rattle.rtl_ir.specs.Flat.Driver.{Driven}
 use Rattle.rtl_ir.specs.Flat.Place.{Place, frame}
 use Rattle.rtl_ir.specs.Flat.Tree.{driven_rows, given_rows, in_tree, output_places, places, role_points, root}
 use Rattle.rtl_ir.specs.Ports.{line_of, ports_of}
-use Rattle.rtl_ir.specs.Scope.{cells_alone}
 use Rattle.flat_net.specs.declared.builder.Builder.{Builder}
 use Rattle.flat_net.specs.declared.ends.Ends.{Ends}
 use Rattle.flat_net.specs.declared.net.Net.{Net}
@@ -20,6 +19,7 @@ use Rattle.flat_net.specs.Known.{Known, Keeps, Extends, nothing}
 use Rattle.flat_net.specs.Net.{IsNetOf}
 use Rattle.flat_net.specs.Points.{place_at, AreApart}
 use Rattle.flat_net.specs.Reads.{AreNumbers, AreParts}
+use Rattle.flat_net.specs.Taken.{taken}
 use Rattle.flat_net.specs.Tables.{all_now, own_rows, ports_in}
 use Rattle.flat_net.specs.Within.{ArePartsWithin}
 use Rattle.flat_net.proofs.Adding.{Adds-then, Adds-numbers}
@@ -55,7 +55,7 @@ ends_are a b c ends m wires ports lines name id f g path e h same found k inputs
 pub all_added : (a g t : Builder) (k : Known) (given tree : List Driven) → Extends a.places k → Adds (record { places = k; parts = a.parts }) g given → Adds g t tree → Adds a t (given ++ tree)
 all_added a g t k given tree e h l = Adds-then a g t given tree (Adds-then a (record { places = k; parts = a.parts }) g [] given (Adds-numbers a _ e refl) h) l
 
-pub is_net : (net : Net) (d : Design) (m : Module) (a b : Builder) (numbers : List ℕ) (at below : ℕ) → faults_within cells_alone d.modules ≡ [] → slice_get d.modules at ≡ Some m → suc below ≡ length d.modules
+pub is_net : (net : Net) (d : Design) (m : Module) (a b : Builder) (numbers : List ℕ) (at below : ℕ) → faults_within taken d.modules ≡ [] → slice_get d.modules at ≡ Some m → suc below ≡ length d.modules
     → a.places ≡ nothing → a.parts.items ≡ []
     → Adds a b (given_rows (places (role_points Input (root m) (ports_of m.wires))) 0 ++ in_tree d (own_rows d) (suc below) (root m) m) → AreNumbers b.places.places numbers (output_places m)
     → AreApart b.places.places → length b.places.places ≡ net.count → net.parts ≡ b.parts.items → net.outputs ≡ numbers → IsNetOf net d m b.places.places

@@ -4,6 +4,8 @@ pub mod Apart
 pub mod Results
 pub mod Reading
 pub mod Adding
+pub mod Branching
+pub mod TreeBits
 pub mod Chars
 pub mod Celling
 pub mod Tabling

@@ -1,12 +1,15 @@
 -- Numbers that stand for something go on to stand for it.
-use Rattle.std.proofs.Common.{◌≡◌, ℕ, zero, suc, ◌+◌, ◌<◌, List, [], ◌∷◌, ◌++◌, length, get_or, take, Some, slice_get, refl, ◌∙◌, ap, subst, arith, map}
+use Rattle.std.proofs.Common.{◌≡◌, ℕ, zero, suc, ◌+◌, ◌<◌, List, [], ◌∷◌, ◌++◌, length, get_or, take, Some, slice_get, refl, ◌∙◌, ap, subst, arith, map, if◌then◌else◌}
+use Rattle.std.specs.Prelude.{nat_eq}
+use Rattle.rtl_bits.specs.declared.bit.Bit.TheVariants.{X}
 use Rattle.std.specs.List.{AllByRecursion}
 use Rattle.std.proofs.lemmas.Grind.{flat_map-append}
 use Rattle.std.proofs.lemmas.List.{map-append, take_more, append-nil}
 use Rattle.std.proofs.lemmas.Option.{slice_get_within, get_or_from_slice_get}
 use Rattle.rtl_sig.specs.declared.sig.SigBit.{SigBit}
 use Rattle.rtl_ir.specs.declared.wire.Wire.{Wire}
-use Rattle.rtl_ir.specs.Flat.Driver.{Driven, Given, Joined, Worked, Stored}
+use Rattle.rtl_ir.specs.Flat.Driver.{Driven, Given, Joined, Worked, Stored, Decided}
+use Rattle.rtl_ir.specs.Flat.Pick.{Pick, Is, Where}
 use Rattle.rtl_ir.specs.Flat.Place.{Path, Place, wire_place}
 use Rattle.rtl_ir.specs.Flat.Point.{point, points, point_at, wire_points}
 use Rattle.rtl_ir.specs.Flat.Point as rtl
@@ -19,11 +22,15 @@ use Rattle.flat_net.specs.declared.net.StoreBit.{StoreBit}
 use Rattle.flat_net.specs.declared.net.StorePins.{StorePins}
 use Rattle.cell_types.specs.declared.shape.Shape.{Shape}
 use Rattle.flat_net.specs.Cells.{listed_point}
+use Rattle.flat_net.specs.declared.choices.Assign.{Assign}
+use Rattle.flat_net.specs.Choices.{Choices, NoChoice, OneChoice, Branches, NoBranch, OneBranch, BranchView}
+use Rattle.flat_net.specs.Picks.{assigned_pick, branch_pick, branches_pick, choices_pick, tree_row}
+use Rattle.flat_net.specs.Trees.{AreSignals}
 use Rattle.flat_net.specs.Known.{Known, Keeps, Extends}
 use Rattle.flat_net.specs.Parts.{part_rows, parts_rows, output_row, store_row, inputs_of}
 use Rattle.flat_net.specs.Points.{place_at, point_of, points_of, pins_of}
 use Rattle.flat_net.specs.Reads.{IsPoint, ArePoints, AreParts}
-use Rattle.flat_net.specs.Within.{IsPointWithin, ArePointsWithin, ArePinsWithin, IsStoreWithin, IsPartWithin, ArePartsWithin}
+use Rattle.flat_net.specs.Within.{IsPointWithin, ArePointsWithin, ArePinsWithin, IsStoreWithin, IsAssignWithin, AreChoicesWithin, AreBranchesWithin, IsBranchWithin, IsOutputWithin, IsPartWithin, ArePartsWithin}
 use Rattle.flat_net.proofs.Kept.{Keeps-refl, get_or-Keeps, within-Keeps}
 
 pub Extends-refl : (k : Known) → Extends k k
@@ -116,6 +123,73 @@ module _ (ps qs : List Place) (keeps : Keeps ps qs) where
   bits-within [] h = tt
   bits-within (b ∷ bs) h = ((number-kept b.number h.0.0, pins-within b.pins h.0.1), bits-within bs h.1)
 
+  words-kept : (ws : List (List Point)) → AllByRecursion (ArePointsWithin (length ps)) ws → map (points_of qs) ws ≡ map (points_of ps) ws
+  words-kept [] h = refl
+  words-kept (w ∷ ws) h = (λ i. points-kept w h.0 i ∷ words-kept ws h.1 i)
+
+  words-within : (ws : List (List Point)) → AllByRecursion (ArePointsWithin (length ps)) ws → AllByRecursion (ArePointsWithin (length qs)) ws
+  words-within [] h = tt
+  words-within (w ∷ ws) h = (points-within w h.0, words-within ws h.1)
+
+  pub AreSignals-kept : (p : Path) (wires : List Wire) (words : List (List Point)) (signals : List (List SigBit)) → AreSignals ps p wires words signals → AreSignals qs p wires words signals
+  AreSignals-kept p wires words signals h = record { are = words-kept words h.within ∙ h.are; within = words-within words h.within }
+
+  -- trees of decisions
+
+  pub assigns-kept : (at : ℕ) (as' : List Assign) (e : Pick) → AllByRecursion (IsAssignWithin (length ps)) as' → assigned_pick qs at as' e ≡ assigned_pick ps at as' e
+  assigns-kept at [] e h = refl
+  assigns-kept at (a ∷ as') e h =
+      let from = point-kept a.from h.0 in
+      (λ i. assigned_pick qs at as' (if nat_eq a.at at then Is (from i) else e)) ∙ assigns-kept at as' (if nat_eq a.at at then Is (point_of ps a.from) else e) h.1
+
+  pub assigns-within : (as' : List Assign) → AllByRecursion (IsAssignWithin (length ps)) as' → AllByRecursion (IsAssignWithin (length qs)) as'
+  assigns-within [] h = tt
+  assigns-within (a ∷ as') h = (point-within a.from h.0, assigns-within as' h.1)
+
+  mutual
+    pub choices-kept : (at : ℕ) (cs : Choices) (e : Pick) → AreChoicesWithin (length ps) cs → choices_pick qs at cs e ≡ choices_pick ps at cs e
+    choices-kept at NoChoice e h = refl
+    choices-kept at (OneChoice signal bs rest) e h =
+        (λ i. choices_pick qs at rest (branches_pick qs at (points-kept signal h.0 i) bs e e))
+        ∙ ap (choices_pick qs at rest) (branches-kept at (points_of ps signal) bs e e h.1)
+        ∙ choices-kept at rest (branches_pick ps at (points_of ps signal) bs e e) h.2
+
+    pub branches-kept : (at : ℕ) (signal : List rtl.Point) (bs : Branches) (e last : Pick) → AreBranchesWithin (length ps) bs → branches_pick qs at signal bs e last ≡ branches_pick ps at signal bs e last
+    branches-kept at signal NoBranch e last h = refl
+    branches-kept at signal (OneBranch [] as' cs rest) e last h =
+        ap (choices_pick qs at cs) (assigns-kept at as' e h.1) ∙ choices-kept at cs (assigned_pick ps at as' e) h.2
+    branches-kept at signal (OneBranch (w ∷ ws) as' cs rest) e last h =
+        let words = words-kept (w ∷ ws) h.0 in
+        let met : choices_pick qs at cs (assigned_pick qs at as' e) ≡ choices_pick ps at cs (assigned_pick ps at as' e) =
+        ap (choices_pick qs at cs) (assigns-kept at as' e h.1) ∙ choices-kept at cs (assigned_pick ps at as' e) h.2 in
+        let other = branches-kept at signal rest e last h.3 in
+        (λ i. Where signal (words i) (met i) (other i))
+
+  mutual
+    pub choices-within : (cs : Choices) → AreChoicesWithin (length ps) cs → AreChoicesWithin (length qs) cs
+    choices-within NoChoice h = tt
+    choices-within (OneChoice signal bs rest) h = (points-within signal h.0, branches-within bs h.1, choices-within rest h.2)
+
+    pub branches-within : (bs : Branches) → AreBranchesWithin (length ps) bs → AreBranchesWithin (length qs) bs
+    branches-within NoBranch h = tt
+    branches-within (OneBranch ws as' cs rest) h =
+        (words-within ws h.0, assigns-within as' h.1, choices-within cs h.2, branches-within rest h.3)
+
+  pub branch-kept : (at : ℕ) (b : BranchView) (e : Pick) → IsBranchWithin (length ps) b → branch_pick qs at b e ≡ branch_pick ps at b e
+  branch-kept at b e h = ap (choices_pick qs at b.choices) (assigns-kept at b.assigns e h.assigns) ∙ choices-kept at b.choices (assigned_pick ps at b.assigns e) h.choices
+
+  trees-kept : (root : BranchView) (width : ℕ) (os : List Output) → IsBranchWithin (length ps) root → AllByRecursion (IsOutputWithin (length ps) width) os → map (tree_row qs root) os ≡ map (tree_row ps root) os
+  trees-kept root width [] h w = refl
+  trees-kept root width (o ∷ os) h w =
+      let place = place-kept o.number w.0.0 in
+      let tree = branch-kept o.at root (Is (rtl.Constant X)) h in
+      let rest = trees-kept root width os h w.1 in
+      (λ i. record { place = place i; driver = Decided (tree i) } ∷ rest i)
+
+  trees-within : (width : ℕ) (os : List Output) → AllByRecursion (IsOutputWithin (length ps) width) os → AllByRecursion (IsOutputWithin (length qs) width) os
+  trees-within width [] h = tt
+  trees-within width (o ∷ os) h = ((number-kept o.number h.0.0, h.0.1), trees-within width os h.1)
+
   part-kept : (x : Part) → IsPartWithin (length ps) x → part_rows qs x ≡ part_rows ps x
   part-kept (part.Given o) h = let place = place-kept o.number h in (λ i. record { place = place i; driver = Given o.at } ∷ [])
   part-kept (part.Joined j) h =
@@ -129,6 +203,7 @@ module _ (ps qs : List Place) (keeps : Keeps ps qs) where
       let inputs : inputs_of qs c.value ≡ inputs_of ps c.value = (λ i. a i ∷ b i ∷ s i ∷ []) in
       outputs-kept c.value.shape (inputs_of qs c.value) (inputs_of ps c.value) inputs c.value.outputs h.outputs
   part-kept (part.Storage c) h = bits-kept c.value.shape c.value.bits h
+  part-kept (part.Tree t) h = trees-kept t.value.root t.value.width t.value.outputs h.root h.outputs
 
   part-within : (x : Part) → IsPartWithin (length ps) x → IsPartWithin (length qs) x
   part-within (part.Given o) h = number-kept o.number h
@@ -140,6 +215,10 @@ module _ (ps qs : List Place) (keeps : Keeps ps qs) where
     outputs = outputs-within c.value.outputs h.outputs;
   }
   part-within (part.Storage c) h = bits-within c.value.bits h
+  part-within (part.Tree t) h = record {
+    root = record { assigns = assigns-within t.value.root.assigns h.root.assigns; choices = choices-within t.value.root.choices h.root.choices };
+    outputs = trees-within t.value.width t.value.outputs h.outputs;
+  }
 
   parts-kept : (xs : List Part) → ArePartsWithin (length ps) xs → parts_rows qs xs ≡ parts_rows ps xs
   parts-kept [] h = refl

@@ -1,12 +1,17 @@
 pub mod Known
 pub mod Keys
 pub mod Points
+pub mod Choices
+pub mod ChoiceCode
+pub mod Picks
 pub mod Parts
 pub mod Within
 pub mod Reads
 pub mod Cells
+pub mod Trees
 pub mod Adds
 pub mod Tables
 pub mod Visits
 pub mod Ends
+pub mod Taken
 pub mod Net

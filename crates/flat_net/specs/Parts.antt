@@ -10,6 +10,7 @@ use Rattle.flat_net.specs.declared.net.Output.{Output}
 use Rattle.flat_net.specs.declared.net.Part.{Part}
 use Rattle.flat_net.specs.declared.net.Part.TheVariants as part
 use Rattle.flat_net.specs.declared.net.StoreBit.{StoreBit}
+use Rattle.flat_net.specs.Picks.{tree_row}
 use Rattle.flat_net.specs.Points.{place_at, point_of, points_of, pins_of}
 
 -- a bit that the input vector drives
@@ -41,6 +42,7 @@ part_rows ps (part.Given o) = given_row ps o ∷ []
 part_rows ps (part.Joined j) = join_row ps j ∷ []
 part_rows ps (part.Logic c) = map (output_row ps c.value.shape (inputs_of ps c.value)) c.value.outputs
 part_rows ps (part.Storage c) = map (store_row ps c.value.shape) c.value.bits
+part_rows ps (part.Tree t) = map (tree_row ps t.value.root) t.value.outputs
 
 -- the rows of several parts, in order
 abbrev pub parts_rows : List Place → List Part → List Driven

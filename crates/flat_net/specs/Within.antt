@@ -1,6 +1,8 @@
 -- Parts whose numbers are all below a count.
 use Rattle.std.specs.Prelude.{◌<◌, ℕ, List}
 use Rattle.std.specs.List.{AllByRecursion}
+use Rattle.flat_net.specs.declared.choices.Assign.{Assign}
+use Rattle.flat_net.specs.declared.choices.Tree.{Tree}
 use Rattle.flat_net.specs.declared.net.Logic.{Logic}
 use Rattle.flat_net.specs.declared.net.Output.{Output}
 use Rattle.flat_net.specs.declared.net.Part.{Part}
@@ -9,6 +11,7 @@ use Rattle.flat_net.specs.declared.net.Point.{Point}
 use Rattle.flat_net.specs.declared.net.Point.TheVariants.{Constant, At}
 use Rattle.flat_net.specs.declared.net.StoreBit.{StoreBit}
 use Rattle.flat_net.specs.declared.net.StorePins.{StorePins}
+use Rattle.flat_net.specs.Choices.{Choices, NoChoice, OneChoice, Branches, NoBranch, OneBranch, BranchView}
 
 -- the number of what is read is below the count; a constant has none
 abbrev pub IsPointWithin : ℕ → Point → Type 0
@@ -42,12 +45,45 @@ pub record IsLogicWithin (count : ℕ) (c : Logic) : Type 0 where
   pub s : ArePointsWithin count c.s
   pub outputs : AllByRecursion (λ (o : Output). o.number < count) c.outputs
 
+-- the number of what an assign reads is below the count
+abbrev pub IsAssignWithin : ℕ → Assign → Type 0
+IsAssignWithin count a = IsPointWithin count a.from
+
+abbrev mutual
+  -- the numbers in choices are below the count
+  pub AreChoicesWithin : ℕ → Choices → Type 0
+  AreChoicesWithin count NoChoice = Unit {0}
+  AreChoicesWithin count (OneChoice signal branches rest) =
+      ArePointsWithin count signal × AreBranchesWithin count branches × AreChoicesWithin count rest
+
+  -- the numbers in branches are below the count
+  pub AreBranchesWithin : ℕ → Branches → Type 0
+  AreBranchesWithin count NoBranch = Unit {0}
+  AreBranchesWithin count (OneBranch patterns assigns choices rest) =
+      AllByRecursion (ArePointsWithin count) patterns × AllByRecursion (IsAssignWithin count) assigns
+      × AreChoicesWithin count choices × AreBranchesWithin count rest
+
+-- what a branch does reads numbers below the count
+pub record IsBranchWithin (count : ℕ) (b : BranchView) : Type 0 where
+  pub assigns : AllByRecursion (IsAssignWithin count) b.assigns
+  pub choices : AreChoicesWithin count b.choices
+
+-- a bit of a tree has its number below the count, and its place within the tree's width
+abbrev pub IsOutputWithin : ℕ → ℕ → Output → Type 0
+IsOutputWithin count width o = (o.number < count) × (o.at < width)
+
+-- the numbers of a tree are below the count, and its bits within its width
+pub record IsTreeWithin (count : ℕ) (t : Tree) : Type 0 where
+  pub root : IsBranchWithin count t.root
+  pub outputs : AllByRecursion (IsOutputWithin count t.width) t.outputs
+
 -- the numbers of a part are below the count
 abbrev pub IsPartWithin : ℕ → Part → Type 0
 IsPartWithin count (part.Given o) = o.number < count
 IsPartWithin count (part.Joined j) = (j.to < count) × IsPointWithin count j.from
 IsPartWithin count (part.Logic c) = IsLogicWithin count c.value
 IsPartWithin count (part.Storage c) = AllByRecursion (IsStoreWithin count) c.value.bits
+IsPartWithin count (part.Tree t) = IsTreeWithin count t.value
 
 -- the same of several parts
 abbrev pub ArePartsWithin : ℕ → List Part → Type 0

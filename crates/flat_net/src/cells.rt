@@ -1,4 +1,4 @@
-//! The parts of the cells of a module.
+//! The parts of a module: of its cells, and of what else it has.
 
 ghost use Rattle.std.specs.Prelude.{◌≡◌, ◌<◌, List, [], ◌∷◌, Option, Some, OnOk, length, map, slice_get};
 ghost use Rattle.cell_types.specs.declared.kind.CellKind.{CellKind};
@@ -28,7 +28,7 @@ use rtl_ir::{Cell, Module, Pin, Role, Wire};
 use std::alloc::Global;
 
 impl Builder {
-    /// The cells and connections of a module in this path.
+    /// The cells, the connections and the trees of the processes of a module in this path.
     pub(crate) fn add_module(
         &mut self,
         alloc: Global,
@@ -45,7 +45,8 @@ impl Builder {
         let starts = starts(alloc, wires)?;
         let cells = body.cells.as_slice();
         self.add_cells(alloc, table, path, wires, starts.as_slice(), cells)?;
-        self.add_links(alloc, path, wires, body.links.as_slice())
+        self.add_links(alloc, path, wires, body.links.as_slice())?;
+        self.add_trees(alloc, path, wires, body.processes.as_slice())
     }
 
     /// The cells of a module with these wires and start values in this path.

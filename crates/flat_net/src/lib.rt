@@ -3,6 +3,7 @@
 
 mod builder;
 mod cells;
+mod choices;
 mod ends;
 mod flat;
 mod inputs;
@@ -18,7 +19,10 @@ mod signals;
 mod starts;
 mod stores;
 mod tree;
+mod tree_bits;
+mod trees;
 mod values;
 
+pub use choices::{Assign, Branch, Choice, Tree};
 pub use flat::flatten;
 pub use net::{Join, Logic, Net, Output, Part, Point, Storage, StoreBit, StorePins};

@@ -1,5 +1,6 @@
 //! The flat netlist, in which each bit is a number.
 
+use crate::choices::Tree;
 use cell_types::Shape;
 use rtl_bits::{Bit, Seq};
 
@@ -65,7 +66,7 @@ pub struct Storage {
     pub bits: Seq<StoreBit>,
 }
 
-/// What drives some bits. A cell is one part.
+/// What drives some bits. A cell is one part, and so is the tree of a process.
 #[derive(Drop)]
 pub enum Part {
     /// The input vector of the module drives a bit.
@@ -76,6 +77,8 @@ pub enum Part {
     Logic(Box<Logic>),
     /// A storage cell drives the bits that it keeps.
     Storage(Box<Storage>),
+    /// The tree of a process drives its tree bits.
+    Tree(Box<Tree>),
 }
 
 /// A flat netlist. The bits are numbered from 0 on, and no bit has two numbers.

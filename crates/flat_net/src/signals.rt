@@ -30,7 +30,7 @@ impl Places {
     }
 
     /// The number of a bit of a wire.
-    fn bit(&mut self, path: u32, wires: &[Wire], bit: WireBit) -> Result<u32, Memory>
+    pub(crate) fn bit(&mut self, path: u32, wires: &[Wire], bit: WireBit) -> Result<u32, Memory>
         requires in_range { path < length self.old.paths }
         ensures grows { OnOk result (Extends self.old self.new) }
         ensures value { (p : Path) → slice_get self.old.paths path ≡ Some p →

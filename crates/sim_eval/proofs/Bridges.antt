@@ -36,11 +36,11 @@ pub board_on : (ps : List Place) (moment : Moment) (a b : List Bit) → IsBoard 
 board_on ps moment a b h e = record { apart = h.apart; before = h.before; now = h.now ∙ sym e }
 
 module _ (ps : List Place) (values : List Bit) (apart : AreApart ps) (same : length ps ≡ length values) where
-  read_same : (p : Point) → IsPointWithin (length ps) p → read (shown ps values) (point_of ps p) ≡ number_read values p
+  pub read_same : (p : Point) → IsPointWithin (length ps) p → read (shown ps values) (point_of ps p) ≡ number_read values p
   read_same (Constant b) h = refl
   read_same (At n) h = found_at X ps values n apart same h
 
-  word_same : (points : List Point) → ArePointsWithin (length ps) points → read_all (shown ps values) (points_of ps points) ≡ number_word values points
+  pub word_same : (points : List Point) → ArePointsWithin (length ps) points → read_all (shown ps values) (points_of ps points) ≡ number_word values points
   word_same [] h = refl
   word_same (p ∷ points) h = λ i. read_same p h.0 i ∷ word_same points h.1 i
 

@@ -1,13 +1,17 @@
 -- The rows of a design without faults are of cells within the limits of their kinds.
 use Rattle.std.proofs.Common.{◌≡◌, ℕ, zero, suc, Bool, true, false, cond, List, [], ◌∷◌, ◌++◌, length, map, Option, Some, None, inl, inr, ⊎_elim, refl, sym, subst}
-use Rattle.std.specs.Prelude.{flat_map}
+use Rattle.std.specs.Prelude.{filter, flat_map, if◌then◌else◌, not}
+use Rattle.std.specs.Option.{is_some}
 use Rattle.std.specs.Str.{bytes_eq}
 use Rattle.rtl_bits.specs.declared.bit.Bit.{Bit}
 use Rattle.rtl_sig.specs.declared.sig.SigBit.{SigBit}
+use Rattle.rtl_sig.specs.declared.sig.SigBit.TheVariants.{Wire as OnWire}
+use Rattle.rtl_sig.specs.declared.sig.WireBit.{WireBit}
 use Rattle.cell_types.specs.declared.fault.CellFault.{CellFault}
 use Rattle.cell_types.specs.declared.fault.CellFault.TheVariants as fault
 use Rattle.cell_types.specs.declared.kind.CellKind.{CellKind}
 use Rattle.cell_types.specs.declared.kind.CellKind.TheVariants as Cell
+use Rattle.cell_types.specs.declared.level.Level.TheVariants as At
 use Rattle.cell_types.specs.declared.pin_name.PinName.TheVariants.{A, B, S, Y, Q}
 use Rattle.cell_types.specs.declared.shape.Shape.{Shape}
 use Rattle.cell_types.specs.PinName.{pin_text}
@@ -17,11 +21,16 @@ use Rattle.rtl_ir.specs.declared.module.Design.{Design}
 use Rattle.rtl_ir.specs.declared.module.Link.{Link}
 use Rattle.rtl_ir.specs.declared.module.Module.{Module}
 use Rattle.rtl_ir.specs.declared.ports.PortLine.{PortLine}
+use Rattle.rtl_ir.specs.declared.process.Event.{Event}
+use Rattle.rtl_ir.specs.declared.process.Event.TheVariants.{Low, High, Posedge, Negedge, Edge, Global, Init, Always}
 use Rattle.rtl_ir.specs.declared.process.Process.{Process}
+use Rattle.rtl_ir.specs.declared.process.SyncRule.{SyncRule}
 use Rattle.rtl_ir.specs.declared.store.Store.{Store}
 use Rattle.rtl_ir.specs.declared.wire.Role.{Role}
 use Rattle.rtl_ir.specs.declared.wire.Role.TheVariants.{Inner, Input, Output, Inout}
 use Rattle.rtl_ir.specs.declared.wire.Wire.{Wire}
+use Rattle.rtl_ir.specs.Assigns.{tree_bits}
+use Rattle.rtl_ir.specs.Decisions.{expanded}
 use Rattle.rtl_ir.specs.Drivers.{drives_of}
 use Rattle.rtl_ir.specs.Fault.{Spot, spot}
 use Rattle.rtl_ir.specs.Faults.{faults_within, module_faults}
@@ -31,24 +40,30 @@ use Rattle.rtl_ir.specs.Faults.Links.{link_faults}
 use Rattle.rtl_ir.specs.Faults.Processes.{process_faults}
 use Rattle.rtl_ir.specs.Faults.Recursion.{recursion_faults}
 use Rattle.rtl_ir.specs.Faults.Stores.{store_faults}
+use Rattle.rtl_ir.specs.Faults.TwoEdges.{EdgeBit, edge_bit, is_tested}
 use Rattle.rtl_ir.specs.Faults.Wires.{wire_faults}
 use Rattle.rtl_ir.specs.Flat.Cell as flat
 use Rattle.rtl_ir.specs.Flat.Cell.{cell_kind, cell_shape, outputs, stores, word_store, gate_store, port_joins, instance_rows, kind_rows, cell_rows, cells_rows, instances}
-use Rattle.rtl_ir.specs.Flat.Driver.{StorePoints, Driven}
+use Rattle.rtl_ir.specs.Flat.Driver.{StorePoints, Driven, Held, Joined}
 use Rattle.rtl_ir.specs.Flat.Link.{joins, link_rows}
 use Rattle.rtl_ir.specs.Flat.Memory.{memories_rows}
 use Rattle.rtl_ir.specs.Flat.Place.{Frame, frame, Path, Place}
-use Rattle.rtl_ir.specs.Flat.Point.{Point, Constant, At, pin_points, points, wire_points}
-use Rattle.rtl_ir.specs.Flat.Process.{processes_rows}
+use Rattle.rtl_ir.specs.Flat.Point.{Point, Constant, At as AtPlace, bit_place, pin_points, point, points, wire_points}
+use Rattle.rtl_ir.specs.Flat.Pick.{no_test, pick_of}
+use Rattle.rtl_ir.specs.Flat.Process.{Trigger, always_row, edge_row, edge_trigger, level_row, level_trigger, loaded_row, loaded_rows, may_hold, no_modules, one_rule_rows, process_rows, processes_rows, raced_row, raced_rows, rules_rows, tree_bit_rows, two_rules_rows}
 use Rattle.rtl_ir.specs.Flat.Rows.{plain_rows, rows_of}
 use Rattle.rtl_ir.specs.Flat.Start.{start_of}
 use Rattle.rtl_ir.specs.Flat.Tree as tree
 use Rattle.rtl_ir.specs.Flat.Tree.{named, in_module, in_instances, in_tree, given_rows, driven_rows, role_points, places, root}
+use Rattle.rtl_ir.specs.Follow.{Join, all_joins, source_at}
 use Rattle.rtl_ir.specs.Parameters.{signal_at}
 use Rattle.rtl_ir.specs.Ports.{ports_of}
-use Rattle.rtl_ir.specs.Scope.{cells_alone}
+use Rattle.rtl_ir.specs.Rules.{acting_rules}
+use Rattle.rtl_ir.specs.SwitchRules.{root_by_rules}
+use Rattle.rtl_ir.specs.Tree.{CaseView}
 use Rattle.rtl_ir.specs.Types.{Ports, Library, type_by, cell_type, design_ports}
 use Rattle.cell_types.specs.Unsupported.{is_unsupported}
+use Rattle.flat_net.specs.Taken.{taken}
 use Rattle.net_model.specs.Lists.{In}
 use Rattle.net_model.proofs.Instances.{instances_find}
 use Rattle.net_model.proofs.Members.{In-cases}
@@ -63,32 +78,32 @@ both : (rows more : List Driven) → AreWithin rows → AreWithin more → AreWi
 both rows more h k x i = ⊎_elim (λ l. h x l) (λ r. k x r) (In-cases x rows more i)
 
 -- lists that are empty together are empty
-left_none : {A : Type 0} (xs ys : List A) → xs ++ ys ≡ [] → xs ≡ []
+pub left_none : {A : Type 0} (xs ys : List A) → xs ++ ys ≡ [] → xs ≡ []
 left_none [] ys e = refl
 left_none (x ∷ xs) ys e = absurd (cc)
 
-right_none : {A : Type 0} (xs ys : List A) → xs ++ ys ≡ [] → ys ≡ []
+pub right_none : {A : Type 0} (xs ys : List A) → xs ++ ys ≡ [] → ys ≡ []
 right_none [] ys e = e
 right_none (x ∷ xs) ys e = absurd (cc)
 
 outputs_within : (shape : Shape) (inputs : List (List Point)) → is_logic_within shape.kind shape (map length inputs) ≡ true → (ys : List Point) (at : ℕ) → AreWithin (outputs shape inputs ys at)
 outputs_within shape inputs h [] at x i = absurd i
-outputs_within shape inputs h (At q ∷ ys) at x (inl e) = subst (λ z. is_driver_within z.driver ≡ true) (sym e) h
-outputs_within shape inputs h (At q ∷ ys) at x (inr i) = outputs_within shape inputs h ys (suc at) x i
+outputs_within shape inputs h (AtPlace q ∷ ys) at x (inl e) = subst (λ z. is_driver_within z.driver ≡ true) (sym e) h
+outputs_within shape inputs h (AtPlace q ∷ ys) at x (inr i) = outputs_within shape inputs h ys (suc at) x i
 outputs_within shape inputs h (Constant b ∷ ys) at x i = outputs_within shape inputs h ys (suc at) x i
 
 stores_within : (start : SigBit → Bit) (shape : Shape) (pins : ℕ → StorePoints) → is_storage shape.kind ≡ true → (signal : List SigBit) (qs : List Point) (at : ℕ) → AreWithin (stores start shape pins signal qs at)
 stores_within start shape pins h [] qs at x i = absurd i
 stores_within start shape pins h (s ∷ signal) [] at x i = absurd i
-stores_within start shape pins h (s ∷ signal) (At q ∷ qs) at x (inl e) = subst (λ z. is_driver_within z.driver ≡ true) (sym e) h
-stores_within start shape pins h (s ∷ signal) (At q ∷ qs) at x (inr i) = stores_within start shape pins h signal qs (suc at) x i
+stores_within start shape pins h (s ∷ signal) (AtPlace q ∷ qs) at x (inl e) = subst (λ z. is_driver_within z.driver ≡ true) (sym e) h
+stores_within start shape pins h (s ∷ signal) (AtPlace q ∷ qs) at x (inr i) = stores_within start shape pins h signal qs (suc at) x i
 stores_within start shape pins h (s ∷ signal) (Constant b ∷ qs) at x i = stores_within start shape pins h signal qs (suc at) x i
 
 joins_within : (lefts rights : List Point) → AreWithin (joins lefts rights)
 joins_within [] rights x i = absurd i
 joins_within (l ∷ lefts) [] x i = absurd i
-joins_within (At q ∷ lefts) (r ∷ rights) x (inl e) = subst (λ z. is_driver_within z.driver ≡ true) (sym e) refl
-joins_within (At q ∷ lefts) (r ∷ rights) x (inr i) = joins_within lefts rights x i
+joins_within (AtPlace q ∷ lefts) (r ∷ rights) x (inl e) = subst (λ z. is_driver_within z.driver ≡ true) (sym e) refl
+joins_within (AtPlace q ∷ lefts) (r ∷ rights) x (inr i) = joins_within lefts rights x i
 joins_within (Constant b ∷ lefts) (r ∷ rights) x i = joins_within lefts rights x i
 
 port_within : (role : Role) (outer inner : List Point) → AreWithin (port_joins role outer inner)
@@ -136,58 +151,119 @@ no_shape_fault here kind c e =
     by (Some fault.Width) f h = absurd (cc)
     by (Some fault.Memory) f h = absurd (no_memory kind c f)
 
+each_within : {A : Type 0} (f : A → Driven) → ((x : A) → is_driver_within (f x).driver ≡ true) → (xs : List A) → AreWithin (map f xs)
+each_within f h [] x i = absurd i
+each_within f h (y ∷ xs) x (inl e) = subst (λ z. is_driver_within z.driver ≡ true) (sym e) (h y)
+each_within f h (y ∷ xs) x (inr i) = each_within f h xs x i
+
+-- the rows of processes
+module _ (start : SigBit → Bit) (p : Path) (m : Module) (root : CaseView) (bits : List WireBit) where
+  loaded_within : (e l : Trigger) (load : Option SigBit) (j : Join) → is_driver_within (loaded_row start p m.wires e l load j).driver ≡ true
+  loaded_within e l None j = refl
+  loaded_within e l (Some load) j = refl
+
+  both_within : (e : Trigger) (edges : List Join) (l : Trigger) (levels : List Join) → AreWithin (loaded_rows start p m.wires e edges l levels)
+  both_within e edges l levels =
+      both (map (λ (j : Join). loaded_row start p m.wires e l (source_at levels j.bit) j) edges) _
+      (each_within (λ (j : Join). loaded_row start p m.wires e l (source_at levels j.bit) j) (λ j. loaded_within e l (source_at levels j.bit) j) edges)
+      (each_within (level_row start p m.wires l) (λ j. refl) (filter (λ (j : Join). not (is_some (source_at edges j.bit))) levels))
+
+  always_within : (updates : List Join) → AreWithin (map (always_row start p m.wires root bits) updates)
+  always_within updates = each_within (always_row start p m.wires root bits) (λ j. by j (may_hold root bits j)) updates
+    where
+      by : (j : Join) (t : Bool) → is_driver_within (if t then Held (start (OnWire j.bit)) (point p m.wires j.source) (pick_of no_test p m.wires (expanded root bits j.source)) (bit_place p m.wires j.bit) else Joined (point p m.wires j.source)) ≡ true
+      by j true = refl
+      by j false = refl
+
+  races_within : (updates : List Join) (a b : Option EdgeBit) → AreWithin (raced_rows start p m.wires m root bits updates a b)
+  races_within updates (Some a) (Some b) = by (is_tested no_modules m root a)
+    where
+      by : (t : Bool) → AreWithin (if t then map (raced_row start p m.wires m root bits b a) updates else map (raced_row start p m.wires m root bits a b) updates)
+      by true = each_within (raced_row start p m.wires m root bits b a) (λ j. refl) updates
+      by false = each_within (raced_row start p m.wires m root bits a b) (λ j. refl) updates
+  races_within updates (Some a) None = λ x i. absurd i
+  races_within updates None b = λ x i. absurd i
+
+  one_within : (updates : List Join) (event : Event) → AreWithin (one_rule_rows start p m.wires root bits updates event)
+  one_within updates Always = always_within updates
+  one_within updates Global = each_within _ (λ j. refl) updates
+  one_within updates (Posedge signal) = each_within (edge_row start p m.wires (record { signal = signal; level = At.High })) (λ j. refl) updates
+  one_within updates (Negedge signal) = each_within (edge_row start p m.wires (record { signal = signal; level = At.Low })) (λ j. refl) updates
+  one_within updates (High signal) = each_within (level_row start p m.wires (record { signal = signal; level = At.High })) (λ j. refl) updates
+  one_within updates (Low signal) = each_within (level_row start p m.wires (record { signal = signal; level = At.Low })) (λ j. refl) updates
+  one_within updates (Edge signal) = λ x i. absurd i
+  one_within updates Init = λ x i. absurd i
+
+  two_within : (a b : SyncRule) (edge edge' level level' : Option Trigger) → AreWithin (two_rules_rows start p m.wires m root bits a b edge edge' level level')
+  two_within a b (Some e) edge level (Some l) = both_within e (all_joins a.updates) l (all_joins b.updates)
+  two_within a b edge (Some e) (Some l) level = both_within e (all_joins b.updates) l (all_joins a.updates)
+  two_within a b edge edge' level level' = races_within (all_joins a.updates) (edge_bit a.event) (edge_bit b.event)
+
+  rules_within : (rules : List SyncRule) → AreWithin (rules_rows start p m.wires m root bits rules)
+  rules_within [] = λ x i. absurd i
+  rules_within (a ∷ []) = one_within (all_joins a.updates) a.event
+  rules_within (a ∷ b ∷ []) = two_within a b (edge_trigger a.event) (edge_trigger b.event) (level_trigger a.event) (level_trigger b.event)
+  rules_within (a ∷ b ∷ c ∷ rules) = λ x i. absurd i
+
+process_within : (start : SigBit → Bit) (p : Path) (m : Module) (q : Process) → AreWithin (process_rows start p m.wires m q)
+process_within start p m q =
+    let root = root_by_rules q.root in
+    let bits = tree_bits q.root in
+    both (tree_bit_rows start p m.wires root bits) (rules_rows start p m.wires m root bits (acting_rules q.syncs))
+    (each_within _ (λ b. refl) bits)
+    (rules_within start p m root bits (acting_rules q.syncs))
+
 module _ (ports : Ports) (m : Module) where
-  library_fits : (earlier : List CellOf) (c : CellOf) (kind : CellKind) → faults_by_type cells_alone m earlier c (Library kind) ≡ [] → misfit kind c ≡ None
+  library_fits : (earlier : List CellOf) (c : CellOf) (kind : CellKind) → faults_by_type taken m earlier c (Library kind) ≡ [] → misfit kind c ≡ None
   library_fits earlier c kind e =
       let here = spot m.id c.name in
       no_shape_fault here kind c (right_none _ (shape_fault here (misfit kind c)) (left_none _ (output_faults here (Library kind) c.pins) (left_none _ (memory_faults m earlier c kind) e)))
 
-  cell_fits : (earlier : List CellOf) (c : CellOf) (kind : CellKind) → cell_kind c ≡ Some kind → faults_by_type cells_alone m earlier c (cell_type ports c.kind_name) ≡ [] → misfit kind c ≡ None
+  cell_fits : (earlier : List CellOf) (c : CellOf) (kind : CellKind) → cell_kind c ≡ Some kind → faults_by_type taken m earlier c (cell_type ports c.kind_name) ≡ [] → misfit kind c ≡ None
   unfolding cell_type cell_kind
   cell_fits earlier c kind k e =
-      library_fits earlier c kind (subst (λ z. faults_by_type cells_alone m earlier c (type_by z (ports c.kind_name) (is_unsupported c.kind_name)) ≡ []) k e)
+      library_fits earlier c kind (subst (λ z. faults_by_type taken m earlier c (type_by z (ports c.kind_name) (is_unsupported c.kind_name)) ≡ []) k e)
 
-  cells_within : (start : SigBit → Bit) (inner : flat.Ports) (p : Path) (earlier cells : List CellOf) → cell_faults cells_alone ports m earlier cells ≡ [] → AreWithin (cells_rows start inner p m.wires cells)
+  cells_within : (start : SigBit → Bit) (inner : flat.Ports) (p : Path) (earlier cells : List CellOf) → cell_faults taken ports m earlier cells ≡ [] → AreWithin (cells_rows start inner p m.wires cells)
   cells_within start inner p earlier [] e = λ x i. absurd i
   cells_within start inner p earlier (c ∷ cells) e =
       both (cell_rows start inner p m.wires c (cell_kind c)) (cells_rows start inner p m.wires cells)
       (by (cell_kind c) refl)
-      (cells_within start inner p (earlier ++ c ∷ []) cells (right_none (faults_by_type cells_alone m earlier c (cell_type ports c.kind_name)) _ e))
+      (cells_within start inner p (earlier ++ c ∷ []) cells (right_none (faults_by_type taken m earlier c (cell_type ports c.kind_name)) _ e))
     where
       by : (o : Option CellKind) → cell_kind c ≡ o → AreWithin (cell_rows start inner p m.wires c o)
       by None k = instance_within p m.wires c.pins (frame c.name c.kind_name) (inner c.kind_name)
       by (Some kind) k =
-          kind_within start p m.wires c kind (cell_fits earlier c kind k (left_none (faults_by_type cells_alone m earlier c (cell_type ports c.kind_name)) (cell_faults cells_alone ports m (earlier ++ c ∷ []) cells) e))
+          kind_within start p m.wires c kind (cell_fits earlier c kind k (left_none (faults_by_type taken m earlier c (cell_type ports c.kind_name)) (cell_faults taken ports m (earlier ++ c ∷ []) cells) e))
 
-  processes_within : (start : SigBit → Bit) (p : Path) (earlier processes : List Process) → process_faults cells_alone ports m earlier processes ≡ [] → AreWithin (processes_rows start p m.wires m processes)
-  processes_within start p earlier [] e x i = absurd i
-  processes_within start p earlier (q ∷ processes) e x i = absurd (cc)
+  processes_within : (start : SigBit → Bit) (p : Path) (processes : List Process) → AreWithin (processes_rows start p m.wires m processes)
+  processes_within start p [] = λ x i. absurd i
+  processes_within start p (q ∷ processes) = both (process_rows start p m.wires m q) (processes_rows start p m.wires m processes) (process_within start p m q) (processes_within start p processes)
 
-  memories_within : (p : Path) (cells : List CellOf) (processes : List Process) (memories : List Store) → flat_map (store_faults cells_alone m.id) memories ≡ [] → AreWithin (memories_rows p m.wires cells processes memories)
+  memories_within : (p : Path) (cells : List CellOf) (processes : List Process) (memories : List Store) → flat_map (store_faults taken m.id) memories ≡ [] → AreWithin (memories_rows p m.wires cells processes memories)
   memories_within p cells processes [] e x i = absurd i
   memories_within p cells processes (s ∷ memories) e x i = absurd (cc)
 
-  rows_within : (inner : flat.Ports) (p : Path) → module_faults cells_alone ports m ≡ [] → AreWithin (rows_of inner p m)
+  rows_within : (inner : flat.Ports) (p : Path) → module_faults taken ports m ≡ [] → AreWithin (rows_of inner p m)
   rows_within inner p e =
       let start = start_of m.wires m.processes in
       let e1 = left_none _ (bits_faults m.id (drives_of ports m) 0 m.wires) e in
       let e2 = left_none _ (link_faults m.id 1 m.links) e1 in
-      let ps = right_none _ (process_faults cells_alone ports m [] m.processes) e2 in
-      let e3 = left_none _ (process_faults cells_alone ports m [] m.processes) e2 in
-      let cs = right_none _ (cell_faults cells_alone ports m [] m.cells) e3 in
-      let e4 = left_none _ (cell_faults cells_alone ports m [] m.cells) e3 in
-      let ss = right_none (wire_faults m.id [] m.wires) (flat_map (store_faults cells_alone m.id) m.memories) e4 in
+      let e3 = left_none _ (process_faults taken ports m [] m.processes) e2 in
+      let cs = right_none _ (cell_faults taken ports m [] m.cells) e3 in
+      let e4 = left_none _ (cell_faults taken ports m [] m.cells) e3 in
+      let ss = right_none (wire_faults m.id [] m.wires) (flat_map (store_faults taken m.id) m.memories) e4 in
       both (cells_rows start inner p m.wires m.cells) (plain_rows p m) (cells_within start inner p [] m.cells cs)
       (both (link_rows p m.wires m.links) _ (links_within p m.wires m.links)
-      (both (processes_rows start p m.wires m m.processes) (memories_rows p m.wires m.cells m.processes m.memories) (processes_within start p [] m.processes ps) (memories_within p m.cells m.processes m.memories ss)))
+      (both (processes_rows start p m.wires m m.processes) (memories_rows p m.wires m.cells m.processes m.memories) (processes_within start p m.processes) (memories_within p m.cells m.processes m.memories ss)))
 
 -- a module of these has no faults
-module_faultless : (ports : Ports) (modules : List Module) → flat_map (module_faults cells_alone ports) modules ≡ [] → (m : Module) → In m modules → module_faults cells_alone ports m ≡ []
+module_faultless : (ports : Ports) (modules : List Module) → flat_map (module_faults taken ports) modules ≡ [] → (m : Module) → In m modules → module_faults taken ports m ≡ []
 module_faultless ports [] e m i = absurd i
 module_faultless ports (n ∷ modules) e m (inl f) =
-    subst (λ z. module_faults cells_alone ports z ≡ []) (sym f) (left_none (module_faults cells_alone ports n) (flat_map (module_faults cells_alone ports) modules) e)
+    subst (λ z. module_faults taken ports z ≡ []) (sym f) (left_none (module_faults taken ports n) (flat_map (module_faults taken ports) modules) e)
 module_faultless ports (n ∷ modules) e m (inr i) =
-    module_faultless ports modules (right_none (module_faults cells_alone ports n) (flat_map (module_faults cells_alone ports) modules) e) m i
+    module_faultless ports modules (right_none (module_faults taken ports n) (flat_map (module_faults taken ports) modules) e) m i
 
 named_in : (modules : List Module) (id : List ℕ) (m : Module) → named modules id ≡ Some m → In m modules
 named_in [] id m e = absurd (cc)
@@ -198,12 +274,12 @@ named_in (n ∷ modules) id m e =
     by rest true f = inl (sym (cc))
     by rest false f = inr (rest f)
 
-module _ (d : Design) (faultless : faults_within cells_alone d.modules ≡ []) where
+module _ (d : Design) (faultless : faults_within taken d.modules ≡ []) where
   tree_within : (depth : ℕ) (p : Path) (m : Module) → In m d.modules → AreWithin (in_tree d (rows_of (tree.design_ports d)) depth p m)
   tree_within zero p m i = λ x j. absurd j
   tree_within (suc depth) p m i =
       both (rows_of (tree.design_ports d) p m) (in_instances d (in_tree d (rows_of (tree.design_ports d)) depth) p (instances m.cells))
-      (rows_within (design_ports d.modules) m (tree.design_ports d) p (module_faultless (design_ports d.modules) d.modules (left_none (flat_map (module_faults cells_alone (design_ports d.modules)) d.modules) (recursion_faults d.modules) faultless) m i))
+      (rows_within (design_ports d.modules) m (tree.design_ports d) p (module_faultless (design_ports d.modules) d.modules (left_none (flat_map (module_faults taken (design_ports d.modules)) d.modules) (recursion_faults d.modules) faultless) m i))
       (λ x j. let k = instances_find d (in_tree d (rows_of (tree.design_ports d)) depth) p x (instances m.cells) j in
       tree_within depth (k.0 ∷ p) k.1 (named_in d.modules k.0.module_name k.1 k.3) x k.4)
 

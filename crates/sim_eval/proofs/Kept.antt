@@ -10,7 +10,6 @@ use Rattle.rtl_ir.specs.Faults.{faults_within}
 use Rattle.rtl_ir.specs.Flat.Driver.{Driven}
 use Rattle.rtl_ir.specs.Flat.Place.{Place}
 use Rattle.rtl_ir.specs.Flat.Tree.{driven_rows}
-use Rattle.rtl_ir.specs.Scope.{cells_alone}
 use Rattle.net_model.specs.Lists.{In}
 use Rattle.net_model.proofs.Members.{In-left, In-right}
 use Rattle.flat_net.specs.declared.net.Logic.{Logic}
@@ -19,6 +18,7 @@ use Rattle.flat_net.specs.declared.net.Part.{Part}
 use Rattle.flat_net.specs.declared.net.Part.TheVariants as part
 use Rattle.flat_net.specs.declared.net.Storage.{Storage}
 use Rattle.flat_net.specs.declared.net.StoreBit.{StoreBit}
+use Rattle.flat_net.specs.Taken.{taken}
 use Rattle.flat_net.specs.Parts.{inputs_of, output_row, part_rows, parts_rows, store_row}
 use Rattle.flat_net.specs.declared.net.Net.{Net}
 use Rattle.flat_net.specs.Points.{AreApart, point_of}
@@ -64,6 +64,7 @@ module _ (ps : List Place) where
   part_computable (part.Joined j) h = refl
   part_computable (part.Logic c) h = logic_computable c.value h
   part_computable (part.Storage c) h = storage_computable c.value h
+  part_computable (part.Tree t) h = refl
 
   parts_computable : (parts : List Part) → AreWithin (parts_rows ps parts) → are_computable parts ≡ true
   parts_computable [] h = refl
@@ -71,7 +72,7 @@ module _ (ps : List Place) where
       and_from (is_part_computable p) (are_computable parts) (part_computable p (λ x i. h x (In-left x (part_rows ps p) (parts_rows ps parts) i))) (parts_computable parts (λ x i. h x (In-right x (part_rows ps p) (parts_rows ps parts) i)))
 
 -- the first drivers of a module of a design without faults are within the limits of their kinds
-firsts_computable : (d : Design) (m : Module) (ps : List Place) (parts : List Part) → faults_within cells_alone d.modules ≡ [] → In m d.modules → parts_rows ps parts ≡ firsts (λ q. false) (driven_rows d m) → are_computable parts ≡ true
+firsts_computable : (d : Design) (m : Module) (ps : List Place) (parts : List Part) → faults_within taken d.modules ≡ [] → In m d.modules → parts_rows ps parts ≡ firsts (λ q. false) (driven_rows d m) → are_computable parts ≡ true
 firsts_computable d m ps parts faultless i e =
     parts_computable ps parts (λ x j. driven_within d faultless m i x (firsts_in (λ q. false) (driven_rows d m) x (subst (In x) e j)))
 

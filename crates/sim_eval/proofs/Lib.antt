@@ -1,6 +1,8 @@
 pub mod Tables
 pub mod Taking
 pub mod Bridges
+pub mod Trees
+pub mod TreeLoops
 pub mod Settling
 pub mod Firsts
 pub mod Afterwards
@@ -8,3 +10,4 @@ pub mod Simulating
 pub mod Limits
 pub mod Computable
 pub mod Kept
+pub mod Scopes

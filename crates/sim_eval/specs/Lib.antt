@@ -4,5 +4,6 @@ pub mod Sim
 pub mod First
 pub mod Moment
 pub mod Numbers
+pub mod Trees
 pub mod Advance
 pub mod Limits

@@ -21,14 +21,14 @@ use flat_net::{Logic, Output, Point};
 use rtl_bits::{Bit, Bits, Memory};
 use std::alloc::Global;
 
-/// What a combinational cell gives: a gate one bit, any other cell a word.
+/// What a combinational cell or a tree gives: a gate one bit, any other a word.
 #[derive(Drop)]
 pub(crate) enum Worked {
     Gate(Bit),
     Word(Bits),
 }
 
-/// The bit at a place of what the cell gives.
+/// The bit at a place of what is given.
 fn bit_of(worked: &Worked, at: u32) -> Bit
     ensures value { result ≡ worked_bit worked.now at }
 {
@@ -77,7 +77,7 @@ fn word(alloc: Global, cell: &Logic, values: &[Bit]) -> Result<Bits, Memory>
 }
 
 /// Gives the bits of an output their values. Answers whether one of them got one.
-fn put_all(outputs: &[Output], worked: &Worked, now: &mut [Bit]) -> bool
+pub(crate) fn put_all(outputs: &[Output], worked: &Worked, now: &mut [Bit]) -> bool
     ensures fewer { AreFewer now.old now.new result }
     ensures takes { (ps : List Place) → AreApart ps → length ps ≡ length now.old →
         AllByRecursion (λ (o : Output). o.number < length ps) outputs.now →

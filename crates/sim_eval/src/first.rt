@@ -76,6 +76,10 @@ fn first_of_part(alloc: Global, part: Part, seen: &mut [bool]) -> Result<Option<
             cell.bits = first_bits(alloc, cell.bits.as_slice(), seen)?;
             Ok(Some(Part::Storage(cell)))
         }
+        Part::Tree(mut tree) => {
+            tree.outputs = first_outputs(alloc, tree.outputs.as_slice(), seen)?;
+            Ok(Some(Part::Tree(tree)))
+        }
     }
 }
 

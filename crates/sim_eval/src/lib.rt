@@ -4,10 +4,12 @@
 mod cell;
 mod first;
 pub mod laws;
+mod matching;
 mod moment;
 mod sim;
 mod store;
 mod sweep;
+mod tree;
 mod values;
 
 pub use sim::Sim;

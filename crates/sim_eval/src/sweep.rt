@@ -14,6 +14,7 @@ ghost use Rattle.sim_eval.specs.Numbers.{given_of};
 use crate::cell::update_logic;
 use crate::moment::Moment;
 use crate::store::update_storage;
+use crate::tree::update_tree;
 use crate::values::{bit_at, passed, put, read};
 use flat_net::{Join, Output, Part};
 use rtl_bits::{Bit, Memory};
@@ -76,6 +77,7 @@ fn update(alloc: Global, moment: &Moment, part: &Part, now: &mut [Bit]) -> Resul
         Part::Joined(join) => Ok(update_joined(*join, now)),
         Part::Logic(cell) => update_logic(alloc, cell, now),
         Part::Storage(cell) => Ok(update_storage(moment, cell, now)),
+        Part::Tree(tree) => update_tree(alloc, tree, now),
     }
 }
 

@@ -10,11 +10,17 @@ use flat_net::Point;
 use rtl_bits::{Bit, Bits, Memory, Seq};
 use std::alloc::Global;
 
-/// The bit at a place, x past the end.
+/// The bit of a number, x past the end.
 pub(crate) fn bit_at(bits: &[Bit], at: u32) -> Bit
     ensures value { result ≡ slice_index_or bits.now at Bit.X }
 {
-    let at = at as usize;
+    bit_in(bits, at as usize)
+}
+
+/// The bit at a place, x past the end.
+pub(crate) fn bit_in(bits: &[Bit], at: usize) -> Bit
+    ensures value { result ≡ slice_index_or bits.now at Bit.X }
+{
     if at < bits.len() { bits[at] } else { Bit::X }
 }
 

@@ -1,13 +1,15 @@
 use Rattle.std.proofs.Common.{◌≡◌, ◌<◌, ◌∙◌, ℕ, ap, map, refl, subst, sym}
 use Rattle.std.specs.List.{AllByRecursion}
-use Rattle.rtl_ir.specs.Flat.Driver.{Given, Joined, Worked, Stored}
+use Rattle.rtl_ir.specs.Flat.Driver.{Given, Joined, Worked, Stored, Decided}
 use Rattle.flat_net.specs.declared.net.Output.{Output}
 use Rattle.flat_net.specs.declared.net.StoreBit.{StoreBit}
 use Rattle.flat_net.specs.Parts.{inputs_of, output_row, part_rows, store_row}
+use Rattle.flat_net.specs.Picks.{tree_pick, tree_row}
 use Rattle.flat_net.specs.Points.{place_at, pins_of, point_of}
-use Rattle.flat_net.specs.Within.{IsLogicWithin, IsPartWithin, IsStoreWithin}
+use Rattle.flat_net.specs.Within.{IsLogicWithin, IsOutputWithin, IsPartWithin, IsStoreWithin, IsTreeWithin}
 use Rattle.sim_eval.specs.First.{IsFirstOf, marked, unmarked}
 use Rattle.sim_eval.proofs.Firsts.{first_items, first_single, stores_within, within_unmarked}
+use Rattle.sim_eval.proofs.Trees.{numbers_within}
 use Rattle.sim_eval.proofs.first.first_of_part.Goals as goal
 
 pub returns-in-Given : goal.returns-in-Given
@@ -59,5 +61,27 @@ returns-in_ok-cell-in-Storage c =
           (λ ps. ap (λ z. map (store_row ps z.shape) outs) c.deref_mut-in-Storage.ensures.value)
           (λ count h. stores_within count cell.bits (subst (IsPartWithin count) c.in-Storage.is h))
           (λ count h. subst (AllByRecursion (IsStoreWithin count)) (sym is) (within_unmarked number (IsStoreWithin count) seen cell.bits (subst (IsPartWithin count) c.in-Storage.is h)))
+          is marks;
+    }
+
+pub returns-in_ok-tree-in-Tree : goal.returns-in_ok-tree-in-Tree
+returns-in_ok-tree-in-Tree c =
+    let seen = c.args.seen.now in
+    let tree = c.in-Tree.tree.value in
+    let outs = c.in_ok-tree-in-Tree.field-0 in
+    let number : Output → ℕ = λ o. o.number in
+    let were : c.as_slice-in-Tree.result.now ≡ tree.outputs = c.as_slice-in-Tree.ensures.value ∙ ap (λ z. z.outputs) c.deref-in-Tree.ensures in
+    let is : outs ≡ unmarked number seen tree.outputs = c.in_ok-tree-in-Tree.ensures.value ∙ ap (unmarked number seen) were in
+    let marks : c.first_outputs-in-Tree.new.seen ≡ marked number seen tree.outputs = c.in_ok-tree-in-Tree.ensures.seen ∙ ap (marked number seen) were in
+    record {
+      first = first_items number (λ ps (o : Output). Decided (tree_pick ps tree.root o.at)) seen c.first_outputs-in-Tree.new.seen c.args.part _ tree.outputs outs
+          (λ ps. ap (part_rows ps) c.in-Tree.is)
+          (λ ps. ap (λ z. map (tree_row ps z.root) outs) c.deref_mut-in-Tree.ensures.value)
+          (λ count h. let k : IsTreeWithin count tree = subst (IsPartWithin count) c.in-Tree.is h in numbers_within count tree.width tree.outputs k.outputs)
+          (λ count h.
+          let k : IsTreeWithin count tree = subst (IsPartWithin count) c.in-Tree.is h in
+          let there : IsTreeWithin count (record tree { outputs = outs }) =
+          record { root = k.root; outputs = subst (AllByRecursion (IsOutputWithin count tree.width)) (sym is) (within_unmarked number (IsOutputWithin count tree.width) seen tree.outputs k.outputs) } in
+          subst (λ z. IsTreeWithin count (record z { outputs = outs })) (sym c.deref_mut-in-Tree.ensures.value) there)
           is marks;
     }

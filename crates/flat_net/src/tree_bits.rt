@@ -1,0 +1,71 @@
+//! The tree bits of a process.
+
+ghost use Rattle.std.specs.Prelude.{◌≡◌, ◌<◌, IfOk, Some, length, reverse, slice_get};
+ghost use Rattle.rtl_ir.specs.Assigns.{tree_bits};
+ghost use Rattle.flat_net.specs.Trees.{IsFound};
+
+use indexmap::IndexSet;
+use net_index::assigned_bits;
+use rtl_bits::Memory;
+use rtl_ir::Case;
+use rtl_sig::WireBit;
+use std::alloc::Global;
+use std::marker::Model;
+
+/// The bits that the tree of a process gives values to, each at a place of its own, the last one first.
+#[derive(Drop)]
+pub(crate) struct TreeBits {
+    bits: IndexSet<WireBit>,
+}
+
+impl Model for TreeBits {
+    ghost use Rattle.std.specs.Prelude.{List};
+    ghost use Rattle.std.specs.List.{IsDistinct};
+    ghost use Rattle.rtl_sig.specs.declared.sig.WireBit.{WireBit};
+    ghost use Rattle.rtl_ir.specs.Signals.{same_bit};
+
+    ghost Value = { List WireBit };
+
+    ghost view = { λ t. t.bits.keys };
+
+    ghost invariant = { λ t. IsDistinct same_bit t.bits.keys };
+}
+
+impl TreeBits {
+    /// The tree bits of the process with this root.
+    pub(crate) fn of(alloc: Global, root: &Case) -> Result<TreeBits, Memory>
+        ensures value { IfOk result (λ bits. reverse bits ≡ tree_bits root.now) }
+    {
+        let assigned = assigned_bits(alloc, root)?;
+        let mut bits = IndexSet::new(alloc);
+        for at in (0..assigned.len()).rev() {
+            bits.insert_full(assigned[at])?;
+        }
+        Ok(TreeBits { bits })
+    }
+
+    /// The place of a bit, where it is one of them.
+    pub(crate) fn find(&self, bit: WireBit) -> Option<usize>
+        ensures value { IsFound self.now bit result }
+    {
+        self.bits.get_index_of(&bit)
+    }
+
+    /// The bit at a place.
+    pub(crate) fn at(&self, at: usize) -> WireBit
+        requires in_range { at < length self.now }
+        ensures value { slice_get self.now at ≡ Some result }
+    {
+        match self.bits.get_index(at) {
+            Some(bit) => *bit,
+            None => unreachable!(),
+        }
+    }
+
+    /// How many there are.
+    pub(crate) fn len(&self) -> usize
+        ensures value { result ≡ length self.now }
+    {
+        self.bits.len()
+    }
+}
