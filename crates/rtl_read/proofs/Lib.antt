@@ -1,5 +1,4 @@
 pub mod Stacks
-pub mod Parts
 pub mod Signals
 pub mod Faults
 pub mod Taking

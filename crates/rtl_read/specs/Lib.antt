@@ -1,6 +1,5 @@
 pub mod Gives
 pub mod Constant
-pub mod Part
 pub mod Signal
 pub mod Meaning
 pub mod Draft
