@@ -7,6 +7,8 @@ pub mod NoLines
 pub mod BuildLemmas
 pub mod Given
 pub mod Reading
+pub mod Alone
+pub mod Beginning
 pub mod Stepping
 pub mod RenamingProc
 pub mod Renaming

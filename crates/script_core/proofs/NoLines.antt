@@ -69,12 +69,12 @@ module _ (scope : Scope) (ports : Ports) (m : Module) where
 
 none_of : {A : Type 0} (f : A → Bool) (xs : List A) → not (list_any f xs) ≡ true → Each (λ (x : A). f x ≡ false) xs
 none_of f [] e x i = absurd i
-none_of {A} f (y ∷ ys) e x i = by (f y) refl e i
+none_of {A} f (y ∷ ys) e x i = by (λ k. none_of f ys k x) (f y) refl e i
   where
-    by : (t : Bool) → f y ≡ t → not (t || list_any f ys) ≡ true → In x (y ∷ ys) → f x ≡ false
-    by true h k j = absurd cc
-    by false h k (inl same) = ap f same ∙ h
-    by false h k (inr j) = none_of f ys k x j
+    by : (not (list_any f ys) ≡ true → In x ys → f x ≡ false) → (t : Bool) → f y ≡ t → not (t || list_any f ys) ≡ true → In x (y ∷ ys) → f x ≡ false
+    by rest true h k j = absurd cc
+    by rest false h k (inl same) = ap f same ∙ h
+    by rest false h k (inr j) = rest k j
 
 pub no_lines : (ports : Ports) (m : Module) → module_faults taken ports m ≡ [] → HaveNoLines m
 no_lines ports m e p i = none_of has_line p.syncs (all_taken taken ports m e p i)

@@ -96,7 +96,7 @@ module _ (id : List ℕ) where
         → switches_value run above number switches prior (renamed_trees t) ≡ beside_trees (switches_value run above number switches prior t)
     switches_renamed run above number NoSwitch prior t = refl
     switches_renamed run above number (OneSwitch signal attributes cases rest) prior t =
-        by (assigns_run (cases_assigns cases) run) ∙ switches_renamed run above (number + 1) rest value.0 value.1
+        by (assigns_run (cases_assigns cases) run) (cases_renamed run (above ++ number ∷ []) 0 signal cases prior t) ∙ switches_renamed run above (number + 1) rest value.0 value.1
       where
         after : List SigBit × Trees → List SigBit × Trees
         after value = switches_value run above (number + 1) rest value.0 value.1
@@ -104,11 +104,11 @@ module _ (id : List ℕ) where
         value : List SigBit × Trees
         value = if assigns_run (cases_assigns cases) run then cases_value run (above ++ number ∷ []) 0 signal cases prior t else (prior, t)
 
-        by : (a : Bool)
+        by : (a : Bool) → cases_value run (above ++ number ∷ []) 0 signal cases prior (renamed_trees t) ≡ beside_trees (cases_value run (above ++ number ∷ []) 0 signal cases prior t)
             → after (if a then cases_value run (above ++ number ∷ []) 0 signal cases prior (renamed_trees t) else (prior, renamed_trees t))
             ≡ after (beside_trees (if a then cases_value run (above ++ number ∷ []) 0 signal cases prior t else (prior, t)))
-        by true = ap after (cases_renamed run (above ++ number ∷ []) 0 signal cases prior t)
-        by false = refl
+        by true same = ap after same
+        by false same = refl
 
     cases_renamed : (run : List WireBit) (above : List ℕ) (number : ℕ) (signal : List SigBit) (cases : Cases) (prior : List SigBit) (t : Trees)
         → cases_value run above number signal cases prior (renamed_trees t) ≡ beside_trees (cases_value run above number signal cases prior t)

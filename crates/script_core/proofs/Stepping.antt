@@ -1,8 +1,8 @@
 -- What the pass of each word keeps.
-use Rattle.std.proofs.Common.{◌≡◌, Bool, true, false, cond, Option, Some, None, List, [], ◌∷◌, inl, inr, refl, sym, ◌∙◌, ap, subst}
+use Rattle.std.proofs.Common.{◌≡◌, Bool, true, false, cond, Option, Some, None, Ok, List, [], ◌∷◌, inl, inr, refl, sym, ◌∙◌, ap, subst}
 use Rattle.rtl_ir.specs.Flat.Tree as flat
 use Rattle.rtl_ir.specs.Ports.{ports_of}
-use Rattle.rtl_ir.specs.Types.{table_ports}
+use Rattle.rtl_ir.specs.Types.{Ports, table_ports}
 use Rattle.rtl_ir.specs.declared.module.Module.{Module}
 use Rattle.rtl_ir.specs.declared.ports.PortTable.{PortTable}
 use Rattle.net_index.specs.Builder.{IsInLimits}
@@ -10,9 +10,15 @@ use Rattle.rtl_ir.specs.declared.process.Process.{Process}
 use Rattle.net_model.specs.Proc.Mux.{proc_mux_of}
 use Rattle.net_model.specs.Proc.Start.{proc_tree_of}
 use Rattle.proc_laws.specs.Ready as steps
-use Rattle.proc_laws.specs.Ready.{with_processes}
+use Rattle.proc_laws.specs.Ready.{with_processes, without_processes}
 use Rattle.proc_laws.specs.Step.{IsStep}
+use Rattle.proc_laws.proofs.Taking.{taken_processes, taken_whole}
 use Rattle.proc_laws.proofs.Turns.{IsStep_refl, IsStep_trans}
+use Rattle.proc_tree.proofs.Promised as promised
+use Rattle.proc_tree.proofs.Promised.{are_ruled, have_no_lines, tree_ready}
+use Rattle.mux_laws.proofs.FormingModule.{mux_ready, mux_step}
+use Rattle.script_core.proofs.Alone.{alone, given_on}
+use Rattle.script_core.proofs.NoLines.{no_lines}
 use Rattle.rtl_check.specs.Taken.{taken}
 use Rattle.pass_laws.specs.Pass.{IsPass}
 use Rattle.pass_laws.specs.Ready.{IsReady}
@@ -40,7 +46,7 @@ given_pass : (table : PortTable) (m k n : Module) → IsPass table m k → Some 
 given_pass table m k n p e = let same : k ≡ n = cc in subst (IsPass table m) same p
 
 -- `techmap` within the limits
-techmap_pass : (table : PortTable) (m : Module) → MayBeGiven table m → IsInLimits (beside m) → IsPass table m (techmap_of m)
+techmap_pass : (table : PortTable) (m : Module) → MayBeGiven table Techmap m → IsInLimits (beside m) → IsPass table m (techmap_of m)
 techmap_pass table m h limits =
     let fine = takable (table_ports table.modules) m h in
     record {
@@ -57,20 +63,16 @@ as_step : (table : PortTable) (m n : Module) → IsPass table m n → IsStep tab
 as_step table m n h = record { id = h.id; ports = h.ports; instances = h.instances; driven = h.driven; refines = h.refines }
 
 -- a step whose answer may be given to each pass
-record Gives (table : PortTable) (m n : Module) : Type 0 where
-  step : IsStep table m n
-  ready : IsReady (table_ports table.modules) n
+pub record Gives (table : PortTable) (m n : Module) : Type 0 where
+  pub step : IsStep table m n
+  pub ready : IsReady (table_ports table.modules) n
 
 gives : (table : PortTable) (m n : Module) → IsReady (table_ports table.modules) m → IsPass table m n → Gives table m n
 gives table m n h pass = record { step = as_step table m n pass; ready = pass.ready h }
 
--- what has no process may be given to each pass
-given_on : (P : Ports) (m : Module) → steps.IsReady (without_processes false) P m → IsReady P m
-given_on P m h = record { faultless = h.faultless; named = h.named; within = h.within }
-
 -- `proc` of a module with processes
 module _ (table : PortTable) (m : Module) (h : MayBegin table m) where
-  P : Ports
+  abbrev P : Ports
   P = table_ports table.modules
 
   whole : steps.IsReady (with_processes true) P m
@@ -80,19 +82,13 @@ module _ (table : PortTable) (m : Module) (h : MayBegin table m) where
   ruled_whole = tree_ready m (with_processes true) (λ p e. e) P whole
 
   ruled_alone : steps.IsReady (with_processes false) P (proc_tree_of m)
-  ruled_alone = tree_ready m (with_processes false) (λ p e. e) P (taken_without taken P m refl h.ready)
+  ruled_alone = tree_ready m (with_processes false) (λ p e. e) P (taken_processes taken refl P m h.ready)
 
   ruling : IsStep table m (proc_tree_of m)
-  ruling = tree_step m (Ok (proc_tree_of m)) refl table h.placed whole
+  ruling = promised.step m (Ok (proc_tree_of m)) refl table h.placed whole
 
   muxing : IsInLimits (muxed m) → IsStep table (proc_tree_of m) (proc_mux_of (proc_tree_of m))
-  muxing limits = record {
-    id = mux_id (proc_tree_of m);
-    ports = mux_ports P (proc_tree_of m) true ruled_whole limits.names;
-    instances = mux_instances P (proc_tree_of m) true ruled_whole limits.names;
-    driven = λ over agree. mux_driven P over (proc_tree_of m) true ruled_whole limits.names;
-    refines = mux_refines table (proc_tree_of m) ruled_whole (are_ruled m) (have_no_lines m (no_lines P m h.ready.faultless));
-  }
+  muxing limits = mux_step table (proc_tree_of m) true ruled_whole (are_ruled m) (have_no_lines m (no_lines P m h.ready.faultless)) limits.names
 
   proc_gives : IsInLimits (muxed m) → Gives table m (proc_mux_of (proc_tree_of m))
   proc_gives limits = record {
@@ -102,7 +98,7 @@ module _ (table : PortTable) (m : Module) (h : MayBegin table m) where
 
   -- a module without processes
   stays : m.processes ≡ [] → Gives table m m
-  stays none = record { step = IsStep_refl table m; ready = given_on P m (without P m none (taken_without taken P m refl h.ready)) }
+  stays none = record { step = IsStep_refl table m; ready = alone P m none (taken_processes taken refl P m h.ready) }
 
 no_process : (table : PortTable) (m n : Module) (p : Process) (ps : List Process) → m.processes ≡ p ∷ ps → IsReady (table_ports table.modules) m → Gives table m n
 no_process table m n p ps e h = let none = (plain (table_ports table.modules) m h.faultless).processes in absurd cc

@@ -1,5 +1,5 @@
 -- Tests of event bits, over ports by which the same cells are combinational and drive the same.
-use Rattle.std.proofs.Common.{◌≡◌, ℕ, zero, suc, Bool, true, false, cond, if◌then◌else◌, Option, Some, None, List, [], ◌∷◌, inl, inr, refl, sym, ap}
+use Rattle.std.proofs.Common.{◌≡◌, ℕ, zero, suc, Bool, true, false, cond, if◌then◌else◌, Option, Some, None, List, [], ◌∷◌, inl, inr, refl, sym, ◌∙◌, ap}
 use Rattle.std.specs.Prelude.{◌&&◌, ◌||◌, not, slice_get}
 use Rattle.std.specs.List.{list_all}
 use Rattle.std.specs.Option.{option_and_then, option_map}
@@ -34,7 +34,7 @@ got_in (d ∷ cells) (suc k) c e = inr (got_in cells k c e)
 
 module _ (P Q : Ports) (m : Module) (kinds : (c : Cell) → In c m.cells → combinational_kind (cell_type P c.kind_name) ≡ combinational_kind (cell_type Q c.kind_name))
     (drives : cell_drives P 0 m.cells ≡ cell_drives Q 0 m.cells) where
-  through : Ports → Cell → Option Step
+  abbrev through : Ports → Cell → Option Step
   through ports c = option_and_then (step_through (all_joins m.links) c) (combinational_kind (cell_type ports c.kind_name))
 
   found_same : (o : Option Cell) → ((c : Cell) → o ≡ Some c → In c m.cells) → option_and_then (through P) o ≡ option_and_then (through Q) o

@@ -10,4 +10,3 @@ pub mod Simulating
 pub mod Limits
 pub mod Computable
 pub mod Kept
-pub mod Scopes

@@ -3,7 +3,6 @@ use Rattle.std.specs.Prelude.{Some, IfOk, slice_get}
 use Rattle.rtl_ir.specs.declared.module.Design.{Design}
 use Rattle.sim_eval.specs.Sim.{IsSimOf}
 use Rattle.sim_eval.proofs.Kept.{at_in, module_at}
-use Rattle.sim_eval.proofs.Scopes.{taken_faultless}
 use Rattle.sim_eval.proofs.sim.Sim.start.Goals as goal
 
 pub returns : goal.returns
@@ -24,11 +23,11 @@ of-requires c =
         design = d;
         body = found.0;
         bits = net.0;
-        faultless = taken_faultless d.modules c.design.ensures.faultless;
+        faultless = c.design.ensures.faultless;
         among = at_in d.modules c.args.at found.0 found.1;
         is = net.1;
       };
     }
 
 pub flatten-requires-clause-faultless : goal.flatten-requires-clause-faultless
-flatten-requires-clause-faultless c = taken_faultless c.design.result.now.modules c.design.ensures.faultless
+flatten-requires-clause-faultless c = c.design.ensures.faultless
