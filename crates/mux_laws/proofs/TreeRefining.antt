@@ -42,16 +42,16 @@ use Rattle.net_model.specs.Within.{AreInner, Each, IsWithin, with_wires}
 use Rattle.pass_laws.proofs.Passes.{refines_in_turn}
 use Rattle.pass_laws.proofs.Rewriting.{links-append}
 use Rattle.proc_laws.specs.Ready.{AreRuled, HaveNoLines, IsReady, with_processes}
-use Rattle.mux_laws.proofs.TreeGrowing.{Grows, IsWord}
+use Rattle.mux_laws.proofs.TreeGrowing.{Grows, IsPlainCell}
 use Rattle.mux_laws.proofs.TreeLess.{memories_same, none_acting, starts_same}
 use Rattle.mux_laws.proofs.TreeSteps.{BodyMet, picks_met, processes_grow}
 use Rattle.mux_laws.proofs.ValueMoment.{Moment}
 
--- cells that work on words are no instances
-no_instances : (cells : List Cell) → Each IsWord cells → instances cells ≡ []
+-- cells of the library are no instances
+no_instances : (cells : List Cell) → Each IsPlainCell cells → instances cells ≡ []
 no_instances [] h = refl
 no_instances (c ∷ cells) h =
-    (λ i. listed (instance_of c ((h c (inl refl)).1 i)) ++ no_instances cells (λ x j. h x (inr j)) i)
+    (λ i. listed (instance_of c ((h c (inl refl)).is i)) ++ no_instances cells (λ x j. h x (inr j)) i)
 
 -- the rows of one cell are among those of all
 rows_among : (start : SigBit → Bit) (ports : Ports) (p : Path) (wires : List Wire) (cells : List Cell) (c : Cell) → In c cells → (d : Driven) → In d (cell_rows start ports p wires c (cell_kind c)) → In d (cells_rows start ports p wires cells)
@@ -153,7 +153,7 @@ module _ (m : Module) (ruled : AreRuled m) (empty : HaveNoLines m) where
 
     old_memories : (d : Driven) → In d (memories_rows p (m.wires ++ grown.wires) m.cells m.processes m.memories) → IsMet d t w
     old_memories d i =
-        memories_met d (subst (In d) (sym (memories_same p (m.wires ++ grown.wires) m.cells grown.cells m.processes m.memories grown.words empty)) i)
+        memories_met d (subst (In d) (sym (memories_same p (m.wires ++ grown.wires) m.cells grown.cells m.processes m.memories grown.plain empty)) i)
 
     -- rows of processes are those of tree bits, each of which is connected to what stands for it
     old_processes : (d : Driven) → In d (processes_rows (start_of (m.wires ++ grown.wires) m.processes) p (m.wires ++ grown.wires) wide m.processes) → IsMet d t w
@@ -172,7 +172,7 @@ module _ (m : Module) (ruled : AreRuled m) (empty : HaveNoLines m) where
 
   no_children : instances m.cells ≡ instances (m.cells ++ grown.cells)
   no_children =
-      sym (instances-append m.cells grown.cells ∙ ap (λ z. instances m.cells ++ z) (no_instances grown.cells grown.words) ∙ append-nil (instances m.cells))
+      sym (instances-append m.cells grown.cells ∙ ap (λ z. instances m.cells ++ z) (no_instances grown.cells grown.plain) ∙ append-nil (instances m.cells))
 
   rows_refine : (ports : Ports) → RowsRefine wide after ports
   rows_refine ports = record {
