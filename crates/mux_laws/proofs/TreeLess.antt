@@ -1,8 +1,6 @@
--- Where no rule has a line, processes say nothing of start values and memories, and new cells that are none of
--- a memory neither.
+-- Start values and memories stay: rules without lines say nothing of them, nor do new cells that are none of a memory.
 use Rattle.std.proofs.Common.{◌≡◌, ℕ, Bool, true, false, if◌then◌else◌, List, [], ◌∷◌, ◌++◌, Some, length, inl, inr, refl, sym, ◌∙◌, ap}
 use Rattle.std.specs.Prelude.{◌&&◌, filter, flat_map, map, not, unwrap_or, ◌+◌}
-use Rattle.std.proofs.lemmas.List.{append-nil}
 use Rattle.cell_types.specs.declared.kind.CellKind.{CellKind}
 use Rattle.cell_types.specs.declared.kind.CellKind.TheVariants.{Memory}
 use Rattle.rtl_bits.specs.Tables.{seen_of}
@@ -74,18 +72,19 @@ starts_by p lines =
     })
     (all_joins lines)
 
-none_begun : (ps : List Process) → AllEmpty ps → flat_map process_starts ps ≡ []
+pub none_begun : (ps : List Process) → AllEmpty ps → flat_map process_starts ps ≡ []
 none_begun [] h = refl
 none_begun (p ∷ ps) h =
     let none : process_starts p ≡ [] = ap (λ lines. starts_by p lines) (no_starts p.syncs (h p (inl refl))) in
     (λ i. none i ++ none_begun ps (λ x j. h x (inr j)) i)
 
-same_start : (wires : List Wire) (ps : List Process) → AllEmpty ps → (s : SigBit) → start_of wires ps s ≡ start_of wires [] s
-same_start wires ps h (Fixed b) = refl
-same_start wires ps h (OnWire b) = ap (λ z. seen_of (unwrap_or (last_start z b) (init_bit wires b))) (none_begun ps h)
+same_start : (wires : List Wire) (ps qs : List Process) → flat_map process_starts ps ≡ flat_map process_starts qs → (s : SigBit) → start_of wires ps s ≡ start_of wires qs s
+same_start wires ps qs h (Fixed b) = refl
+same_start wires ps qs h (OnWire b) = ap (λ z. seen_of (unwrap_or (last_start z b) (init_bit wires b))) h
 
-pub starts_same : (wires : List Wire) (ps : List Process) → AllEmpty ps → start_of wires ps ≡ start_of wires []
-starts_same wires ps h = λ i s. same_start wires ps h s i
+-- processes that give the same start values
+pub starts_same : (wires : List Wire) (ps qs : List Process) → flat_map process_starts ps ≡ flat_map process_starts qs → start_of wires ps ≡ start_of wires qs
+starts_same wires ps qs h = λ i s. same_start wires ps qs h s i
 
 -- no line writes
 no_lines : (name : List ℕ) (event : Event) (number : ℕ) (writes : List WriteLine) → writes ≡ [] → line_accesses name event number [] writes ≡ []
@@ -96,6 +95,15 @@ no_access name number [] h = refl
 no_access name number (rule ∷ rules) h =
     let here : line_accesses name rule.event number [] rule.writes ≡ [] = no_lines name rule.event number rule.writes (no_writes rule (h rule (inl refl))) in
     ap (λ (z : List Access). z ++ rule_accesses name (number + length z) rules) here ∙ no_access name (number + 0) rules (λ x j. h x (inr j))
+
+-- the lines of processes write each memory alike
+abbrev pub SameAccesses : List Process → List Process → Type 0
+SameAccesses ps qs =
+    (name : List ℕ) (number : ℕ) → rule_accesses name number (flat_map (λ (p : Process). p.syncs) ps) ≡ rule_accesses name number (flat_map (λ (p : Process). p.syncs) qs)
+
+pub none_written : (ps : List Process) → AllEmpty ps → SameAccesses ps []
+none_written ps h name number =
+    no_access name number (flat_map (λ (p : Process). p.syncs) ps) (each_flat_map (λ (rule : SyncRule). has_line rule ≡ false) (λ (p : Process). p.syncs) ps h)
 
 -- a filter that takes none of the further items
 filter_more : {A : Type 0} (test : A → Bool) (xs ys : List A) → Each (λ y. test y ≡ false) ys → filter test (xs ++ ys) ≡ filter test xs
@@ -135,14 +143,13 @@ module _ (cells new : List Cell) (plain : Each IsPlainCell new) (name : List ℕ
   same_readers =
       filter_more (λ (c : Cell). is_read_kind (cell_kind c) && is_of_memory name c) cells new (λ c i. ap (λ k. is_read_kind k && is_of_memory name c) (plain c i).is ∙ ap (λ t. t && is_of_memory name c) (no_read (plain c i).kind (plain c i).plain))
 
-  all_accesses : (ps : List Process) → AllEmpty ps → accesses_of name (cells ++ new) [] ≡ accesses_of name cells ps
-  all_accesses ps h =
-      let here : List Access = cell_accesses name cells in
-      let none : rule_accesses name (next_number here) (flat_map (λ (p : Process). p.syncs) ps) ≡ [] = no_access name (next_number here) (flat_map (λ (p : Process). p.syncs) ps) (each_flat_map (λ (rule : SyncRule). has_line rule ≡ false) (λ (p : Process). p.syncs) ps h) in
-      append-nil (cell_accesses name (cells ++ new)) ∙ same_accesses ∙ sym (append-nil here) ∙ sym (ap (λ z. here ++ z) none)
+  all_accesses : (ps qs : List Process) → SameAccesses ps qs → accesses_of name (cells ++ new) qs ≡ accesses_of name cells ps
+  all_accesses ps qs h =
+      (λ i. same_accesses i ++ rule_accesses name (next_number (same_accesses i)) (flat_map (λ (p : Process). p.syncs) qs))
+      ∙ ap (λ z. cell_accesses name cells ++ z) (sym (h name (next_number (cell_accesses name cells))))
 
 -- the rows of memories stay
-pub memories_same : (p : Path) (wires : List Wire) (cells new : List Cell) (ps : List Process) (stores : List Store) → Each IsPlainCell new → AllEmpty ps → memories_rows p wires (cells ++ new) [] stores ≡ memories_rows p wires cells ps stores
-memories_same p wires cells new ps [] plain h = refl
-memories_same p wires cells new ps (s ∷ stores) plain h =
-    (λ i. (word_rows p wires s (all_accesses cells new plain s.name ps h i) (same_inits cells new plain s.name i) ++ flat_map (read_rows p wires s) (same_readers cells new plain s.name i)) ++ memories_same p wires cells new ps stores plain h i)
+pub memories_same : (p : Path) (wires : List Wire) (cells new : List Cell) (ps qs : List Process) (stores : List Store) → Each IsPlainCell new → SameAccesses ps qs → memories_rows p wires (cells ++ new) qs stores ≡ memories_rows p wires cells ps stores
+memories_same p wires cells new ps qs [] plain h = refl
+memories_same p wires cells new ps qs (s ∷ stores) plain h =
+    (λ i. (word_rows p wires s (all_accesses cells new plain s.name ps qs h i) (same_inits cells new plain s.name i) ++ flat_map (read_rows p wires s) (same_readers cells new plain s.name i)) ++ memories_same p wires cells new ps qs stores plain h i)

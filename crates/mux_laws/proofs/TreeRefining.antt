@@ -43,18 +43,18 @@ use Rattle.pass_laws.proofs.Passes.{refines_in_turn}
 use Rattle.pass_laws.proofs.Rewriting.{links-append}
 use Rattle.proc_laws.specs.Ready.{AreRuled, HaveNoLines, IsReady, with_processes}
 use Rattle.mux_laws.proofs.TreeGrowing.{Grows, IsPlainCell}
-use Rattle.mux_laws.proofs.TreeLess.{memories_same, none_acting, starts_same}
+use Rattle.mux_laws.proofs.TreeLess.{memories_same, none_acting, none_begun, none_written, starts_same}
 use Rattle.mux_laws.proofs.TreeSteps.{BodyMet, picks_met, processes_grow}
 use Rattle.mux_laws.proofs.ValueMoment.{Moment}
 
 -- cells of the library are no instances
-no_instances : (cells : List Cell) → Each IsPlainCell cells → instances cells ≡ []
+pub no_instances : (cells : List Cell) → Each IsPlainCell cells → instances cells ≡ []
 no_instances [] h = refl
 no_instances (c ∷ cells) h =
     (λ i. listed (instance_of c ((h c (inl refl)).is i)) ++ no_instances cells (λ x j. h x (inr j)) i)
 
 -- the rows of one cell are among those of all
-rows_among : (start : SigBit → Bit) (ports : Ports) (p : Path) (wires : List Wire) (cells : List Cell) (c : Cell) → In c cells → (d : Driven) → In d (cell_rows start ports p wires c (cell_kind c)) → In d (cells_rows start ports p wires cells)
+pub rows_among : (start : SigBit → Bit) (ports : Ports) (p : Path) (wires : List Wire) (cells : List Cell) (c : Cell) → In c cells → (d : Driven) → In d (cell_rows start ports p wires c (cell_kind c)) → In d (cells_rows start ports p wires cells)
 rows_among start ports p wires [] c i d j = absurd i
 rows_among start ports p wires (x ∷ cells) c (inl e) d j =
     In-left d _ _ (subst (λ z. In d (cell_rows start ports p wires z (cell_kind z))) e j)
@@ -62,7 +62,7 @@ rows_among start ports p wires (x ∷ cells) c (inr i) d j =
     In-right d (cell_rows start ports p wires x (cell_kind x)) _ (rows_among start ports p wires cells c i d j)
 
 -- a row of processes is one of a process
-process_among : (start : SigBit → Bit) (p : Path) (wires : List Wire) (m : Module) (ps : List Process) (d : Driven) → In d (processes_rows start p wires m ps) → (q : Process) × In q ps × In d (process_rows start p wires m q)
+pub process_among : (start : SigBit → Bit) (p : Path) (wires : List Wire) (m : Module) (ps : List Process) (d : Driven) → In d (processes_rows start p wires m ps) → (q : Process) × In q ps × In d (process_rows start p wires m q)
 process_among start p wires m [] d i = absurd i
 process_among start p wires m (q ∷ ps) d i =
     ⊎_elim
@@ -71,7 +71,7 @@ process_among start p wires m (q ∷ ps) d i =
     (In-cases d (process_rows start p wires m q) (processes_rows start p wires m ps) i)
 
 -- fresh wires give no bit a second driver
-still_driven : (m : Module) (fresh : List Wire) → AreInner fresh → IsWithin m → (ports : Ports) → IsWellDriven ports m → IsWellDriven ports (with_wires fresh m)
+pub still_driven : (m : Module) (fresh : List Wire) → AreInner fresh → IsWithin m → (ports : Ports) → IsWellDriven ports m → IsWellDriven ports (with_wires fresh m)
 still_driven m fresh inner within ports h = record {
   inputs = λ p. subst (λ lines. Distinct (flat.places (flat.role_points Input p lines))) (sym (ports_more m.wires fresh inner)) (h.inputs p);
   rows = λ p. subst (λ rows. Distinct (places_of rows)) (sym (rows_more ports p m fresh within)) (h.rows p);
@@ -145,7 +145,7 @@ module _ (m : Module) (ruled : AreRuled m) (empty : HaveNoLines m) where
     -- rows of cells, connections and memories stay
     old_cells : (d : Driven) → In d (cells_rows (start_of (m.wires ++ grown.wires) m.processes) ports p (m.wires ++ grown.wires) m.cells) → IsMet d t w
     old_cells d i =
-        let same = starts_same (m.wires ++ grown.wires) m.processes empty in
+        let same = starts_same (m.wires ++ grown.wires) m.processes [] (none_begun m.processes empty) in
         cells_met d (subst (In d) (sym (rows-append start ports p (m.wires ++ grown.wires) m.cells grown.cells)) (In-left d _ _ (subst (λ z. In d (cells_rows z ports p (m.wires ++ grown.wires) m.cells)) same i)))
 
     old_links : (d : Driven) → In d (link_rows p (m.wires ++ grown.wires) m.links) → IsMet d t w
@@ -153,7 +153,7 @@ module _ (m : Module) (ruled : AreRuled m) (empty : HaveNoLines m) where
 
     old_memories : (d : Driven) → In d (memories_rows p (m.wires ++ grown.wires) m.cells m.processes m.memories) → IsMet d t w
     old_memories d i =
-        memories_met d (subst (In d) (sym (memories_same p (m.wires ++ grown.wires) m.cells grown.cells m.processes m.memories grown.plain empty)) i)
+        memories_met d (subst (In d) (sym (memories_same p (m.wires ++ grown.wires) m.cells grown.cells m.processes [] m.memories grown.plain (none_written m.processes empty))) i)
 
     -- rows of processes are those of tree bits, each of which is connected to what stands for it
     old_processes : (d : Driven) → In d (processes_rows (start_of (m.wires ++ grown.wires) m.processes) p (m.wires ++ grown.wires) wide m.processes) → IsMet d t w
