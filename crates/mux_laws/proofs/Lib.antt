@@ -11,4 +11,5 @@ pub mod TreeValue
 pub mod TreeRuns
 pub mod TreeSteps
 pub mod TreeLess
+pub mod TreeBuilt
 pub mod TreeRefining
