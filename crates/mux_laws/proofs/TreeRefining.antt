@@ -1,5 +1,5 @@
 -- A module with multiplexers in the place of its processes refines the module.
-use Rattle.std.proofs.Common.{◌≡◌, List, [], ◌∷◌, ◌++◌, inl, inr, ⊎_elim, refl, sym, ◌∙◌, subst}
+use Rattle.std.proofs.Common.{◌≡◌, List, [], ◌++◌, sym, ◌∙◌, subst}
 use Rattle.std.specs.Prelude.{true}
 use Rattle.std.proofs.lemmas.List.{append-nil}
 use Rattle.rtl_bits.specs.declared.bit.Bit.{Bit}
@@ -21,7 +21,7 @@ use Rattle.rtl_ir.specs.declared.process.Process.{Process}
 use Rattle.rtl_ir.specs.declared.wire.Wire.{Wire}
 use Rattle.rtl_sig.specs.declared.sig.SigBit.{SigBit}
 use Rattle.rtl_sig.specs.declared.sig.WireBit.{WireBit}
-use Rattle.net_model.proofs.Members.{In-cases, In-mapped}
+use Rattle.net_model.proofs.Members.{In-mapped}
 use Rattle.net_model.specs.Lists.{In}
 use Rattle.net_model.specs.Proc.Mux.{proc_mux_of, processes_step}
 use Rattle.net_model.specs.Refine.{IsMet, RefinesIn}
