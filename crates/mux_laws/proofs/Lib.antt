@@ -11,6 +11,7 @@ pub mod TreeValue
 pub mod TreeRuns
 pub mod TreeSteps
 pub mod TreeLess
+pub mod TreeBuilt
 pub mod TreeRefining
 pub mod FrameCells
 pub mod FrameGrowing

@@ -1,10 +1,13 @@
--- Building only adds: cells of the library that work on words, wires that are no ports, and connections, behind the others.
-use Rattle.std.proofs.Common.{◌≡◌, ℕ, ◌+◌, List, [], ◌∷◌, ◌++◌, length, Some, refl, sym, ◌∙◌, ap, subst, append_assoc}
+-- Building only adds: cells of the library that are none of a memory, wires that are no ports, and connections, behind the
+-- others.
+use Rattle.std.proofs.Common.{◌≡◌, ℕ, false, ◌+◌, List, [], ◌∷◌, ◌++◌, length, Some, refl, sym, ◌∙◌, ap, subst, append_assoc}
 use Rattle.std.proofs.lemmas.List.{append-nil}
 use Rattle.cell_types.specs.Kind.{kind_of}
+use Rattle.cell_types.specs.declared.kind.CellKind.{CellKind}
 use Rattle.cell_types.specs.declared.kind.CellKind.TheVariants.{Word}
 use Rattle.cell_types.specs.declared.word.WordKind.{WordKind}
 use Rattle.rtl_ir.specs.Build.{Building, inner_wire, made_name, new_driver, new_link, pin_of, whole}
+use Rattle.rtl_ir.specs.Faults.Cells.{is_memory_kind}
 use Rattle.rtl_ir.specs.Flat.Cell.{cell_kind}
 use Rattle.rtl_ir.specs.declared.cell.Cell.{Cell}
 use Rattle.rtl_ir.specs.declared.cell.CellParam.{CellParam}
@@ -17,9 +20,11 @@ use Rattle.net_model.proofs.Ranges.{each_both, each_more, each_none}
 use Rattle.net_model.specs.Within.{AreInner, Each}
 use Rattle.mux_laws.proofs.ValueMoment.{AreMet, Moment, met_left}
 
--- a cell works on words
-abbrev pub IsWord : Cell → Type 0
-IsWord c = (kind : WordKind) × (cell_kind c ≡ Some (Word kind))
+-- a cell of the library, and none of a memory
+pub record IsPlainCell (c : Cell) : Type 0 where
+  pub kind : CellKind
+  pub is : cell_kind c ≡ Some kind
+  pub plain : is_memory_kind kind ≡ false
 
 -- a module with further items
 abbrev pub with_more : List Cell → List Wire → List Link → Module → Module
@@ -31,7 +36,7 @@ pub record Grows (old new : Building) : Type 0 where
   pub wires : List Wire
   pub links : List Link
   pub body : new.body ≡ with_more cells wires links old.body
-  pub words : Each IsWord cells
+  pub plain : Each IsPlainCell cells
   pub inner : AreInner wires
 
 pub grows_none : (b : Building) → Grows b b
@@ -40,7 +45,7 @@ grows_none b = record {
   wires = [];
   links = [];
   body = let none : with_more [] [] [] b.body ≡ b.body = λ i. record b.body { cells = append-nil b.body.cells i; wires = append-nil b.body.wires i; links = append-nil b.body.links i } in sym none;
-  words = each_none IsWord;
+  plain = each_none IsPlainCell;
   inner = λ w i. absurd i;
 }
 
@@ -53,7 +58,7 @@ grows_both a b c h k = record {
       k.body
       ∙ ap (with_more k.cells k.wires k.links) h.body
       ∙ (λ i. record a.body { cells = append_assoc a.body.cells h.cells k.cells i; wires = append_assoc a.body.wires h.wires k.wires i; links = append_assoc a.body.links h.links k.links i });
-  words = each_both IsWord h.cells k.cells h.words k.words;
+  plain = each_both IsPlainCell h.cells k.cells h.plain k.plain;
   inner = each_both _ h.wires k.wires h.inner k.inner;
 }
 
@@ -64,7 +69,7 @@ grows_driver name kind e params pins output width b = record {
   wires = inner_wire (made_name (b.next + 1)) width [] ∷ [];
   links = [];
   body = λ i. record b.body { cells = b.body.cells ++ record { kind_name = name; name = made_name b.next; params = params; pins = pins ++ pin_of output (whole (length b.body.wires) width) ∷ []; attributes = [] } ∷ []; wires = b.body.wires ++ inner_wire (made_name (b.next + 1)) width [] ∷ []; links = sym (append-nil b.body.links) i };
-  words = each_more IsWord _ [] (kind, e) (each_none IsWord);
+  plain = each_more IsPlainCell _ [] (record { kind = Word kind; is = e; plain = refl }) (each_none IsPlainCell);
   inner = each_more _ _ [] refl (λ w i. absurd i);
 }
 
@@ -74,7 +79,7 @@ grows_link left right b = record {
   wires = [];
   links = record { left = left; right = right } ∷ [];
   body = λ i. record b.body { cells = sym (append-nil b.body.cells) i; wires = sym (append-nil b.body.wires) i; links = b.body.links ++ record { left = left; right = right } ∷ [] };
-  words = each_none IsWord;
+  plain = each_none IsPlainCell;
   inner = λ w i. absurd i;
 }
 

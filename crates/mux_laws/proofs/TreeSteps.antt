@@ -68,15 +68,15 @@ module _ (m : Moment) where
     pub cells : AreMet m b.body.cells
     pub links : LinksMet b.body.links
 
-  links_before : (xs ys : List Link) → LinksMet (xs ++ ys) → LinksMet xs
+  pub links_before : (xs ys : List Link) → LinksMet (xs ++ ys) → LinksMet xs
   links_before xs ys h d i =
       h d (subst (In d) (sym (links-append m.path m.wires xs ys)) (In-left d (link_rows m.path m.wires xs) (link_rows m.path m.wires ys) i))
 
-  links_last : (xs : List Link) (l : Link) → LinksMet (xs ++ l ∷ []) → (d : Driven) → In d (joins (points m.path m.wires l.left) (points m.path m.wires l.right)) → IsMet d m.time m.has
+  pub links_last : (xs : List Link) (l : Link) → LinksMet (xs ++ l ∷ []) → (d : Driven) → In d (joins (points m.path m.wires l.left) (points m.path m.wires l.right)) → IsMet d m.time m.has
   links_last xs l h d i =
       h d (subst (In d) (sym (links-append m.path m.wires xs (l ∷ []))) (In-right d (link_rows m.path m.wires xs) _ (In-left d (joins (points m.path m.wires l.left) (points m.path m.wires l.right)) [] i)))
 
-  body_before : (a b : Building) → Grows a b → BodyMet b → BodyMet a
+  pub body_before : (a b : Building) → Grows a b → BodyMet b → BodyMet a
   body_before a b g h = record {
     cells = met_before m a b g h.cells;
     links = links_before a.body.links g.links (subst LinksMet (ap (λ (n : Module). n.links) g.body) h.links);
