@@ -13,3 +13,4 @@ mod Fitting
 mod Uniform
 mod Exact
 mod Ordering
+pub mod Promised

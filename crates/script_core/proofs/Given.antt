@@ -66,12 +66,12 @@ module _ (ws : List Wire) where
     switches_in : (depth : ℕ) (switches : Switches) → AreSwitches ws depth switches → SwitchesIn (length ws) switches
     switches_in depth NoSwitch h = tt
     switches_in depth (OneSwitch signal attributes cases rest) h =
-        (some_in signal h.1.0, (cases_in (depth + 1) cases h.1.1.1.0, switches_in depth rest h.1.1.1.1))
+        (some_in signal h.1, (cases_in (depth + 1) cases h.3, switches_in depth rest h.4))
 
     cases_in : (depth : ℕ) (cases : Cases) → AreCases ws depth cases → CasesIn (length ws) cases
     cases_in depth NoCase h = tt
     cases_in depth (OneCase patterns assigns attributes switches rest) h =
-        (λ p i. some_in p (each_of (IsSomeSignal ws) patterns h.0 p i), (links_in assigns h.1.0, (switches_in depth switches h.1.1.1.0, cases_in depth rest h.1.1.1.1)))
+        (λ p i. some_in p (each_of (IsSomeSignal ws) patterns h.0 p i), (links_in assigns h.1, (switches_in depth switches h.3, cases_in depth rest h.4)))
 
   event_in : (e : Event) → IsEvent ws e → EventIn (length ws) e
   event_in (Low signal) h = some_in signal h

@@ -1,4 +1,4 @@
-use Rattle.std.proofs.Common.{◌≡◌, [], rules}
+use Rattle.std.proofs.Common.{rules}
 use Rattle.script_core.proofs.Beginning.{answered, lines, passed, placed, ready}
 use Rattle.script_core.proofs.fold.without_processes.Goals as goal
 
