@@ -24,18 +24,16 @@ last wire low (suc n) =
     let e : low + 1 + n ≡ low + suc n = omega arith in
     ap (λ z. bit wire low ∷ z) (last wire (low + 1) n ∙ ap (λ (k : ℕ). range_bits wire (low + 1) n ++ bit wire k ∷ []) e)
 
--- up to a place, and one more
-pub range_last : (wire from at : ℕ) → from ≤ at → range_bits wire from (at + 1 - from) ≡ range_bits wire from (at - from) ++ bit wire at ∷ []
-range_last wire from at h =
-    let e : at + 1 - from ≡ suc (at - from) = omega (arith, h) in
-    let f : from + (at - from) ≡ at = omega (arith, h) in
-    ap (range_bits wire from) e ∙ last wire from (at - from) ∙ ap (λ (k : ℕ). range_bits wire from (at - from) ++ bit wire k ∷ []) f
+-- so many bits, and one more
+pub range_last : (wire from n : ℕ) → range_bits wire from (n + 1) ≡ range_bits wire from n ++ bit wire (from + n) ∷ []
+range_last wire from n = let e : n + 1 ≡ suc n = omega arith in ap (range_bits wire from) e ∙ last wire from n
 
--- from a place, and from the next one
-pub range_first : (wire at to : ℕ) → at < to → range_bits wire at (to - at) ≡ bit wire at ∷ range_bits wire (at + 1) (to - (at + 1))
-range_first wire at to h =
-    let e : to - at ≡ suc (to - (at + 1)) = omega (arith, h) in
-    ap (range_bits wire at) e ∙ more wire at (to - (at + 1))
+-- the bits above a place, and those from it on
+pub range_first : (wire from n width : ℕ) → n < width → range_bits wire (from + n) (width - n) ≡ bit wire (from + n) ∷ range_bits wire (from + (n + 1)) (width - (n + 1))
+range_first wire from n width h =
+    let e : width - n ≡ suc (width - (n + 1)) = omega (arith, h) in
+    let f : from + n + 1 ≡ from + (n + 1) = omega arith in
+    ap (range_bits wire (from + n)) e ∙ more wire (from + n) (width - (n + 1)) ∙ ap (λ (k : ℕ). bit wire (from + n) ∷ range_bits wire k (width - (n + 1))) f
 
 pub range_length : (wire low n : ℕ) → length (range_bits wire low n) ≡ n
 unfolding range_bits

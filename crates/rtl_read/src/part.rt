@@ -41,8 +41,10 @@ impl Model for Part {
 fn range_bits(alloc: Global, wire: u32, from: u32, to: u32) -> Result<SigSpec, Memory>
     ensures { IfOk result (λ sig. sig ≡ range_bits wire from (to - from)) }
 {
-    let mut bits = Vec::with_capacity(alloc, to.saturating_sub(from) as usize)?;
-    for at in from..to {
+    let width = to.saturating_sub(from);
+    let mut bits = Vec::with_capacity(alloc, width as usize)?;
+    for above in 0..width {
+        let at = from + above;
         bits.push(SigBit::Wire(WireBit { wire, at }))?;
     }
     Ok(SigSpec::from_vec(bits))
@@ -53,7 +55,9 @@ fn range_bits(alloc: Global, wire: u32, from: u32, to: u32) -> Result<SigSpec, M
 fn cover_range(brace: &mut Stack<SigBit>, wire: u32, from: u32, to: u32) -> Result<(), Memory>
     ensures { OnOk result (brace.new ≡ range_bits wire from (to - from) ++ brace.old) }
 {
-    for at in (from..to).rev() {
+    let width = to.saturating_sub(from);
+    for above in (0..width).rev() {
+        let at = from + above;
         brace.push(SigBit::Wire(WireBit { wire, at }))?;
     }
     Ok(())
