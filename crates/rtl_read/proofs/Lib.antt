@@ -1,4 +1,5 @@
 pub mod Stacks
+pub mod Parts
 pub mod Signals
 pub mod Faults
 pub mod Taking

@@ -1,5 +1,6 @@
 pub mod Gives
 pub mod Constant
+pub mod Part
 pub mod Signal
 pub mod Meaning
 pub mod Draft

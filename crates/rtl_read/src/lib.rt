@@ -11,6 +11,7 @@ mod open_cell;
 mod open_module;
 mod open_process;
 mod options;
+mod part;
 mod read_fault;
 mod reader;
 mod signal;

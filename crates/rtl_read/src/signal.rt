@@ -3,24 +3,25 @@
 ghost use Rattle.std.specs.Prelude.{◌≡◌, ◌<◌, ◌≤◌, ◌+◌, ◌++◌, List, length, IfOk, take, drop, ◌-◌};
 ghost use Rattle.rtl_lex.specs.Items.{as_seen};
 ghost use Rattle.rtl_sig.specs.Names.{number_of};
-ghost use Rattle.rtl_read.specs.Signal.{no_signal, wire_bits, width_at, wire_signal, plain_signal, begin, close_brace, inside, put_below, open_index, behind_inside, set_high, set_low, slice, behind_index, some_bits};
+ghost use Rattle.rtl_read.specs.Signal.{no_signal, width_at, wire_signal, plain_signal, begin, close_brace, inside, put_below, open_index, behind_inside, set_high, set_low, slice, behind_index, some_bits};
 ghost use Rattle.rtl_read.specs.Gives.{Gives, Sets};
 
 use crate::constant::{constant, fixed, integer};
 use crate::limits::{MAX_BITS, MAX_DEPTH};
+use crate::part::Part;
 use crate::read_fault::ReadFault;
 use crate::stack::Stack;
 use rtl_bits::Memory;
 use rtl_ir::Wire;
 use rtl_lex::{Item, Place, Sort};
-use rtl_sig::{Names, SigBit, SigSpec, WireBit};
+use rtl_sig::{Names, SigBit, SigSpec};
 use std::alloc::Global;
 
 /// The signal that is being read.
 #[derive(Drop)]
 pub struct OpenSignal {
     /// The part that was read last, and the place of its last token.
-    pub part: SigSpec,
+    pub part: Part,
     pub place: Place,
     /// What the open braces have so far, the innermost first.
     pub braces: Stack<Stack<SigBit>>,
@@ -35,7 +36,7 @@ pub fn no_signal(alloc: Global) -> OpenSignal
     ensures { result ≡ no_signal }
 {
     OpenSignal {
-        part: SigSpec::make(alloc),
+        part: Part::of(SigSpec::make(alloc)),
         place: Place::start(),
         braces: Stack::make(alloc),
         bracket: Place::start(),
@@ -54,17 +55,6 @@ pub fn find(names: &Names, text: &[u8]) -> Option<usize>
     }
 }
 
-#[tactic(auto, using(crate::proofs::Signals::wire_bits_more, crate::proofs::Signals::wire_bits_none))]
-fn wire_bits(alloc: Global, wire: u32, width: u32) -> Result<SigSpec, Memory>
-    ensures { IfOk result (λ sig. sig ≡ wire_bits wire width) }
-{
-    let mut bits = Vec::with_capacity(alloc, width as usize)?;
-    for at in 0..width {
-        bits.push(SigBit::Wire(WireBit { wire, at }))?;
-    }
-    Ok(SigSpec::from_vec(bits))
-}
-
 /// The width of the wire at a place of the list.
 #[tactic(auto, using(crate::proofs::Signals::width_is, crate::proofs::Signals::width_none))]
 fn width_at(wires: &[Wire], at: usize) -> u32
@@ -74,12 +64,7 @@ fn width_at(wires: &[Wire], at: usize) -> u32
 }
 
 /// The signal of a wire, where its name is known.
-fn wire_signal(
-    alloc: Global,
-    wires: &[Wire],
-    number: Option<usize>,
-    item: &Item<'_>,
-) -> Result<SigSpec, ReadFault>
+fn wire_signal(wires: &[Wire], number: Option<usize>, item: &Item<'_>) -> Result<Part, ReadFault>
     ensures { Gives result (wire_signal wires.now (as_seen item.now) number) }
 {
     let Some(number) = number else {
@@ -89,7 +74,7 @@ fn wire_signal(
     let Ok(wire) = u32::try_from(number) else {
         return Err(ReadFault::Memory);
     };
-    Ok(wire_bits(alloc, wire, width_at(wires, number))?)
+    Ok(Part::whole(wire, width_at(wires, number)))
 }
 
 /// The signal of a name or a constant.
@@ -98,14 +83,14 @@ fn plain_signal(
     wires: &[Wire],
     names: &Names,
     item: &Item<'_>,
-) -> Result<SigSpec, ReadFault>
+) -> Result<Part, ReadFault>
     ensures { Gives result (plain_signal wires.now names.now item.now.sort (as_seen item.now)) }
 {
     if item.sort == Sort::Id {
-        return wire_signal(alloc, wires, find(names, item.text), item);
+        return wire_signal(wires, find(names, item.text), item);
     }
     match constant(alloc, item) {
-        Ok(value) => Ok(fixed(alloc, &value)?),
+        Ok(value) => Ok(Part::of(fixed(alloc, &value)?)),
         Err(fault) => Err(fault),
     }
 }
@@ -118,15 +103,6 @@ pub fn some_bits(part: SigSpec, item: &Item<'_>) -> Result<SigSpec, ReadFault>
         return Err(ReadFault::Syntax(item.place));
     }
     Ok(part)
-}
-
-/// The bits from place `low` up to place `high`.
-fn bits_between(alloc: Global, part: &[SigBit], low: usize, high: usize) -> Result<SigSpec, Memory>
-    requires order { low ≤ high }
-    requires within { high < length part.now }
-    ensures { IfOk result (λ sig. sig ≡ take (high + 1 - low) (drop low part.now)) }
-{
-    SigSpec::from_slice(alloc, &part[low..high + 1])
 }
 
 impl OpenSignal {
@@ -162,7 +138,7 @@ impl OpenSignal {
         ensures { self.new ≡ close_brace (as_seen item.now) self.old self.old.braces }
     {
         if let Some(brace) = self.braces.pop() {
-            self.part = SigSpec::from_vec(brace.into_vec());
+            self.part = Part::of(SigSpec::from_vec(brace.into_vec()));
             self.place = item.place;
         }
     }
@@ -191,10 +167,11 @@ impl OpenSignal {
         let Some(mut brace) = self.braces.pop() else {
             return Ok(());
         };
-        if self.part.as_slice().len() + brace.depth() > MAX_BITS {
+        let width = self.part.len();
+        if width > MAX_BITS || width + brace.depth() > MAX_BITS {
             return Err(ReadFault::Limit(self.place));
         }
-        brace.cover(self.part.as_slice())?;
+        self.part.cover(&mut brace)?;
         self.braces.push(brace)?;
         Ok(())
     }
@@ -266,11 +243,10 @@ impl OpenSignal {
         let (Ok(low), Ok(high)) = (usize::try_from(low), usize::try_from(high)) else {
             return Err(ReadFault::Range(self.bracket));
         };
-        let bits = self.part.as_slice();
-        if high < low || bits.len() <= high {
+        if high < low || self.part.len() <= high {
             return Err(ReadFault::Range(self.bracket));
         }
-        self.part = bits_between(alloc, bits, low, high)?;
+        self.part = self.part.between(alloc, low, high)?;
         self.place = item.place;
         Ok(())
     }

@@ -109,7 +109,7 @@ impl Draft {
             self.open_bracket(item);
             return Ok(());
         }
-        let sig = self.take_signal(alloc);
+        let sig = self.take_signal(alloc)?;
         self.cell.add_pin(alloc, sig)?;
         Ok(())
     }

@@ -23,7 +23,7 @@ impl Draft {
             self.open_bracket(item);
             return Ok(());
         }
-        self.left = self.take_signal(alloc);
+        self.left = self.take_signal(alloc)?;
         self.begin_signal(alloc, item)
     }
 
@@ -44,7 +44,7 @@ impl Draft {
     {
         let pair = mem::replace(&mut self.pair, PairKind::Connect);
         let left = mem::replace(&mut self.left, SigSpec::make(alloc));
-        let right = self.take_signal(alloc);
+        let right = self.take_signal(alloc)?;
         self.put_pair(pair, Link { left, right })
     }
 

@@ -1,6 +1,6 @@
 //! Signals: constants, wires, braces round signals, and slices.
 
-ghost use Rattle.std.specs.Prelude.{◌≡◌};
+ghost use Rattle.std.specs.Prelude.{◌≡◌, IfOk};
 ghost use Rattle.rtl_lex.specs.Items.{as_seen};
 ghost use Rattle.rtl_read.specs.Gives.{Gives, Sets};
 ghost use Rattle.rtl_read.specs.Signal.{no_signal, some_bits};
@@ -9,6 +9,7 @@ ghost use Rattle.rtl_read.specs.Act.Signal.{begin_signal, open_bracket, without_
 use crate::draft::Draft;
 use crate::read_fault::ReadFault;
 use crate::signal::{no_signal, some_bits};
+use rtl_bits::Memory;
 use rtl_lex::Item;
 use rtl_sig::SigSpec;
 use std::alloc::Global;
@@ -38,12 +39,12 @@ impl Draft {
     }
 
     /// The signal that was read; none is left.
-    pub fn take_signal(&mut self, alloc: Global) -> SigSpec
-        ensures signal { result ≡ self.old.signal.part }
+    pub fn take_signal(&mut self, alloc: Global) -> Result<SigSpec, Memory>
+        ensures signal { IfOk result (λ sig. sig ≡ self.old.signal.part) }
         ensures left { self.new ≡ without_signal self.old }
     {
         let signal = mem::replace(&mut self.signal, no_signal(alloc));
-        signal.part
+        signal.part.into_sig(alloc)
     }
 
     /// The signal that was read, which may not be empty; none is left.
@@ -51,7 +52,7 @@ impl Draft {
         ensures signal { Gives result (some_bits self.old.signal.part (as_seen item.now)) }
         ensures left { self.new ≡ without_signal self.old }
     {
-        let sig = self.take_signal(alloc);
+        let sig = self.take_signal(alloc)?;
         some_bits(sig, item)
     }
 
