@@ -1,4 +1,4 @@
 pub mod Limits
 pub mod Steps
-pub mod Words
-pub mod Reads
+pub mod Numbers
+pub mod Signals

@@ -12,7 +12,7 @@ use Rattle.rtl_ir.specs.Build.{Build}
 use Rattle.gate_nets.specs.Sum.{sum_of}
 use Rattle.gate_nets.specs.declared.adder.Total.{Total}
 use Rattle.gate_nets.proofs.Nets.{Goods, Logic, Net, carry_at, net_sum}
-use Rattle.gate_divide.proofs.Words.{Digit, Word, above, carry, cons, digit_as, fixed_one, fixed_zero, head, high, join, joined, low, shifted, sum, tail, word_as, zeros}
+use Rattle.gate_divide.proofs.Numbers.{Digit, Word, above, carry, cons, digit_as, fixed_one, fixed_zero, head, high, join, joined, low, shifted, sum, tail, word_as, zeros}
 
 module _ (l : Logic) where
   goods_low : (i : ℕ) (v : ℕ → Bit) (bits : List SigBit) → Goods l v bits → Goods l v (take i bits)
@@ -110,7 +110,7 @@ module _ (l : Logic) where
         → Net l R (sum_of a b s) (ReadsSum n x y c u v d)
     unfolding sum carry
     net_sums n x y c u v d a b s h k j =
-        net_given l (net_sum l u.value v.value d.value a b s (λ r. (h r).has) (λ r. (k r).has) (λ r. (j r).has) (λ r. (h r).width ∙ sym (k r).width))
+        net_given (net_sum l u.value v.value d.value a b s (λ r. (h r).has) (λ r. (k r).has) (λ r. (j r).has) (λ r. (h r).width ∙ sym (k r).width))
         (λ r total w. record {
           bits = record { has = w.0; width = w.2 ∙ (h r).width };
           carry = record { has = subst (λ z. l.Has (carry_at u.value v.value d.value z) total.carry) (h r).width w.1 };

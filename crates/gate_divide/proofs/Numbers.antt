@@ -35,17 +35,17 @@ pub digit_at_most : (b : Bit) → digit_of b ≤ 1
 digit_at_most S1 = omega arith
 digit_at_most b = omega arith
 
-low_small : (v : ℕ → Bit) (n : ℕ) → number_of (low_of v n) < 2 ^ n
+pub low_small : (v : ℕ → Bit) (n : ℕ) → number_of (low_of v n) < 2 ^ n
 low_small v n = subst (λ z. number_of (low_of v n) < 2 ^ z) (low-length v n) (number_of_small (low_of v n))
 
 twice : (p h : ℕ) → 2 * p * h ≡ 2 * (p * h)
 twice p h = grind arith
 
 -- a word in two parts
-low_split : (i j n : ℕ) (v : ℕ → Bit) → n ≡ i + j → number_of (low_of v n) ≡ number_of (low_of v i) + 2 ^ i * number_of (low_of (shifted i v) j)
+pub low_split : (i j n : ℕ) (v : ℕ → Bit) → n ≡ i + j → number_of (low_of v n) ≡ number_of (low_of v i) + 2 ^ i * number_of (low_of (shifted i v) j)
 low_split zero j n v e =
     let f : n ≡ j = omega arith in
-    subst (λ k. number_of (low_of v k) ≡ 1 * number_of (low_of v j)) (sym f) (omega arith)
+    subst (λ k. number_of (low_of v k) ≡ 0 + 1 * number_of (low_of v j)) (sym f) (omega arith)
 low_split (suc i) j zero v e = absurd (omega arith)
 low_split (suc i) j (suc n) v e =
     let rest = low_split i j n (λ at. v (suc at)) (omega arith) in
@@ -54,10 +54,10 @@ low_split (suc i) j (suc n) v e =
     let t : 2 ^ suc i * h ≡ 2 * (2 ^ i * h) = ap (λ z. z * h) p ∙ twice (2 ^ i) h in
     omega arith
 
-low_joined : (i j n : ℕ) (v u : ℕ → Bit) → n ≡ i + j → number_of (low_of (joined i v u) n) ≡ number_of (low_of v i) + 2 ^ i * number_of (low_of u j)
+pub low_joined : (i j n : ℕ) (v u : ℕ → Bit) → n ≡ i + j → number_of (low_of (joined i v u) n) ≡ number_of (low_of v i) + 2 ^ i * number_of (low_of u j)
 low_joined zero j n v u e =
     let f : n ≡ j = omega arith in
-    subst (λ k. number_of (low_of u k) ≡ 1 * number_of (low_of u j)) (sym f) (omega arith)
+    subst (λ k. number_of (low_of u k) ≡ 0 + 1 * number_of (low_of u j)) (sym f) (omega arith)
 low_joined (suc i) j zero v u e = absurd (omega arith)
 low_joined (suc i) j (suc n) v u e =
     let rest = low_joined i j n (λ at. v (suc at)) u (omega arith) in
@@ -66,17 +66,17 @@ low_joined (suc i) j (suc n) v u e =
     let t : 2 ^ suc i * h ≡ 2 * (2 ^ i * h) = ap (λ z. z * h) p ∙ twice (2 ^ i) h in
     omega arith
 
-known_low : (i n : ℕ) (v : ℕ → Bit) → i ≤ n → AreKnown (low_of v n) → AreKnown (low_of v i)
+pub known_low : (i n : ℕ) (v : ℕ → Bit) → i ≤ n → AreKnown (low_of v n) → AreKnown (low_of v i)
 known_low zero n v h k = tt
 known_low (suc i) zero v h k = absurd (omega arith)
 known_low (suc i) (suc n) v h k = (k.0, known_low i n (λ at. v (suc at)) (omega arith) k.1)
 
-known_high : (i j n : ℕ) (v : ℕ → Bit) → n ≡ i + j → AreKnown (low_of v n) → AreKnown (low_of (shifted i v) j)
+pub known_high : (i j n : ℕ) (v : ℕ → Bit) → n ≡ i + j → AreKnown (low_of v n) → AreKnown (low_of (shifted i v) j)
 known_high zero j n v e k = let f : n ≡ j = omega arith in subst (λ z. AreKnown (low_of v z)) f k
 known_high (suc i) j zero v e k = absurd (omega arith)
 known_high (suc i) j (suc n) v e k = known_high i j n (λ at. v (suc at)) (omega arith) k.1
 
-known_joined : (i j n : ℕ) (v u : ℕ → Bit) → n ≡ i + j → AreKnown (low_of v i) → AreKnown (low_of u j) → AreKnown (low_of (joined i v u) n)
+pub known_joined : (i j n : ℕ) (v u : ℕ → Bit) → n ≡ i + j → AreKnown (low_of v i) → AreKnown (low_of u j) → AreKnown (low_of (joined i v u) n)
 known_joined zero j n v u e k h = let f : n ≡ j = omega arith in subst (λ z. AreKnown (low_of u z)) (sym f) h
 known_joined (suc i) j zero v u e k h = absurd (omega arith)
 known_joined (suc i) j (suc n) v u e k h = (k.0, known_joined i j n (λ at. v (suc at)) u (omega arith) k.1 h)
@@ -92,7 +92,7 @@ quotient_is p r q z e h =
     sym (div-eq_of_lt-le p (omega arith) (omega arith))
 
 -- known bits, one of which is taken by a known bit
-seen_low : (n : ℕ) (u v : ℕ → Bit) (s : Bit) → IsKnown s → AreKnown (low_of u n) → AreKnown (low_of v n)
+pub seen_low : (n : ℕ) (u v : ℕ → Bit) (s : Bit) → IsKnown s → AreKnown (low_of u n) → AreKnown (low_of v n)
     → low_of (λ at. mux_of (u at) (v at) s) n ≡ picked (digit_of s) (low_of u n) (low_of v n)
 seen_low zero u v S0 k h j = refl
 seen_low zero u v S1 k h j = refl
@@ -119,16 +119,16 @@ seen_low n u v Z k h j = absurd k
 seen_low n u v M k h j = absurd k
 seen_low n u v Dash k h j = absurd k
 
-picked_known : (d : ℕ) (x y : List Bit) → AreKnown x → AreKnown y → AreKnown (picked d x y)
+pub picked_known : (d : ℕ) (x y : List Bit) → AreKnown x → AreKnown y → AreKnown (picked d x y)
 picked_known zero x y h k = h
 picked_known (suc d) x y h k = k
 
-picked_number : (d : ℕ) (x y : List Bit) → number_of (picked d x y) ≡ picked d (number_of x) (number_of y)
+pub picked_number : (d : ℕ) (x y : List Bit) → number_of (picked d x y) ≡ picked d (number_of x) (number_of y)
 picked_number zero x y = refl
 picked_number (suc d) x y = refl
 
 -- known bits joined with a known bit by AND
-gated_low : (n : ℕ) (u : ℕ → Bit) (s : Bit) → IsKnown s → AreKnown (low_of u n) → low_of (λ at. and_of (u at) s) n ≡ picked (digit_of s) (low_of (λ at. S0) n) (low_of u n)
+pub gated_low : (n : ℕ) (u : ℕ → Bit) (s : Bit) → IsKnown s → AreKnown (low_of u n) → low_of (λ at. and_of (u at) s) n ≡ picked (digit_of s) (low_of (λ at. S0) n) (low_of u n)
 gated_low zero u S0 k h = refl
 gated_low zero u S1 k h = refl
 gated_low (suc n) u S0 k h = one (u 0) h.0 (gated_low n (λ i. u (suc i)) S0 k h.1)
@@ -154,11 +154,11 @@ gated_low n u Z k h = absurd k
 gated_low n u M k h = absurd k
 gated_low n u Dash k h = absurd k
 
-zeros_known : (n : ℕ) → AreKnown (low_of (λ at. S0) n)
+pub zeros_known : (n : ℕ) → AreKnown (low_of (λ at. S0) n)
 zeros_known zero = tt
 zeros_known (suc n) = (tt, zeros_known n)
 
-zeros_number : (n : ℕ) → number_of (low_of (λ at. S0) n) ≡ 0
+pub zeros_number : (n : ℕ) → number_of (low_of (λ at. S0) n) ≡ 0
 zeros_number zero = refl
 zeros_number (suc n) = omega (arith, zeros_number n)
 
@@ -243,7 +243,7 @@ module _ (K : Type 0) where
   }
 
   -- the sum of two words and a digit, and its last carry
-  sum_is : (n x y c : ℕ) (u : Word n x) (v : Word n y) (d : Digit c) → K
+  pub sum_is : (n x y c : ℕ) (u : Word n x) (v : Word n y) (d : Digit c) → K
       → number_of (low_of (λ at. sum_bit (u.value at) (v.value at) (carry_at u.value v.value d.value at)) n) + 2 ^ n * digit_of (carry_at u.value v.value d.value n) ≡ x + y + c
   sum_is n x y c u v d k =
       (sums n u.value v.value d.value (u.known k) (v.known k) (d.known k)).adds
