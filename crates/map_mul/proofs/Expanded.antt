@@ -41,7 +41,7 @@ use Rattle.gate_nets.proofs.Nets.{Goods, Logic, Net}
 use Rattle.gate_nets.proofs.Residues.{Residue, residue_extended}
 use Rattle.gate_nets.proofs.Standing.{reads}
 use Rattle.gate_nets.proofs.Wholes.{names}
-use Rattle.gate_divide.proofs.Numbers.{Word, word_as, zeros}
+use Rattle.gate_divide.proofs.Numbers.{Word as Number, zeros}
 use Rattle.gate_divide.proofs.Signals.{Reads, net_given, reads_zeros}
 use Rattle.map_mul.specs.Expand.{given, is_mapped, map_of, multiplied_of, operand_of, value_of}
 use Rattle.map_mul.specs.Product.{product_of}
@@ -65,6 +65,9 @@ goods_in count v [] h s i = absurd i
 goods_in count v (b ∷ bits) h s (inl e) = subst (BitIn count) (sym e) h.0
 goods_in count v (b ∷ bits) h s (inr i) = goods_in count (λ k. v (suc k)) bits h.1 s i
 
+none_below : (n : ℕ) → n ≡ 0 + n
+none_below n = omega arith
+
 -- the words at the operands are known
 abbrev Knows : (SigBit → Bit) → Cell → Bool
 Knows g c = all_known (map g (pin_signal c A)) && all_known (map g (pin_signal c B))
@@ -86,10 +89,10 @@ module _ (g : SigBit → Bit) (shape : Shape) (c : Cell) where
   abbrev product_number : ℕ
   product_number = (0 + number_at (pin_signal c A) * (2 ^ 0 * number_at (pin_signal c B))) % 2 ^ shape.widths.y
 
-  unfoldable multiplied : Word Known shape.widths.y product_number
+  unfoldable multiplied : Number Known shape.widths.y product_number
   multiplied =
       let n : ℕ = shape.widths.y in
-      let e : n ≡ 0 + n = omega arith in
+      let e : n ≡ 0 + n = none_below n in
       product_word Known n 0 n 0 _ _ e (zeros Known n) (operand Known (both_signed shape) n (map g (pin_signal c A)) a_known) (operand Known (both_signed shape) n (map g (pin_signal c B)) b_known)
 
   -- which stands for the product of the integers
@@ -110,7 +113,7 @@ module _ (g : SigBit → Bit) (shape : Shape) (c : Cell) where
     net_multiplied h k =
         let n : ℕ = shape.widths.y in
         let signed : Bool = both_signed shape in
-        let e : n ≡ 0 + n = omega arith in
+        let e : n ≡ 0 + n = none_below n in
         let width : length (operand_of shape c A n) ≡ n = length_extended (pin_signal c A) n signed in
         net_product l Known (operand_of shape c B n) n 0 n 0 _ _ e (zeros Known n) (operand Known signed n (map g (pin_signal c A)) a_known) (operand Known signed n (map g (pin_signal c B)) b_known) (replicate (length (operand_of shape c A n)) (Fixed S0)) (operand_of shape c A n) (length_extended (pin_signal c B) n signed)
         (λ r. subst (λ z. Reads l Known n 0 (zeros Known n) (replicate z (Fixed S0))) (sym width) (reads_zeros l Known n))
