@@ -9,8 +9,8 @@ use Rattle.rtl_ir.specs.Build.{Build, Building}
 use Rattle.rtl_sig.specs.declared.sig.SigBit.{SigBit}
 use Rattle.rtl_sig.specs.declared.sig.SigBit.TheVariants.{Fixed}
 use Rattle.net_index.specs.Builder.{IsInLimits, PassesLimit}
-use Rattle.gate_nets.specs.Gate.{after, pure}
-use Rattle.gate_nets.specs.Sum.{negative_of, sum_of}
+use Rattle.gate_nets.specs.Gate.{after}
+use Rattle.gate_nets.specs.Sum.{negative_of}
 use Rattle.gate_nets.specs.Words.{fold_of, inverse_of, select_of}
 use Rattle.gate_nets.specs.declared.gate.Gate.TheVariants.{Not, Bitwise, Mux}
 use Rattle.gate_nets.proofs.Added.{one_limits}

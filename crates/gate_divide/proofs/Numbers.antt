@@ -1,14 +1,13 @@
 -- Words that are known under a premise, and the numbers that they then are.
-use Rattle.std.proofs.Common.{◌≡◌, ◌<◌, ◌≤◌, ℕ, zero, suc, ◌+◌, ◌-◌, ◌*◌, ◌/◌, ◌%◌, ◌^◌, List, [], ◌∷◌, refl, sym, ◌∙◌, ap, subst, arith}
+use Rattle.std.proofs.Common.{◌≡◌, ◌<◌, ◌≤◌, ℕ, zero, suc, ◌+◌, ◌*◌, ◌/◌, ◌%◌, ◌^◌, List, ◌∷◌, refl, sym, ◌∙◌, ap, subst, arith}
 use Rattle.std.proofs.Math.Nat.{add-mul-mod_self_left, div-eq_of_lt-le, mod-eq_of_lt}
-use Rattle.std.proofs.lemmas.Nat.{pow_pos}
 use Rattle.rtl_bits.proofs.Numbers.{number_of_small}
 use Rattle.rtl_bits.specs.Knowledge.{AreKnown, IsKnown}
 use Rattle.rtl_bits.specs.Numbers.{digit_of, number_of}
-use Rattle.rtl_bits.specs.Tables.{and_of, mux_of, not_of}
+use Rattle.rtl_bits.specs.Tables.{and_of, mux_of}
 use Rattle.rtl_bits.specs.declared.bit.Bit.{Bit}
 use Rattle.rtl_bits.specs.declared.bit.Bit.TheVariants.{S0, S1, X, Z, M, Dash}
-use Rattle.gate_nets.proofs.Adding.{inverse_known, inverse_number, low-length, low_of, sums}
+use Rattle.gate_nets.proofs.Adding.{low-length, low_of, sums}
 use Rattle.gate_nets.proofs.Nets.{carry_at, sum_bit}
 
 -- one of two things: the first for 0, else the second

@@ -1,9 +1,7 @@
 -- Bits that have at least those of a word, and nets of them.
-use Rattle.std.proofs.Common.{◌≡◌, ℕ, zero, suc, ◌+◌, ◌/◌, ◌%◌, ◌^◌, List, [], ◌∷◌, ◌++◌, length, take, drop, refl, sym, ◌∙◌, ap, subst, arith, length-append}
+use Rattle.std.proofs.Common.{◌≡◌, ℕ, zero, suc, ◌+◌, List, [], ◌∷◌, ◌++◌, length, take, drop, sym, ◌∙◌, ap, subst, arith, length-append}
 use Rattle.std.specs.Prelude.{replicate}
 use Rattle.std.proofs.lemmas.List.{length-drop, length-replicate, length-take}
-use Rattle.cell_types.specs.declared.word.BitwiseKind.TheVariants.{And}
-use Rattle.rtl_bits.specs.Tables.{and_of}
 use Rattle.rtl_bits.specs.declared.bit.Bit.{Bit}
 use Rattle.rtl_bits.specs.declared.bit.Bit.TheVariants.{S0, S1}
 use Rattle.rtl_sig.specs.declared.sig.SigBit.{SigBit}
@@ -12,7 +10,7 @@ use Rattle.rtl_ir.specs.Build.{Build}
 use Rattle.gate_nets.specs.Sum.{sum_of}
 use Rattle.gate_nets.specs.declared.adder.Total.{Total}
 use Rattle.gate_nets.proofs.Nets.{Goods, Logic, Net, carry_at, net_sum}
-use Rattle.gate_divide.proofs.Numbers.{Digit, Word, above, carry, cons, digit_as, fixed_one, fixed_zero, head, high, join, joined, low, shifted, sum, tail, word_as, zeros}
+use Rattle.gate_divide.proofs.Numbers.{Digit, Word, carry, cons, digit_as, fixed_one, fixed_zero, head, high, join, joined, low, shifted, sum, tail, word_as, zeros}
 
 module _ (l : Logic) where
   goods_low : (i : ℕ) (v : ℕ → Bit) (bits : List SigBit) → Goods l v bits → Goods l v (take i bits)

@@ -1,5 +1,5 @@
 -- The loop of a division: what is made so far is the division of the upper bits.
-use Rattle.std.proofs.Common.{◌≡◌, ℕ, suc, ◌+◌, ◌-◌, ◌<◌, ◌≤◌, List, ◌∷◌, length, drop, get_or, refl, sym, ◌∙◌, ap, subst, arith}
+use Rattle.std.proofs.Common.{◌≡◌, ℕ, suc, ◌-◌, ◌<◌, ◌≤◌, List, ◌∷◌, length, drop, get_or, refl, sym, ◌∙◌, ap, subst, arith}
 use Rattle.std.proofs.Math.Seq.{drop-cons}
 use Rattle.rtl_ir.specs.Build.{Building}
 use Rattle.rtl_sig.specs.declared.sig.SigBit.{SigBit}

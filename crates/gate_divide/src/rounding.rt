@@ -74,7 +74,11 @@ fn is_rounded(
     ensures within { OnOk result (IsInLimits builder.new) }
 {
     let some = fold(alloc, BitwiseKind::Or, remainder, builder)?;
-    add_gate(alloc, Gate::Bitwise(BitwiseKind::And, some, differ), builder)
+    add_gate(
+        alloc,
+        Gate::Bitwise(BitwiseKind::And, some, differ),
+        builder,
+    )
 }
 
 /// A word, or one less where a bit is 1.
@@ -152,5 +156,11 @@ pub(crate) fn floor_remainder(
     let rounded = is_rounded(alloc, left.as_slice(), differ, builder)?;
     let zero = SigBit::Fixed(Bit::S0);
     let more = sum(alloc, left.as_slice(), b, zero, builder)?;
-    select(alloc, left.as_slice(), more.bits.as_slice(), rounded, builder)
+    select(
+        alloc,
+        left.as_slice(),
+        more.bits.as_slice(),
+        rounded,
+        builder,
+    )
 }

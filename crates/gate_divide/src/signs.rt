@@ -38,7 +38,11 @@ pub fn negated_where(
 }
 
 /// How far a word in two's complement is from 0.
-pub fn magnitude(alloc: Global, bits: &[SigBit], builder: &mut Builder) -> Result<SigSpec, PassFault>
+pub fn magnitude(
+    alloc: Global,
+    bits: &[SigBit],
+    builder: &mut Builder,
+) -> Result<SigSpec, PassFault>
     ensures exact { IfOk result (λ word. (word, builder.new) ≡ magnitude_of bits.now builder.old) }
     ensures over { result ≡ Err PassFault.Over → PassesLimit (magnitude_of bits.now builder.old).1 }
     ensures within { IsInLimits builder.old → OnOk result (IsInLimits builder.new) }

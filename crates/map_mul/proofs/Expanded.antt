@@ -1,5 +1,5 @@
 -- The gates of a cell are an expansion of it, and stand for it.
-use Rattle.std.proofs.Common.{◌≡◌, ℕ, ◌+◌, ◌*◌, ◌%◌, ◌^◌, Bool, suc, true, List, [], ◌∷◌, Option, Some, None, Ok, length, inl, inr, refl, sym, ◌∙◌, ap, subst, arith, ◌*ℤ◌}
+use Rattle.std.proofs.Common.{◌≡◌, ℕ, ◌+◌, ◌*◌, ◌%◌, ◌^◌, Bool, suc, true, List, [], ◌∷◌, Option, Some, None, Ok, length, inl, inr, sym, ◌∙◌, ap, subst, arith, ◌*ℤ◌}
 use Rattle.std.specs.Prelude.{◌&&◌, if◌then◌else◌, map, replicate, slice_index_or}
 use Rattle.cell_types.specs.Fault.{fault_of}
 use Rattle.cell_types.specs.PinName.{pin_text}
@@ -44,7 +44,6 @@ use Rattle.gate_nets.proofs.Wholes.{names}
 use Rattle.gate_divide.proofs.Numbers.{Word as Number, zeros}
 use Rattle.gate_divide.proofs.Signals.{Reads, net_given, reads_zeros}
 use Rattle.map_mul.specs.Expand.{given, is_mapped, map_of, multiplied_of, operand_of, value_of}
-use Rattle.map_mul.specs.Product.{product_of}
 use Rattle.map_mul.proofs.Operands.{length_extended, operand, reads_operand}
 use Rattle.map_mul.proofs.Products.{net_product, product_word}
 use Rattle.map_mul.proofs.Values.{both_true, integer_below, residue_product, residue_rest}

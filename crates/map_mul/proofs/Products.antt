@@ -1,22 +1,17 @@
 -- Products of words, by the numbers that they are.
-use Rattle.std.proofs.Common.{◌≡◌, ◌<◌, ◌≤◌, ℕ, zero, suc, ◌+◌, ◌-◌, ◌*◌, ◌/◌, ◌%◌, ◌^◌, List, [], ◌∷◌, ◌++◌, length, take, drop, refl, sym, ◌∙◌, ap, subst, arith, length-append}
-use Rattle.std.proofs.Math.Nat.{add-mul-mod_self_left, div-add-mod, mod-add-mod, mod-eq_of_lt, mul-le-mul_left}
-use Rattle.std.proofs.lemmas.List.{length-drop}
+use Rattle.std.proofs.Common.{◌≡◌, ◌<◌, ◌≤◌, ℕ, zero, suc, ◌+◌, ◌*◌, ◌/◌, ◌%◌, ◌^◌, List, [], ◌∷◌, length, take, drop, refl, sym, ◌∙◌, ap, subst, arith}
+use Rattle.std.proofs.Math.Nat.{div-add-mod, mod-add-mod, mod-eq_of_lt, mul-le-mul_left}
 use Rattle.std.proofs.lemmas.Nat.{mod_below, pow-add, pow_pos}
-use Rattle.std.specs.Prelude.{replicate}
 use Rattle.cell_types.specs.declared.word.BitwiseKind.TheVariants.{And}
-use Rattle.rtl_bits.specs.Numbers.{digit_of, number_of}
 use Rattle.rtl_bits.specs.Tables.{and_of}
 use Rattle.rtl_bits.specs.declared.bit.Bit.{Bit}
 use Rattle.rtl_bits.specs.declared.bit.Bit.TheVariants.{S0}
 use Rattle.rtl_sig.specs.declared.sig.SigBit.{SigBit}
 use Rattle.rtl_sig.specs.declared.sig.SigBit.TheVariants.{Fixed}
-use Rattle.gate_nets.specs.Gate.{after}
-use Rattle.gate_nets.proofs.Adding.{low_of}
 use Rattle.gate_nets.proofs.Nets.{Goods, Logic, Net, net_bitwise, net_pure, net_then}
-use Rattle.gate_divide.proofs.Numbers.{Digit, Word, digit_small, fixed_zero, gated, head, high, join, low, no_bits, parts, picked, rest_is, sum, tail, word_as, word_small, zeros}
-use Rattle.gate_divide.proofs.Signals.{Reads, ReadsDigit, net_given, net_sums, reads_as, reads_head, reads_high, reads_join, reads_low, reads_tail, reads_zero, reads_zeros}
-use Rattle.map_mul.specs.Product.{added_row, product_from, product_of, row_of}
+use Rattle.gate_divide.proofs.Numbers.{Digit, Word, digit_small, fixed_zero, gated, head, high, join, low, no_bits, parts, picked, rest_is, sum, tail, word_as, word_small}
+use Rattle.gate_divide.proofs.Signals.{Reads, ReadsDigit, net_given, net_sums, reads_as, reads_head, reads_high, reads_join, reads_low, reads_tail, reads_zero}
+use Rattle.map_mul.specs.Product.{added_row, product_from, row_of}
 
 -- a row, of the upper bits of a product so far below p, in the width q above it
 row_below : (p q l s : ℕ) → l < p → s < q → l + p * s < p * q

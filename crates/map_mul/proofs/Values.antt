@@ -1,15 +1,14 @@
 -- The bits of the nets are at least those of the values of cells.
-use Rattle.std.proofs.Common.{◌≡◌, ◌<◌, ◌≤◌, ℕ, zero, suc, ◌+◌, ◌-◌, ◌*◌, ◌/◌, ◌%◌, ◌^◌, Bool, true, false, List, [], ◌∷◌, length, refl, sym, ◌∙◌, ap, subst, arith, ℤ, pos, ◌+ℤ◌, ◌*ℤ◌}
-use Rattle.std.specs.Prelude.{◌&&◌, if◌then◌else◌, map, slice_index_or}
+use Rattle.std.proofs.Common.{◌≡◌, ℕ, zero, suc, ◌+◌, ◌*◌, ◌/◌, ◌%◌, ◌^◌, Bool, true, false, List, [], ◌∷◌, length, refl, sym, ◌∙◌, ap, subst, arith, ℤ, pos, ◌+ℤ◌, ◌*ℤ◌}
+use Rattle.std.specs.Prelude.{◌&&◌, if◌then◌else◌, slice_index_or}
 use Rattle.std.proofs.Math.Nat.{div-add-mod}
 use Rattle.std.proofs.lemmas.Int.{ints}
 use borrow.Author.Differences.{up, down, same_in, sum_is_lem, product_is}
 use lib.IntN.{*ℤ_comm}
-use Rattle.cell_word.specs.Integers.{integer_bits, integer_in}
-use Rattle.cell_word.specs.Words.{extended_at, unknown_of}
-use Rattle.rtl_bits.proofs.Lists.{all_known_true}
+use Rattle.cell_word.specs.Integers.{integer_bits}
+use Rattle.cell_word.specs.Words.{unknown_of}
 use Rattle.rtl_bits.proofs.Numbers.{bits_of_number_of}
-use Rattle.rtl_bits.specs.Knowledge.{AreKnown, Below, all_known}
+use Rattle.rtl_bits.specs.Knowledge.{AreKnown, Below}
 use Rattle.rtl_bits.specs.Numbers.{bits_of, number_of}
 use Rattle.rtl_bits.specs.declared.bit.Bit.{Bit}
 use Rattle.rtl_bits.specs.declared.bit.Bit.TheVariants.{S0, X}

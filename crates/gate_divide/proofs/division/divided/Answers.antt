@@ -1,4 +1,4 @@
-use Rattle.std.proofs.Common.{rules, ◌≡◌, ◌∷◌, ◌∙◌, ap, sym, ◌-◌, ◌<◌, ◌≤◌, get_or, length, arith}
+use Rattle.std.proofs.Common.{rules, ◌≡◌, ◌∷◌, ◌∙◌, ap, sym, ◌-◌, get_or, arith}
 use Rattle.rtl_bits.specs.declared.bit.Bit.TheVariants.{S0}
 use Rattle.rtl_sig.specs.declared.sig.SigBit.TheVariants.{Fixed}
 use Rattle.gate_divide.specs.Division.{digit_of}
