@@ -1,0 +1,4 @@
+pub mod Signs
+pub mod Division
+pub mod Rounding
+pub mod Kinds

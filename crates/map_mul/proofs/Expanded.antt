@@ -1,0 +1,160 @@
+-- The gates of a cell are an expansion of it, and stand for it.
+use Rattle.std.proofs.Common.{◌≡◌, ℕ, ◌+◌, ◌*◌, ◌%◌, ◌^◌, Bool, suc, true, List, [], ◌∷◌, Option, Some, None, Ok, length, inl, inr, sym, ◌∙◌, ap, subst, arith, ◌*ℤ◌}
+use Rattle.std.specs.Prelude.{◌&&◌, if◌then◌else◌, map, replicate, slice_index_or}
+use Rattle.cell_types.specs.Fault.{fault_of}
+use Rattle.cell_types.specs.PinName.{pin_text}
+use Rattle.cell_types.specs.Shape.{made_shape, unless}
+use Rattle.cell_types.specs.declared.fault.CellFault.{CellFault}
+use Rattle.cell_types.specs.declared.kind.CellKind.{CellKind}
+use Rattle.cell_types.specs.declared.kind.CellKind.TheVariants.{Word}
+use Rattle.cell_types.specs.declared.pin_name.PinName.TheVariants.{A, B, S}
+use Rattle.cell_types.specs.declared.shape.Shape.{Shape}
+use Rattle.cell_types.specs.declared.word.ArithKind.TheVariants.{Mul}
+use Rattle.cell_types.specs.declared.word.WordKind.TheVariants.{Arith}
+use Rattle.cell_word.specs.Integers.{integer_in}
+use Rattle.cell_word.specs.Values as word_values
+use Rattle.cell_word.specs.Values.{both_signed}
+use Rattle.cell_word.specs.Words.{extended_at}
+use Rattle.rtl_bits.proofs.Lists.{all_known_true}
+use Rattle.rtl_bits.proofs.Orders.{Below_refl}
+use Rattle.rtl_bits.specs.Knowledge.{AreKnown, Below, all_known}
+use Rattle.rtl_bits.specs.Numbers.{number_of}
+use Rattle.rtl_bits.specs.declared.bit.Bit.{Bit}
+use Rattle.rtl_bits.specs.declared.bit.Bit.TheVariants.{S0, X}
+use Rattle.rtl_ir.specs.Build.{Building}
+use Rattle.rtl_ir.specs.Faults.Cells.{pin_widths}
+use Rattle.rtl_ir.specs.Flat.Cell.{Ports, cell_kind, cell_shape}
+use Rattle.rtl_ir.specs.Parameters.{given_params}
+use Rattle.rtl_ir.specs.declared.cell.Cell.{Cell}
+use Rattle.rtl_ir.specs.declared.wire.Wire.{Wire}
+use Rattle.rtl_sig.specs.declared.sig.SigBit.{SigBit}
+use Rattle.rtl_sig.specs.declared.sig.SigBit.TheVariants.{Fixed}
+use Rattle.net_model.proofs.Ranges.{signal_in}
+use Rattle.net_model.specs.Lists.{In}
+use Rattle.net_model.specs.Within.{BitIn, SigIn}
+use Rattle.map_laws.proofs.Wholes.{cell_more}
+use Rattle.map_laws.specs.Expansion.{IsExpansion, IsWhole, StandsWith, cells_added, links_added}
+use Rattle.gate_nets.specs.Operand.{IsShapeOf, pin_signal}
+use Rattle.gate_nets.proofs.Adding.{low_of}
+use Rattle.gate_nets.proofs.Expanding.{net_expands, net_stands}
+use Rattle.gate_nets.proofs.Nets.{Goods, Logic, Net}
+use Rattle.gate_nets.proofs.Residues.{Residue, residue_extended}
+use Rattle.gate_nets.proofs.Standing.{reads}
+use Rattle.gate_nets.proofs.Wholes.{names}
+use Rattle.gate_divide.proofs.Numbers.{Word as Number, zeros}
+use Rattle.gate_divide.proofs.Signals.{Reads, net_given, reads_zeros}
+use Rattle.map_mul.specs.Expand.{given, is_mapped, map_of, multiplied_of, operand_of, value_of}
+use Rattle.map_mul.proofs.Operands.{length_extended, operand, reads_operand}
+use Rattle.map_mul.proofs.Products.{net_product, product_word}
+use Rattle.map_mul.proofs.Values.{both_true, integer_below, residue_product, residue_rest}
+
+given_shape : (fault : Option CellFault) (made shape : Shape) → unless fault made ≡ Ok shape → shape ≡ made
+given_shape None made shape e = cc
+given_shape (Some fault) made shape e = absurd (cc)
+
+-- the shape of a cell is that of its parameters
+shape_is : (c : Cell) (shape : Shape) → IsShapeOf c shape → shape ≡ cell_shape shape.kind c.params
+unfolding cell_shape
+shape_is c shape is =
+    given_shape (fault_of shape.kind (given_params c.params) (pin_widths c.pins)) (made_shape shape.kind (given_params c.params)) shape is.given
+
+-- bits that are said to name wires do
+goods_in : (count : ℕ) (v : ℕ → Bit) (bits : List SigBit) → Goods (names count) v bits → SigIn count bits
+goods_in count v [] h s i = absurd i
+goods_in count v (b ∷ bits) h s (inl e) = subst (BitIn count) (sym e) h.0
+goods_in count v (b ∷ bits) h s (inr i) = goods_in count (λ k. v (suc k)) bits h.1 s i
+
+none_below : (n : ℕ) → n ≡ 0 + n
+none_below n = omega arith
+
+-- the words at the operands are known
+abbrev Knows : (SigBit → Bit) → Cell → Bool
+Knows g c = all_known (map g (pin_signal c A)) && all_known (map g (pin_signal c B))
+
+module _ (g : SigBit → Bit) (shape : Shape) (c : Cell) where
+  abbrev Known : Type 0
+  Known = Knows g c ≡ true
+
+  a_known : Known → AreKnown (map g (pin_signal c A))
+  a_known k = all_known_true (map g (pin_signal c A)) (both_true (all_known (map g (pin_signal c A))) (all_known (map g (pin_signal c B))) k).0
+
+  b_known : Known → AreKnown (map g (pin_signal c B))
+  b_known k = all_known_true (map g (pin_signal c B)) (both_true (all_known (map g (pin_signal c A))) (all_known (map g (pin_signal c B))) k).1
+
+  -- the number of an operand at the width of Y
+  abbrev number_at : List SigBit → ℕ
+  number_at bits = number_of (low_of (extended_at (both_signed shape) (map g bits)) shape.widths.y)
+
+  abbrev product_number : ℕ
+  product_number = (0 + number_at (pin_signal c A) * (2 ^ 0 * number_at (pin_signal c B))) % 2 ^ shape.widths.y
+
+  unfoldable multiplied : Number Known shape.widths.y product_number
+  multiplied =
+      let n : ℕ = shape.widths.y in
+      let e : n ≡ 0 + n = none_below n in
+      product_word Known n 0 n 0 _ _ e (zeros Known n) (operand Known (both_signed shape) n (map g (pin_signal c A)) a_known) (operand Known (both_signed shape) n (map g (pin_signal c B)) b_known)
+
+  -- which stands for the product of the integers
+  stands_for : Residue shape.widths.y product_number (integer_in (both_signed shape) (map g (pin_signal c A)) *ℤ integer_in (both_signed shape) (map g (pin_signal c B)))
+  stands_for =
+      let n : ℕ = shape.widths.y in
+      let a : ℕ = number_at (pin_signal c A) in
+      let b : ℕ = number_at (pin_signal c B) in
+      let one : 0 + a * (1 * b) ≡ a * b = grind arith in
+      subst (λ z. Residue n (z % 2 ^ n) (integer_in (both_signed shape) (map g (pin_signal c A)) *ℤ integer_in (both_signed shape) (map g (pin_signal c B)))) (sym one)
+      (residue_rest n (a * b) _ (residue_product n a b _ _ (residue_extended n (both_signed shape) (map g (pin_signal c A))) (residue_extended n (both_signed shape) (map g (pin_signal c B)))))
+
+  module _ (l : Logic) where
+    -- the net of a product has its bits, where the operands are read in whatever way
+    net_multiplied : ((x : SigBit) → In x (pin_signal c A) → l.Has (g x) x) → ((x : SigBit) → In x (pin_signal c B) → l.Has (g x) x)
+        → Net l (Unit {0}) (multiplied_of shape c) (Reads l Known shape.widths.y product_number multiplied)
+    unfolding multiplied
+    net_multiplied h k =
+        let n : ℕ = shape.widths.y in
+        let signed : Bool = both_signed shape in
+        let e : n ≡ 0 + n = none_below n in
+        let width : length (operand_of shape c A n) ≡ n = length_extended (pin_signal c A) n signed in
+        net_product l Known (operand_of shape c B n) n 0 n 0 _ _ e (zeros Known n) (operand Known signed n (map g (pin_signal c A)) a_known) (operand Known signed n (map g (pin_signal c B)) b_known) (replicate (length (operand_of shape c A n)) (Fixed S0)) (operand_of shape c A n) (length_extended (pin_signal c B) n signed)
+        (λ r. subst (λ z. Reads l Known n 0 (zeros Known n) (replicate z (Fixed S0))) (sym width) (reads_zeros l Known n))
+        (λ r. reads_operand l Known g signed n (pin_signal c A) a_known h) (λ r. reads_operand l Known g signed n (pin_signal c B) b_known k)
+
+module _ (c : Cell) (b : Building) where
+  product_expands : (shape : Shape) → IsWhole (length b.body.wires) (Word (Arith Mul)) c → IsExpansion b (given (multiplied_of shape c) c b) c
+  product_expands shape whole =
+      net_expands c (Arith Mul) (multiplied_of shape c) b whole
+      (λ count more.
+      let within = cell_more (length b.body.wires) count c more whole.within in
+      net_given (names count) (net_multiplied (λ s. X) shape c (names count) (λ s i. signal_in count c.pins (pin_text A) within s i) (λ s i. signal_in count c.pins (pin_text B) within s i))
+      (λ r bits w. goods_in count _ bits w.has))
+
+  product_stands : (shape : Shape) → shape ≡ cell_shape (Word (Arith Mul)) c.params → cell_kind c ≡ Some (Word (Arith Mul)) → (ports : Ports) (start : SigBit → Bit) (wires : List Wire)
+      → StandsWith ports start wires c (cells_added b (given (multiplied_of shape c) c b)) (links_added b (given (multiplied_of shape c) c b))
+  product_stands shape same word =
+      net_stands c (Arith Mul) (multiplied_of shape c) b word
+      (λ f is.
+      net_given (reads f is) (net_multiplied f shape c (reads f is) (λ s i. Below_refl (f s)) (λ s i. Below_refl (f s)))
+      (λ r bits w at lt.
+      subst (λ z. Below (slice_index_or (word_values.value_of (Arith Mul) z (map f (pin_signal c A)) (map f (pin_signal c B)) (map f (pin_signal c S))) at X) (f (slice_index_or bits at (Fixed S0)))) same
+      (integer_below f is (Knows f c) shape.widths.y _ _ (multiplied f shape c) bits w (λ k. stands_for f shape c) at)))
+
+  kind_expands : (kind : CellKind) (shape : Shape) → is_mapped kind ≡ true → IsWhole (length b.body.wires) kind c → IsExpansion b (given (value_of kind shape c) c b) c
+  kind_expands (Word (Arith Mul)) shape m whole = product_expands shape whole
+  kind_expands kind shape m whole = absurd (cc)
+
+  kind_stands : (kind : CellKind) (shape : Shape) → shape ≡ cell_shape kind c.params → cell_kind c ≡ Some kind → is_mapped kind ≡ true → (ports : Ports) (start : SigBit → Bit) (wires : List Wire)
+      → StandsWith ports start wires c (cells_added b (given (value_of kind shape c) c b)) (links_added b (given (value_of kind shape c) c b))
+  kind_stands (Word (Arith Mul)) shape same word m = product_stands shape same word
+  kind_stands kind shape same word m = absurd (cc)
+
+-- the same of what is answered
+module _ (c : Cell) (b new : Building) (shape : Shape) (e : new ≡ map_of shape c b) where
+  is_given : is_mapped shape.kind ≡ true → new ≡ given (value_of shape.kind shape c) c b
+  is_given m = e ∙ ap (λ t. if t then given (value_of shape.kind shape c) c b else b) m
+
+  pub expanded : IsShapeOf c shape → is_mapped shape.kind ≡ true → IsWhole (length b.body.wires) shape.kind c → IsExpansion b new c
+  expanded is m whole = subst (λ n. IsExpansion b n c) (sym (is_given m)) (kind_expands c b shape.kind shape m whole)
+
+  pub expanded_stands : IsShapeOf c shape → is_mapped shape.kind ≡ true → (ports : Ports) (start : SigBit → Bit) (wires : List Wire) → StandsWith ports start wires c (cells_added b new) (links_added b new)
+  expanded_stands is m ports start wires =
+      subst (λ n. StandsWith ports start wires c (cells_added b n) (links_added b n)) (sym (is_given m))
+      (kind_stands c b shape.kind shape (shape_is c shape is) is.kind m ports start wires)

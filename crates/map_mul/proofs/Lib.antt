@@ -1,0 +1,6 @@
+pub mod Limits
+pub mod Steps
+pub mod Products
+pub mod Operands
+pub mod Values
+pub mod Expanded
