@@ -35,6 +35,7 @@ module _ (l : Logic) where
   net_given {m = m} n h = record {
     gates = n.gates;
     is = n.is;
+    unnamed = n.unnamed;
     holds = λ b r o. let x = n.holds b r o in (x.0, h r (m b).0 x.1);
   }
 

@@ -34,7 +34,7 @@ use Rattle.net_model.specs.Lists.{In}
 use Rattle.net_model.specs.Within.{BitIn, SigIn}
 use Rattle.map_laws.proofs.Wholes.{cell_more}
 use Rattle.map_laws.specs.Expansion.{IsExpansion, IsWhole, StandsWith, cells_added, links_added}
-use Rattle.gate_nets.specs.Operand.{IsShapeOf, pin_signal}
+use Rattle.map_laws.specs.Operand.{IsShapeOf, pin_signal}
 use Rattle.gate_nets.proofs.Adding.{low_of}
 use Rattle.gate_nets.proofs.Expanding.{net_expands, net_stands}
 use Rattle.gate_nets.proofs.Nets.{Goods, Logic, Net}

@@ -14,7 +14,7 @@ use Rattle.rtl_sig.specs.Signal.{extended}
 use Rattle.rtl_sig.specs.declared.sig.SigBit.{SigBit}
 use Rattle.gate_nets.specs.Gate.{pure}
 use Rattle.gate_nets.specs.Give.{give_to}
-use Rattle.gate_nets.specs.Operand.{pin_signal}
+use Rattle.map_laws.specs.Operand.{pin_signal}
 use Rattle.map_mul.specs.Product.{product_of}
 
 -- a kind becomes gates here

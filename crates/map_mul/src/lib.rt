@@ -11,7 +11,7 @@ ghost use Rattle.rtl_ir.specs.Flat.Cell.{Ports};
 ghost use Rattle.rtl_ir.specs.declared.wire.Wire.{Wire};
 ghost use Rattle.net_index.specs.Builder.{IsInLimits, PassesLimit};
 ghost use Rattle.map_laws.specs.Expansion.{IsExpansion, IsWhole, StandsWith, cells_added, links_added};
-ghost use Rattle.gate_nets.specs.Operand.{IsShapeOf};
+ghost use Rattle.map_laws.specs.Operand.{IsShapeOf};
 ghost use Rattle.map_mul.specs.Expand.{is_mapped, map_of};
 
 use crate::value::{is_mapped, value};
