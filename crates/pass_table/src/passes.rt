@@ -15,8 +15,9 @@ use std::alloc::Global;
 /// The name of the counter of builds.
 struct Builds;
 
-/// The words that have a pass beside `proc`, by their names.
-const WORDS: [(&str, Word); 5] = [
+/// The words that have a pass, by their names.
+const WORDS: [(&str, Word); 6] = [
+    ("proc", Word::Proc),
     ("opt_expr", Word::OptExpr),
     ("opt_merge", Word::OptMerge),
     ("opt_clean", Word::OptClean),
