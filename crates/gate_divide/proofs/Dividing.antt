@@ -1,6 +1,5 @@
 -- Quotients and remainders by their kind: the nets give words that stand for the integers.
-use Rattle.std.proofs.Common.{◌≡◌, ◌<◌, ◌≤◌, ℕ, zero, suc, ◌+◌, ◌-◌, ◌*◌, ◌/◌, ◌%◌, ◌^◌, Bool, true, false, not, List, refl, sym, ◌∙◌, ap, subst, arith, ℤ, pos, neg_ℤ, ◌+ℤ◌, ◌-ℤ◌}
-use mathlib.Core.Bool.{beq}
+use Rattle.std.proofs.Common.{◌≡◌, ◌<◌, ℕ, ◌/◌, ◌%◌, Bool, true, false, not, List, refl, sym, ◌∙◌, ap, subst, ℤ, pos, ◌+ℤ◌, ◌-ℤ◌}
 use Rattle.std.specs.Prelude.{◌==◌, ◌&&◌, if◌then◌else◌, int_div, int_rem, unsigned_abs}
 use Rattle.cell_types.specs.declared.word.DivisionKind.{DivisionKind}
 use Rattle.cell_types.specs.declared.word.DivisionKind.TheVariants.{Div, Mod, DivFloor, ModFloor}
@@ -12,9 +11,9 @@ use Rattle.gate_nets.proofs.Nets.{Logic, Net, net_pure, net_then}
 use Rattle.gate_nets.proofs.Residues.{Residue, residue_number}
 use Rattle.gate_divide.specs.Kinds.{divide_of, rounded_of, signed_of as signed_net, unsigned_of}
 use Rattle.gate_divide.specs.declared.division.Division.{Division}
-use Rattle.gate_divide.proofs.Divisions.{Divided, ReadsDivided, divided_word, net_divided}
-use Rattle.gate_divide.proofs.Numbers.{Word, picked, some_of, top, word_as}
-use Rattle.gate_divide.proofs.Rounded.{HasSize, IsTwos, floor_quotient_is, floor_remainder_is, has_size, negative, remainder_is, residue_twos, sign_digit, truncated_is}
+use Rattle.gate_divide.proofs.Divisions.{Divided, divided_word, net_divided}
+use Rattle.gate_divide.proofs.Numbers.{Word, picked, top, word_as}
+use Rattle.gate_divide.proofs.Rounded.{IsTwos, floor_quotient_is, floor_remainder_is, has_size, negative, remainder_is, residue_twos, sign_digit, truncated_is}
 use Rattle.gate_divide.proofs.Signals.{Reads, reads_as}
 use Rattle.gate_divide.proofs.Signed.{differ_digit, differing, left_word, lowered_number, lowered_word, magnitude_word, net_floor_quotient, net_floor_remainder, net_magnitude, net_remainder, net_truncated, raised_number, raised_word, rounded_digit, rounding, sign, where_number, where_word, whole_word}
 

@@ -10,10 +10,9 @@ use Rattle.rtl_sig.specs.declared.sig.SigBit.{SigBit}
 use Rattle.rtl_sig.specs.declared.sig.SigBit.TheVariants.{Fixed}
 use Rattle.gate_nets.proofs.Adding.{low_of}
 use Rattle.gate_nets.proofs.Nets.{Logic, Net, net_pure, net_then}
-use Rattle.gate_nets.specs.declared.adder.Total.{Total}
 use Rattle.gate_divide.proofs.Numbers.{Digit, Word, carry, choice, cons, digit_as, digit_small, fixed_one, head, inverse, join, low, no_bits, parts, picked, sum, tail, word_as, word_small, zeros}
 use Rattle.gate_divide.proofs.Quotients.{taken, with_digit}
-use Rattle.gate_divide.proofs.Signals.{Reads, ReadsDigit, ReadsSum, net_choice, net_given, net_inverses, net_sums, reads_as, reads_cons, reads_digit_as, reads_head, reads_join, reads_low, reads_one, reads_tail, reads_zeros}
+use Rattle.gate_divide.proofs.Signals.{Reads, ReadsDigit, net_choice, net_given, net_inverses, net_sums, reads_as, reads_cons, reads_digit_as, reads_head, reads_join, reads_low, reads_one, reads_tail, reads_zeros}
 use Rattle.gate_divide.specs.Division.{digit_of, divided_of, less_of}
 use Rattle.gate_divide.specs.declared.division.Division.{Division}
 

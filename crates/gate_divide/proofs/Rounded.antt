@@ -1,12 +1,12 @@
 -- Quotients and remainders of integers, by the numbers that words are.
 use Rattle.std.proofs.Common.{◌≡◌, ◌<◌, ◌≤◌, ℕ, zero, suc, ◌+◌, ◌-◌, ◌*◌, ◌/◌, ◌%◌, ◌^◌, Bool, true, false, not, refl, sym, ◌∙◌, ap, subst, arith, ℤ, pos, negsuc, neg_ℤ, ◌+ℤ◌, ◌-ℤ◌}
 use mathlib.Core.Bool.{beq}
-use Rattle.std.specs.Prelude.{◌==◌, ◌&&◌, if◌then◌else◌, int_div, int_rem, unsigned_abs}
+use Rattle.std.specs.Prelude.{◌==◌, ◌&&◌, if◌then◌else◌, int_div, int_rem}
 use Rattle.std.proofs.Math.Nat.{div-add-mod, div-le_self, mod-eq_of_lt, mod-le, mod_self}
 use Rattle.std.proofs.lemmas.Int.{ints}
-use Rattle.std.proofs.lemmas.Nat.{mod_below, pow_pos}
+use Rattle.std.proofs.lemmas.Nat.{pow_pos}
 use Rattle.std.proofs.lemmas.Bool.Decides.{nat_tests}
-use Rattle.cell_word.proofs.Signs.{quotient_of_signs, remainder_of_signs, rounds_up_by_signs, size_of_signed}
+use Rattle.cell_word.proofs.Signs.{quotient_of_signs, remainder_of_signs, rounds_up_by_signs}
 use Rattle.cell_word.specs.Arithmetic.{floor_div, floor_rem, rounds_up}
 use Rattle.cell_word.specs.Sizes.{signed_of}
 use Rattle.gate_nets.proofs.Residues.{Residue, residue_less, residue_negative, residue_number, residue_sum}

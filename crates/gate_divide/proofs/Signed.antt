@@ -1,6 +1,6 @@
 -- Words in two's complement by sign and size, and rounding, by the numbers that words are.
 use Rattle.std.proofs.Common.{◌≡◌, ℕ, zero, suc, ◌+◌, ◌-◌, ◌*◌, ◌/◌, ◌%◌, ◌^◌, List, [], ◌∷◌, length, refl, sym, ◌∙◌, ap, subst, arith}
-use Rattle.std.specs.Prelude.{replicate, slice_get, true, unwrap_or}
+use Rattle.std.specs.Prelude.{replicate, slice_get, unwrap_or}
 use Rattle.cell_types.specs.declared.word.BitwiseKind.TheVariants.{And, Or, Xor}
 use Rattle.rtl_bits.specs.declared.bit.Bit.{Bit}
 use Rattle.rtl_bits.specs.declared.bit.Bit.TheVariants.{S0, S1}
