@@ -2,3 +2,8 @@ pub mod Limits
 pub mod Steps
 pub mod Numbers
 pub mod Signals
+pub mod Quotients
+pub mod Divisions
+pub mod Rounded
+pub mod Signed
+pub mod Dividing

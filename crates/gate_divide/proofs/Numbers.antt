@@ -1,14 +1,16 @@
 -- Words that are known under a premise, and the numbers that they then are.
-use Rattle.std.proofs.Common.{◌≡◌, ◌<◌, ◌≤◌, ℕ, zero, suc, ◌+◌, ◌*◌, ◌/◌, ◌%◌, ◌^◌, List, ◌∷◌, refl, sym, ◌∙◌, ap, subst, arith}
+use Rattle.std.proofs.Common.{◌≡◌, ◌<◌, ◌≤◌, ℕ, zero, suc, ◌+◌, ◌-◌, ◌*◌, ◌/◌, ◌%◌, ◌^◌, List, ◌∷◌, refl, sym, ◌∙◌, ap, subst, arith}
 use Rattle.std.proofs.Math.Nat.{add-mul-mod_self_left, div-eq_of_lt-le, mod-eq_of_lt}
+use Rattle.std.proofs.lemmas.Nat.{pow_pos}
+use Rattle.cell_types.specs.declared.word.BitwiseKind.TheVariants.{Or}
 use Rattle.rtl_bits.proofs.Numbers.{number_of_small}
 use Rattle.rtl_bits.specs.Knowledge.{AreKnown, IsKnown}
 use Rattle.rtl_bits.specs.Numbers.{digit_of, number_of}
-use Rattle.rtl_bits.specs.Tables.{and_of, mux_of}
+use Rattle.rtl_bits.specs.Tables.{and_of, mux_of, not_of, or_of, xor_of}
 use Rattle.rtl_bits.specs.declared.bit.Bit.{Bit}
 use Rattle.rtl_bits.specs.declared.bit.Bit.TheVariants.{S0, S1, X, Z, M, Dash}
-use Rattle.gate_nets.proofs.Adding.{low-length, low_of, sums}
-use Rattle.gate_nets.proofs.Nets.{carry_at, sum_bit}
+use Rattle.gate_nets.proofs.Adding.{inverse_known, inverse_number, low-length, low_of, sums}
+use Rattle.gate_nets.proofs.Nets.{carry_at, folded_at, sum_bit}
 
 -- one of two things: the first for 0, else the second
 abbrev pub picked : {A : Type 0} → ℕ → A → A → A
@@ -161,6 +163,131 @@ pub zeros_number : (n : ℕ) → number_of (low_of (λ at. S0) n) ≡ 0
 zeros_number zero = refl
 zeros_number (suc n) = omega (arith, zeros_number n)
 
+-- the top bit of a word
+abbrev pub top_at : ℕ → (ℕ → Bit) → Bit
+top_at zero v = S0
+top_at (suc n) v = v n
+
+pub last_known : (n : ℕ) (v : ℕ → Bit) → AreKnown (low_of v (suc n)) → IsKnown (v n)
+last_known zero v k = k.0
+last_known (suc n) v k = last_known n (λ at. v (suc at)) k.1
+
+pub last_number : (n : ℕ) (v : ℕ → Bit) → number_of (low_of v (suc n)) ≡ number_of (low_of v n) + 2 ^ n * digit_of (v n)
+last_number zero v = omega arith
+last_number (suc n) v =
+    let p : 2 ^ suc n ≡ 2 * 2 ^ n = omega arith in
+    let t : 2 ^ suc n * digit_of (v (suc n)) ≡ 2 * (2 ^ n * digit_of (v (suc n))) = ap (λ z. z * digit_of (v (suc n))) p ∙ twice (2 ^ n) (digit_of (v (suc n))) in
+    omega (arith, last_number n (λ at. v (suc at)), t)
+
+pub top_known : (n : ℕ) (v : ℕ → Bit) → AreKnown (low_of v n) → IsKnown (top_at n v)
+top_known zero v k = tt
+top_known (suc n) v k = last_known n v k
+
+pub top_number : (n : ℕ) (v : ℕ → Bit) → digit_of (top_at n v) ≡ (2 * number_of (low_of v n)) / 2 ^ n
+top_number zero v = refl
+top_number (suc n) v =
+    let p : 2 ^ suc n ≡ 2 * 2 ^ n = omega arith in
+    let d : ℕ = digit_of (v n) in
+    let t : 2 ^ suc n * d ≡ 2 * (2 ^ n * d) = ap (λ z. z * d) p ∙ twice (2 ^ n) d in
+    quotient_is (2 ^ suc n) (2 * number_of (low_of v n)) d (2 * number_of (low_of v (suc n))) (omega (arith, t, last_number n v)) (omega (arith, p, low_small v n))
+
+-- 0 for 0, else 1
+abbrev pub some_of : ℕ → ℕ
+some_of zero = 0
+some_of (suc n) = 1
+
+pub some_pos : (n : ℕ) → 0 < n → some_of n ≡ 1
+some_pos zero h = absurd (omega arith)
+some_pos (suc n) h = refl
+
+some_none : (n : ℕ) → n ≡ 0 → some_of n ≡ 0
+some_none n e = ap some_of e
+
+some_twice : (n : ℕ) → some_of (0 + n) ≡ some_of (0 + (0 + 2 * n))
+some_twice zero = refl
+some_twice (suc n) = some_pos (0 + suc n) (omega arith) ∙ sym (some_pos (0 + (0 + 2 * suc n)) (omega arith))
+
+-- known bits joined by OR
+pub or_digit : (c b : Bit) (n : ℕ) → IsKnown c → IsKnown b → IsKnown (or_of c b) × (some_of (digit_of (or_of c b) + n) ≡ some_of (digit_of c + (digit_of b + 2 * n)))
+or_digit S0 S0 n k h = (tt, some_twice n)
+or_digit S0 S1 n k h = (tt, some_pos (1 + n) (omega arith) ∙ sym (some_pos (0 + (1 + 2 * n)) (omega arith)))
+or_digit S1 S0 n k h = (tt, some_pos (1 + n) (omega arith) ∙ sym (some_pos (1 + (0 + 2 * n)) (omega arith)))
+or_digit S1 S1 n k h = (tt, some_pos (1 + n) (omega arith) ∙ sym (some_pos (1 + (1 + 2 * n)) (omega arith)))
+or_digit X b n k h = absurd k
+or_digit Z b n k h = absurd k
+or_digit M b n k h = absurd k
+or_digit Dash b n k h = absurd k
+or_digit c X n k h = absurd h
+or_digit c Z n k h = absurd h
+or_digit c M n k h = absurd h
+or_digit c Dash n k h = absurd h
+
+or_none : (c : Bit) → IsKnown c → digit_of c ≡ some_of (digit_of c + 0)
+or_none S0 k = refl
+or_none S1 k = refl
+or_none X k = absurd k
+or_none Z k = absurd k
+or_none M k = absurd k
+or_none Dash k = absurd k
+
+pub or_folded : (n : ℕ) (c : Bit) (u : ℕ → Bit) → IsKnown c → AreKnown (low_of u n) → IsKnown (folded_at Or c u n) × (digit_of (folded_at Or c u n) ≡ some_of (digit_of c + number_of (low_of u n)))
+or_folded zero c u k h = (k, or_none c k)
+or_folded (suc n) c u k h =
+    let here = or_digit c (u 0) (number_of (low_of (λ at. u (suc at)) n)) k h.0 in
+    let rest = or_folded n (or_of c (u 0)) (λ at. u (suc at)) here.0 h.1 in
+    (rest.0, rest.1 ∙ here.1)
+
+-- the fold of a word by OR
+abbrev pub some_at : ℕ → (ℕ → Bit) → Bit
+some_at zero v = S0
+some_at (suc n) v = folded_at Or (v 0) (λ at. v (suc at)) n
+
+one_more : (d n : ℕ) → d ≤ 1 → some_of (d + n) ≡ some_of (d + 2 * n)
+one_more zero zero h = refl
+one_more zero (suc n) h = some_pos (0 + suc n) (omega arith) ∙ sym (some_pos (0 + 2 * suc n) (omega arith))
+one_more (suc d) n h = some_pos (suc d + n) (omega arith) ∙ sym (some_pos (suc d + 2 * n) (omega arith))
+
+pub some_number : (n : ℕ) (v : ℕ → Bit) → AreKnown (low_of v n) → IsKnown (some_at n v) × (digit_of (some_at n v) ≡ some_of (number_of (low_of v n)))
+some_number zero v k = (tt, refl)
+some_number (suc n) v k =
+    let rest = or_folded n (v 0) (λ at. v (suc at)) k.0 k.1 in
+    (rest.0, rest.1 ∙ one_more (digit_of (v 0)) (number_of (low_of (λ at. v (suc at)) n)) (digit_at_most (v 0)))
+
+pub xor_digit : (a b : Bit) → IsKnown a → IsKnown b → IsKnown (xor_of a b) × (digit_of (xor_of a b) ≡ (digit_of a + digit_of b) % 2)
+xor_digit S0 S0 k h = (tt, refl)
+xor_digit S0 S1 k h = (tt, refl)
+xor_digit S1 S0 k h = (tt, refl)
+xor_digit S1 S1 k h = (tt, refl)
+xor_digit X b k h = absurd k
+xor_digit Z b k h = absurd k
+xor_digit M b k h = absurd k
+xor_digit Dash b k h = absurd k
+xor_digit a X k h = absurd h
+xor_digit a Z k h = absurd h
+xor_digit a M k h = absurd h
+xor_digit a Dash k h = absurd h
+
+pub and_digit : (a b : Bit) → IsKnown a → IsKnown b → IsKnown (and_of a b) × (digit_of (and_of a b) ≡ picked (digit_of a) 0 (digit_of b))
+and_digit S0 S0 k h = (tt, refl)
+and_digit S0 S1 k h = (tt, refl)
+and_digit S1 S0 k h = (tt, refl)
+and_digit S1 S1 k h = (tt, refl)
+and_digit X b k h = absurd k
+and_digit Z b k h = absurd k
+and_digit M b k h = absurd k
+and_digit Dash b k h = absurd k
+and_digit a X k h = absurd h
+and_digit a Z k h = absurd h
+and_digit a M k h = absurd h
+and_digit a Dash k h = absurd h
+
+pub ones_number : (n : ℕ) → AreKnown (low_of (λ at. S1) n) × (number_of (low_of (λ at. S1) n) ≡ 2 ^ n - 1)
+ones_number zero = (tt, refl)
+ones_number (suc n) =
+    let rest = ones_number n in
+    let p : 2 ^ suc n ≡ 2 * 2 ^ n = omega arith in
+    ((tt, rest.0), omega (arith, rest.1, p, pow_pos n))
+
 module _ (K : Type 0) where
   -- a bit that is a digit under the premise
   pub record Digit (d : ℕ) : Type 0 where
@@ -277,3 +404,59 @@ module _ (K : Type 0) where
         ∙ ap (λ z. picked (digit_of d.value) 0 z) (u.is k)
         ∙ ap (λ z. picked z 0 x) (d.is k);
   }
+
+  -- the inverse of a word
+  unfoldable pub inverse : (n m : ℕ) → Word n m → Word n (2 ^ n - 1 - m)
+  inverse n m w = record {
+    value = λ at. not_of (w.value at);
+    known = λ k. inverse_known n w.value (w.known k);
+    is = λ k. let e : number_of (low_of (λ at. not_of (w.value at)) n) + m + 1 ≡ 2 ^ n = subst (λ z. number_of (low_of (λ at. not_of (w.value at)) n) + z + 1 ≡ 2 ^ n) (w.is k) (inverse_number n w.value (w.known k)) in omega arith;
+  }
+
+  -- one of two words, by a digit
+  unfoldable pub choice : (n x y s : ℕ) → Word n x → Word n y → Digit s → Word n (picked s x y)
+  choice n x y s u v d = record {
+    value = λ at. mux_of (u.value at) (v.value at) d.value;
+    known = λ k. subst AreKnown (sym (seen_low n u.value v.value d.value (d.known k) (u.known k) (v.known k))) (picked_known (digit_of d.value) _ _ (u.known k) (v.known k));
+    is = λ k.
+        ap number_of (seen_low n u.value v.value d.value (d.known k) (u.known k) (v.known k))
+        ∙ picked_number (digit_of d.value) (low_of u.value n) (low_of v.value n)
+        ∙ ap (λ z. picked (digit_of d.value) z (number_of (low_of v.value n))) (u.is k)
+        ∙ ap (λ z. picked (digit_of d.value) x z) (v.is k)
+        ∙ ap (λ z. picked z x y) (d.is k);
+  }
+
+  -- the top bit of a word, and whether it is not 0
+  unfoldable pub top : (n m : ℕ) → Word n m → Digit ((2 * m) / 2 ^ n)
+  top n m w = record {
+    value = top_at n w.value;
+    known = λ k. top_known n w.value (w.known k);
+    is = λ k. top_number n w.value ∙ ap (λ z. (2 * z) / 2 ^ n) (w.is k);
+  }
+
+  unfoldable pub some : (n m : ℕ) → Word n m → Digit (some_of m)
+  some n m w = record {
+    value = some_at n w.value;
+    known = λ k. (some_number n w.value (w.known k)).0;
+    is = λ k. (some_number n w.value (w.known k)).1 ∙ ap some_of (w.is k);
+  }
+
+  -- two digits joined by XOR, and by AND
+  unfoldable pub differ : (a b : ℕ) → Digit a → Digit b → Digit ((a + b) % 2)
+  differ a b x y = record {
+    value = xor_of x.value y.value;
+    known = λ k. (xor_digit x.value y.value (x.known k) (y.known k)).0;
+    is = λ k.
+        (xor_digit x.value y.value (x.known k) (y.known k)).1 ∙ ap (λ z. (z + digit_of y.value) % 2) (x.is k) ∙ ap (λ z. (a + z) % 2) (y.is k);
+  }
+
+  unfoldable pub both : (a b : ℕ) → Digit a → Digit b → Digit (picked a 0 b)
+  both a b x y = record {
+    value = and_of x.value y.value;
+    known = λ k. (and_digit x.value y.value (x.known k) (y.known k)).0;
+    is = λ k.
+        (and_digit x.value y.value (x.known k) (y.known k)).1 ∙ ap (λ z. picked z 0 (digit_of y.value)) (x.is k) ∙ ap (λ z. picked a 0 z) (y.is k);
+  }
+
+  unfoldable pub ones : (n : ℕ) → Word n (2 ^ n - 1)
+  ones n = record { value = λ at. S1; known = λ k. (ones_number n).0; is = λ k. (ones_number n).1 }

@@ -1,16 +1,18 @@
 -- Bits that have at least those of a word, and nets of them.
-use Rattle.std.proofs.Common.{◌≡◌, ℕ, zero, suc, ◌+◌, List, [], ◌∷◌, ◌++◌, length, take, drop, sym, ◌∙◌, ap, subst, arith, length-append}
+use Rattle.std.proofs.Common.{◌≡◌, refl, ℕ, zero, suc, ◌+◌, List, [], ◌∷◌, ◌++◌, length, take, drop, sym, ◌∙◌, ap, subst, arith, length-append}
 use Rattle.std.specs.Prelude.{replicate}
 use Rattle.std.proofs.lemmas.List.{length-drop, length-replicate, length-take}
+use Rattle.rtl_bits.specs.Tables.{mux_of}
 use Rattle.rtl_bits.specs.declared.bit.Bit.{Bit}
 use Rattle.rtl_bits.specs.declared.bit.Bit.TheVariants.{S0, S1}
 use Rattle.rtl_sig.specs.declared.sig.SigBit.{SigBit}
 use Rattle.rtl_sig.specs.declared.sig.SigBit.TheVariants.{Fixed}
 use Rattle.rtl_ir.specs.Build.{Build}
 use Rattle.gate_nets.specs.Sum.{sum_of}
+use Rattle.gate_nets.specs.Words.{inverse_of, select_of}
 use Rattle.gate_nets.specs.declared.adder.Total.{Total}
-use Rattle.gate_nets.proofs.Nets.{Goods, Logic, Net, carry_at, net_sum}
-use Rattle.gate_divide.proofs.Numbers.{Digit, Word, carry, cons, digit_as, fixed_one, fixed_zero, head, high, join, joined, low, shifted, sum, tail, word_as, zeros}
+use Rattle.gate_nets.proofs.Nets.{Goods, Logic, Net, carry_at, net_inverse, net_mux, net_pure, net_sum, net_then}
+use Rattle.gate_divide.proofs.Numbers.{Digit, Word, carry, choice, cons, digit_as, fixed_one, fixed_zero, head, high, inverse, join, joined, low, shifted, sum, tail, word_as, zeros}
 
 module _ (l : Logic) where
   goods_low : (i : ℕ) (v : ℕ → Bit) (bits : List SigBit) → Goods l v bits → Goods l v (take i bits)
@@ -114,3 +116,24 @@ module _ (l : Logic) where
           bits = record { has = w.0; width = w.2 ∙ (h r).width };
           carry = record { has = subst (λ z. l.Has (carry_at u.value v.value d.value z) total.carry) (h r).width w.1 };
         })
+
+    pub net_inverses : (n m : ℕ) (w : Word K n m) (bits : List SigBit) {R : Type 0} → (R → Reads n m w bits) → Net l R (inverse_of bits) (Reads n _ (inverse K n m w))
+    unfolding inverse
+    net_inverses n m w bits h = net_given (net_inverse l w.value bits (λ r. (h r).has)) (λ r ys v. record { has = v.0; width = v.1 ∙ (h r).width })
+
+    -- one of two words, with its length
+    net_chosen : (u v : ℕ → Bit) (c : Bit) (a b : List SigBit) (s : SigBit) {R : Type 0} → (R → Goods l u a) → (R → Goods l v b) → (R → l.Has c s) → (R → length a ≡ length b)
+        → Net l R (select_of a b s) (λ ys. Goods l (λ at. mux_of (u at) (v at) c) ys × (length ys ≡ length a))
+    net_chosen u v c [] b s h k j e = net_pure l (λ r. (tt, refl))
+    net_chosen u v c (x ∷ a) [] s h k j e = net_pure l (λ r. absurd (omega (arith, e r)))
+    net_chosen u v c (x ∷ a) (y ∷ b) s h k j e =
+        net_then l (net_mux l (u 0) (v 0) c (λ r. (h r).0) (λ r. (k r).0) j) λ z.
+        net_then l (net_chosen (λ at. u (suc at)) (λ at. v (suc at)) c a b s (λ r. (h r.0).1) (λ r. (k r.0).1) (λ r. j r.0) (λ r. omega (arith, e r.0))) λ zs.
+        net_pure l (λ r. ((r.0.1, r.1.0), ap suc r.1.1))
+
+    pub net_choice : (n x y d : ℕ) (u : Word K n x) (v : Word K n y) (c : Digit K d) (a b : List SigBit) (s : SigBit) {R : Type 0} → (R → Reads n x u a) → (R → Reads n y v b) → (R → ReadsDigit d c s)
+        → Net l R (select_of a b s) (Reads n _ (choice K n x y d u v c))
+    unfolding choice
+    net_choice n x y d u v c a b s h k j =
+        net_given (net_chosen u.value v.value c.value a b s (λ r. (h r).has) (λ r. (k r).has) (λ r. (j r).has) (λ r. (h r).width ∙ sym (k r).width))
+        (λ r ys w. record { has = w.0; width = w.1 ∙ (h r).width })

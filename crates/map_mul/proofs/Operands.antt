@@ -1,11 +1,15 @@
 -- The operands of cells as words.
-use Rattle.std.proofs.Common.{◌≡◌, ℕ, zero, suc, ◌-◌, Bool, true, false, List, [], ◌∷◌, ◌++◌, length, inl, inr, refl, sym, subst, arith, length-append}
+use Rattle.std.proofs.Common.{◌≡◌, ◌≤◌, ℕ, zero, suc, ◌+◌, ◌-◌, ◌*◌, ◌/◌, ◌^◌, Bool, true, false, List, [], ◌∷◌, ◌++◌, length, inl, inr, refl, sym, ◌∙◌, ap, subst, arith, length-append, pos, ◌+ℤ◌}
+use Rattle.std.proofs.lemmas.Int.{ints}
+use Rattle.cell_word.specs.Integers.{integer_in}
+use Rattle.gate_nets.proofs.Residues.{going_integer, going_on}
+use Rattle.gate_divide.proofs.Dividing.{IsOperand}
 use Rattle.std.proofs.lemmas.List.{length-replicate, length-take}
 use Rattle.std.specs.Prelude.{map, replicate, slice_get, slice_index_or, take, unwrap_or}
 use Rattle.cell_word.specs.Words as words
 use Rattle.cell_word.specs.Words.{extended_at}
 use Rattle.rtl_bits.specs.Knowledge.{AreKnown, IsKnown}
-use Rattle.rtl_bits.specs.Numbers.{number_of, top_of}
+use Rattle.rtl_bits.specs.Numbers.{digit_of, number_of, top_of}
 use Rattle.rtl_bits.specs.declared.bit.Bit.{Bit}
 use Rattle.rtl_bits.specs.declared.bit.Bit.TheVariants.{S0}
 use Rattle.rtl_sig.specs.Signal.{extended, fill_of}
@@ -14,7 +18,7 @@ use Rattle.rtl_sig.specs.declared.sig.SigBit.TheVariants.{Fixed}
 use Rattle.net_model.specs.Lists.{In}
 use Rattle.gate_nets.proofs.Adding.{low_of}
 use Rattle.gate_nets.proofs.Nets.{Goods, Logic}
-use Rattle.gate_divide.proofs.Numbers.{Word}
+use Rattle.gate_divide.proofs.Numbers.{Word, low_small, top_at, top_number}
 use Rattle.gate_divide.proofs.Signals.{Reads}
 
 -- the bits of an extended known word are known
@@ -88,3 +92,43 @@ module _ (l : Logic) where
     has = goods_filled g (words.fill_of signed (map g bits)) (fill_of bits signed) (fill_has g signed bits k) n bits k;
     width = length_extended bits n signed;
   }
+
+doubled : (j p e : ℕ) → e ≡ 2 * p → j * e ≡ j * p + j * p
+doubled j p e h = ap (λ z. j * z) h ∙ grind arith
+
+-- the number of a word that goes on with a last bit, at a width that it fits
+exact_number : (n : ℕ) (d : Bit) (bits : List Bit) → length bits ≤ n → pos (number_of (low_of (λ at. slice_index_or bits at d) n)) ≡ going_on d bits +ℤ pos (digit_of d * 2 ^ n)
+exact_number zero d [] h = omega (arith, ints)
+exact_number zero d (b ∷ bits) h = absurd (omega arith)
+exact_number (suc n) d [] h =
+    let e : 2 ^ suc n ≡ 2 * 2 ^ n = omega arith in
+    omega (arith, ints, exact_number n d [] (omega arith), doubled (digit_of d) (2 ^ n) (2 ^ suc n) e)
+exact_number (suc n) d (b ∷ bits) h =
+    let e : 2 ^ suc n ≡ 2 * 2 ^ n = omega arith in
+    omega (arith, ints, exact_number n d bits (omega arith), doubled (digit_of d) (2 ^ n) (2 ^ suc n) e)
+
+-- the last bit of an extended signed word
+last_bit : (bits : List Bit) (k : ℕ) → length bits ≤ suc k → slice_index_or bits k (top_of bits) ≡ top_of bits
+last_bit [] k h = refl
+last_bit (b ∷ []) zero h = refl
+last_bit (b ∷ []) (suc k) h = refl
+last_bit (b ∷ c ∷ bits) zero h = absurd (omega arith)
+last_bit (b ∷ c ∷ bits) (suc k) h = last_bit (c ∷ bits) k (omega arith)
+
+top_is : (n : ℕ) (bits : List Bit) → length bits ≤ n → top_at n (extended_at true bits) ≡ top_of bits
+top_is zero [] h = refl
+top_is zero (b ∷ bits) h = absurd (omega arith)
+top_is (suc k) bits h = last_bit bits k h
+
+-- the number of an operand at a width that it fits stands for its integer
+pub operand_is : (signed : Bool) (n : ℕ) (bits : List Bit) → length bits ≤ n → IsOperand signed n (number_of (low_of (extended_at signed bits) n)) (integer_in signed bits)
+operand_is false n bits h = omega (arith, ints, exact_number n S0 bits h, going_integer false bits)
+operand_is true n bits h =
+    let v : ℕ → Bit = extended_at true bits in
+    let d : digit_of (top_of bits) ≡ (2 * number_of (low_of v n)) / 2 ^ n = ap digit_of (sym (top_is n bits h)) ∙ top_number n v in
+    record {
+      is =
+          subst (λ t. pos (number_of (low_of v n)) ≡ integer_in true bits +ℤ pos (t * 2 ^ n)) d
+          (omega (arith, ints, exact_number n (top_of bits) bits h, going_integer true bits));
+      small = low_small v n;
+    }

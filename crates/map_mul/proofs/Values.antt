@@ -1,8 +1,9 @@
 -- The bits of the nets are at least those of the values of cells.
-use Rattle.std.proofs.Common.{◌≡◌, ℕ, zero, suc, ◌+◌, ◌*◌, ◌/◌, ◌%◌, ◌^◌, Bool, true, false, List, [], ◌∷◌, length, refl, sym, ◌∙◌, ap, subst, arith, ℤ, pos, ◌+ℤ◌, ◌*ℤ◌}
+use Rattle.std.proofs.Common.{◌≡◌, ◌≤◌, ℕ, zero, suc, ◌+◌, ◌*◌, ◌/◌, ◌%◌, ◌^◌, Bool, true, false, List, [], ◌∷◌, length, refl, sym, ◌∙◌, ap, subst, arith, ℤ, pos, ◌+ℤ◌, ◌*ℤ◌}
 use Rattle.std.specs.Prelude.{◌&&◌, if◌then◌else◌, slice_index_or}
 use Rattle.std.proofs.Math.Nat.{div-add-mod}
 use Rattle.std.proofs.lemmas.Int.{ints}
+use Rattle.std.proofs.lemmas.Nat.{pow-add}
 use borrow.Author.Differences.{up, down, same_in, sum_is_lem, product_is}
 use lib.IntN.{*ℤ_comm}
 use Rattle.cell_word.specs.Integers.{integer_bits}
@@ -19,7 +20,7 @@ use Rattle.gate_nets.proofs.Adding.{low-length, low_of}
 use Rattle.gate_nets.proofs.Nets.{Goods}
 use Rattle.gate_nets.proofs.Residues.{Residue, residue_bits, residue_less}
 use Rattle.gate_nets.proofs.Standing.{reads}
-use Rattle.gate_divide.proofs.Numbers.{Word}
+use Rattle.gate_divide.proofs.Numbers.{Word, known_low, low_small, low_split, rest_is, shifted}
 use Rattle.gate_divide.proofs.Signals.{Reads}
 
 -- two integers differ by a multiple of a number
@@ -72,6 +73,34 @@ word_bits n m z v k e h =
     let own : bits_of (number_of (low_of v n)) n ≡ low_of v n = subst (λ j. bits_of (number_of (low_of v n)) j ≡ low_of v n) (low-length v n) (bits_of_number_of (low_of v n) k) in
     sym own ∙ ap (λ j. bits_of j n) e ∙ residue_bits n m z h
 
+-- a number stands for an integer modulo a lesser power too
+wider : (a p q : ℕ) → a * (p * q) ≡ a * q * p
+wider a p q = grind arith
+
+pub residue_narrow : (y k n m : ℕ) (z : ℤ) → n ≡ y + k → Residue n m z → Residue y m z
+residue_narrow y k n m z e h =
+    let p : 2 ^ n ≡ 2 ^ y * 2 ^ k = ap (λ t. 2 ^ t) e ∙ pow-add 2 y k in
+    let a : h.above * 2 ^ n ≡ h.above * 2 ^ k * 2 ^ y = ap (λ t. h.above * t) p ∙ wider h.above (2 ^ y) (2 ^ k) in
+    let b : h.below * 2 ^ n ≡ h.below * 2 ^ k * 2 ^ y = ap (λ t. h.below * t) p ∙ wider h.below (2 ^ y) (2 ^ k) in
+    record {
+      above = h.above * 2 ^ k;
+      below = h.below * 2 ^ k;
+      is = omega (arith, ints, h.is, a, b);
+    }
+
+-- the lowest bits of a word whose number stands for an integer
+pub narrow_bits : (y k n m : ℕ) (z : ℤ) (v : ℕ → Bit) → n ≡ y + k → AreKnown (low_of v n) → number_of (low_of v n) ≡ m → Residue n m z → low_of v y ≡ integer_bits z y
+narrow_bits y k n m z v e j f h =
+    let low : number_of (low_of v y) ≡ m % 2 ^ y = rest_is (2 ^ y) (number_of (low_of v y)) (number_of (low_of (shifted y v) k)) m (sym (low_split y k n v e) ∙ f) (low_small v y) in
+    word_bits y (m % 2 ^ y) z v (known_low y n v (omega (arith, e)) j) low (residue_rest y m z (residue_narrow y k n m z e h))
+
+-- fewer bits of a function say no more
+short_below : (y n at : ℕ) (v : ℕ → Bit) (z : Bit) → y ≤ n → Below (slice_index_or (low_of v n) at X) z → Below (slice_index_or (low_of v y) at X) z
+short_below zero n at v z h b = tt
+short_below (suc y) zero at v z h b = absurd (omega arith)
+short_below (suc y) (suc n) zero v z h b = b
+short_below (suc y) (suc n) (suc at) v z h b = short_below y n at (λ i. v (suc i)) z (omega arith) b
+
 -- x is below all
 unknown_below : (n at : ℕ) (z : Bit) → Below (slice_index_or (unknown_of n) at X) z
 unknown_below zero at z = tt
@@ -97,3 +126,12 @@ module _ (f : SigBit → Bit) (is : IsReading f) where
       subst (λ y. Below (slice_index_or y at X) (f (slice_index_or bits at (Fixed S0)))) (word_bits n m z w.value (w.known refl) (w.is refl) (stands refl))
       (subst (λ j. Below (slice_index_or (low_of w.value j) at X) (f (slice_index_or bits at (Fixed S0)))) r.width (low_below w.value bits r.has at))
   integer_below false n m z w bits r stands at = unknown_below n at (f (slice_index_or bits at (Fixed S0)))
+
+  -- the same of a word that is wider than the integer's bits
+  pub narrow_below : (t : Bool) (y k n m : ℕ) (z : ℤ) (w : Word (t ≡ true) n m) (bits : List SigBit) → n ≡ y + k → Reads (reads f is) (t ≡ true) n m w bits → (t ≡ true → Residue n m z)
+      → (at : ℕ) → Below (slice_index_or (if t then integer_bits z y else unknown_of y) at X) (f (slice_index_or bits at (Fixed S0)))
+  narrow_below true y k n m z w bits e r stands at =
+      subst (λ x. Below (slice_index_or x at X) (f (slice_index_or bits at (Fixed S0)))) (narrow_bits y k n m z w.value e (w.known refl) (w.is refl) (stands refl))
+      (short_below y n at w.value (f (slice_index_or bits at (Fixed S0))) (omega (arith, e))
+      (subst (λ j. Below (slice_index_or (low_of w.value j) at X) (f (slice_index_or bits at (Fixed S0)))) r.width (low_below w.value bits r.has at)))
+  narrow_below false y k n m z w bits e r stands at = unknown_below y at (f (slice_index_or bits at (Fixed S0)))

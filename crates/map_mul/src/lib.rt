@@ -1,4 +1,4 @@
-//! Gates for the word cells that multiply.
+//! Gates for the word cells that multiply and divide.
 #![tactic(auto)]
 
 mod product;
