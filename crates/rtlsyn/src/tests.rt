@@ -108,6 +108,7 @@ fn texts_have_their_netlists(rt: HostRuntime) -> Result<(), Fail> {
         whole_text::SECOND_ROWS,
         whole_text::THIRD_ROWS,
         whole_text::FOURTH_ROWS,
+        whole_text::FIFTH_ROWS,
     ];
     assert_eq!(rt; run_tables(&rt, rt.alloc(), tables)?, (348, 144));
     Ok(())

@@ -224,9 +224,9 @@ wires_none id name numbers (w ∷ ws) e =
 stores_none : (scope : Scope) (id name : List ℕ) (ss : List Store) → flat_map (store_faults scope id) ss ≡ [] → flat_map (store_faults scope name) ss ≡ []
 stores_none scope id name = flat_none (store_faults scope id) (store_faults scope name)
     (λ s e.
-        let parts = none_parts (fault_if (not scope.memories) (UnsupportedCell (spot id s.name))) (fault_if (is_bad_store s) (BadMemory (spot id s.name))) e in
-        both (fault_if (not scope.memories) (UnsupportedCell (spot name s.name))) (fault_if (is_bad_store s) (BadMemory (spot name s.name)))
-        (if_none (not scope.memories) _ _ parts.first) (if_none (is_bad_store s) _ _ parts.second))
+    let parts = none_parts (fault_if (not scope.memories) (UnsupportedCell (spot id s.name))) (fault_if (is_bad_store s) (BadMemory (spot id s.name))) e in
+    both (fault_if (not scope.memories) (UnsupportedCell (spot name s.name))) (fault_if (is_bad_store s) (BadMemory (spot name s.name)))
+    (if_none (not scope.memories) _ _ parts.first) (if_none (is_bad_store s) _ _ parts.second))
 
 -- the faults of a process, by the tests of its parts
 process_none : (scope : Scope) (P Q : Ports) (m : Module) (name : List ℕ) (earlier : List Process) (p : Process) → is_bad_process P m p ≡ is_bad_process Q m p

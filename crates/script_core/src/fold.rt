@@ -12,11 +12,7 @@ use rtl_ir::{Module, PortTable};
 use std::alloc::Global;
 
 /// The module without processes: their trees become multiplexers. `Over` where these would pass a limit.
-fn without_processes(
-    alloc: Global,
-    module: Module,
-    ports: &PortTable,
-) -> Result<Module, PassFault>
+fn without_processes(alloc: Global, module: Module, ports: &PortTable) -> Result<Module, PassFault>
     requires ready { MayBeGiven ports.now Proc «module» }
     ensures exact { IfOk result (λ after. proc_within «module» «module».processes ≡ Some after) }
     ensures over { result ≡ Err PassFault.Over → proc_within «module» «module».processes ≡ None }

@@ -38,11 +38,12 @@ fn lines_beginning(
 ) -> Result<usize, Fail> {
     let (ended, sink) = call(alloc, text.as_bytes(), &[], &[])?;
     assert_eq!(rt; ended, Status::Done);
-    Ok(sink
-        .bytes()
-        .split(|byte| *byte == b'\n')
-        .filter(|line| line.starts_with(start))
-        .count())
+    Ok(
+        sink.bytes()
+            .split(|byte| *byte == b'\n')
+            .filter(|line| line.starts_with(start))
+            .count(),
+    )
 }
 
 /// A bit that so many switches in one another choose.
@@ -65,7 +66,10 @@ fn nested_text(alloc: Global, depth: u32) -> Result<String, AllocError> {
 #[test]
 fn switches_in_one_another(rt: HostRuntime) -> Result<(), Fail> {
     let text = nested_text(rt.alloc(), 512)?;
-    assert_eq!(rt; lines_beginning(&rt, rt.alloc(), text.as_str(), b"  cell $mux ")?, 512);
+    assert_eq!(rt;
+        lines_beginning(&rt, rt.alloc(), text.as_str(), b"  cell $mux ")?,
+        512
+    );
     Ok(())
 }
 
@@ -97,7 +101,10 @@ fn patterns_text(alloc: Global, count: u32) -> Result<String, AllocError> {
 #[test]
 fn a_case_of_many_patterns(rt: HostRuntime) -> Result<(), Fail> {
     let most = patterns_text(rt.alloc(), 4_096)?;
-    assert_eq!(rt; lines_beginning(&rt, rt.alloc(), most.as_str(), b"  cell $eq ")?, 4_096);
+    assert_eq!(rt;
+        lines_beginning(&rt, rt.alloc(), most.as_str(), b"  cell $eq ")?,
+        4_096
+    );
     let more = patterns_text(rt.alloc(), 4_097)?;
     answers(
         &rt,
@@ -119,7 +126,15 @@ fn made_text(alloc: Global, made: &str) -> Result<String, AllocError> {
 #[test]
 fn multiplexers_pass_a_limit(rt: HostRuntime) -> Result<(), Fail> {
     let last = made_text(rt.alloc(), "$syn$999999997")?;
-    assert_eq!(rt; lines_beginning(&rt, rt.alloc(), last.as_str(), b"  cell $mux $syn$999999998")?, 1);
+    assert_eq!(rt;
+        lines_beginning(
+            &rt,
+            rt.alloc(),
+            last.as_str(),
+            b"  cell $mux $syn$999999998"
+        )?,
+        1
+    );
     let over = made_text(rt.alloc(), "$syn$999999998")?;
     answers(
         &rt,
