@@ -147,4 +147,4 @@ module _ (K : Type 0) (n y : ℕ) (divisor : Word K n y) (some : K → 0 < y) (l
       by false e =
           let other : Net l ⊥ (divided_of xs ys) (ReadsDivided ⊥ n 0 (no_word n 0) (λ q. absurd q) l (length xs) 0 (divided_word ⊥ n 0 (no_word n 0) (λ q. absurd q) (length xs) 0 (no_word (length xs) 0))) = net_exact ⊥ n 0 (no_word n 0) (λ q. absurd q) l xs (length xs) 0 (no_word (length xs) 0) ys refl (λ q. absurd q) (λ q. absurd q) in
           let far : length xs ≡ k → ⊥ = grind (arith, nat_tests) in
-          record { gates = other.gates; is = other.is; holds = λ b r o. absurd (far (h r).width) }
+          record { gates = other.gates; is = other.is; unnamed = other.unnamed; holds = λ b r o. absurd (far (h r).width) }
