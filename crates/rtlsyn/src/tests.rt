@@ -82,35 +82,63 @@ fn run_rows(rt: &impl Abort, alloc: Global, table: &[u8]) -> Result<(u32, u32), 
     Ok((rows, accepted))
 }
 
-/// Runs the rows of these tables, and gives how many there are and how many are accepted.
-fn run_tables(rt: &impl Abort, alloc: Global, tables: &[&[u8]]) -> Result<(u32, u32), Fail> {
-    let mut rows = 0u32;
-    let mut accepted = 0u32;
-    for table in tables {
-        let (more, taken) = run_rows(rt, alloc, table)?;
-        rows = rows.saturating_add(more);
-        accepted = accepted.saturating_add(taken);
-    }
-    Ok((rows, accepted))
-}
-
 #[test]
-fn texts_of_cells_have_their_netlists(rt: HostRuntime) -> Result<(), Fail> {
-    let tables: &[&[u8]] = &[cell_text::FIRST_ROWS, cell_text::SECOND_ROWS];
-    assert_eq!(rt; run_tables(&rt, rt.alloc(), tables)?, (140, 140));
+fn first_texts_of_cells_have_their_netlists(rt: HostRuntime) -> Result<(), Fail> {
+    assert_eq!(rt; run_rows(&rt, rt.alloc(), cell_text::FIRST_ROWS)?, (73, 73));
     Ok(())
 }
 
 #[test]
-fn texts_have_their_netlists(rt: HostRuntime) -> Result<(), Fail> {
-    let tables: &[&[u8]] = &[
-        whole_text::FIRST_ROWS,
-        whole_text::SECOND_ROWS,
-        whole_text::THIRD_ROWS,
-        whole_text::FOURTH_ROWS,
-        whole_text::FIFTH_ROWS,
-    ];
-    assert_eq!(rt; run_tables(&rt, rt.alloc(), tables)?, (348, 144));
+fn second_texts_of_cells_have_their_netlists(rt: HostRuntime) -> Result<(), Fail> {
+    assert_eq!(rt;
+        run_rows(&rt, rt.alloc(), cell_text::SECOND_ROWS)?,
+        (67, 67)
+    );
+    Ok(())
+}
+
+#[test]
+fn first_texts_have_their_netlists(rt: HostRuntime) -> Result<(), Fail> {
+    assert_eq!(rt;
+        run_rows(&rt, rt.alloc(), whole_text::FIRST_ROWS)?,
+        (203, 0)
+    );
+    Ok(())
+}
+
+#[test]
+fn second_texts_have_their_netlists(rt: HostRuntime) -> Result<(), Fail> {
+    assert_eq!(rt;
+        run_rows(&rt, rt.alloc(), whole_text::SECOND_ROWS)?,
+        (16, 15)
+    );
+    Ok(())
+}
+
+#[test]
+fn third_texts_have_their_netlists(rt: HostRuntime) -> Result<(), Fail> {
+    assert_eq!(rt;
+        run_rows(&rt, rt.alloc(), whole_text::THIRD_ROWS)?,
+        (46, 46)
+    );
+    Ok(())
+}
+
+#[test]
+fn fourth_texts_have_their_netlists(rt: HostRuntime) -> Result<(), Fail> {
+    assert_eq!(rt;
+        run_rows(&rt, rt.alloc(), whole_text::FOURTH_ROWS)?,
+        (49, 49)
+    );
+    Ok(())
+}
+
+#[test]
+fn fifth_texts_have_their_netlists(rt: HostRuntime) -> Result<(), Fail> {
+    assert_eq!(rt;
+        run_rows(&rt, rt.alloc(), whole_text::FIFTH_ROWS)?,
+        (34, 34)
+    );
     Ok(())
 }
 

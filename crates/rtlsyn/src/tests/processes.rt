@@ -73,11 +73,14 @@ fn switches_in_one_another(rt: HostRuntime) -> Result<(), Fail> {
     Ok(())
 }
 
+/// The values of 13 bits, the highest first.
+const BITS: [u32; 13] = [4096, 2048, 1024, 512, 256, 128, 64, 32, 16, 8, 4, 2, 1];
+
 /// The lowest 13 bits of a number, as a constant.
 fn put_constant(text: &mut String, number: u32) -> Result<(), AllocError> {
     text.push_str("13'")?;
-    for at in (0..13).rev() {
-        text.push_str(if (number >> at) & 1 == 1 { "1" } else { "0" })?;
+    for bit in BITS {
+        text.push_str(if number & bit == 0 { "0" } else { "1" })?;
     }
     Ok(())
 }
