@@ -1,8 +1,7 @@
 -- Trees by the numbers of nodes become the multiplexers of the definition.
-use Rattle.std.proofs.Common.{◌≡◌, ℕ, zero, suc, ◌+◌, ◌<◌, List, [], ◌∷◌, length, map, drop, get_or, add-one, Option, None, refl, sym, ◌∙◌, ap, subst, arith, inl, inr}
-use Rattle.std.specs.Prelude.{replicate, unwrap_or}
+use Rattle.std.proofs.Common.{◌≡◌, ℕ, suc, ◌+◌, ◌<◌, List, [], ◌∷◌, length, map, drop, get_or, add-one, refl, sym, ◌∙◌, ap, subst, arith, inl, inr}
+use Rattle.std.specs.Prelude.{unwrap_or}
 use Rattle.std.proofs.lemmas.List.{length-map}
-use Rattle.rtl_sig.specs.declared.sig.SigBit.{SigBit}
 use Rattle.rtl_sig.specs.declared.sig.SigBit.TheVariants.{Wire as OnWire}
 use Rattle.rtl_sig.specs.declared.sig.WireBit.{WireBit}
 use Rattle.rtl_ir.specs.Build.{Building, new_link}
@@ -13,16 +12,16 @@ use Rattle.net_model.specs.Within.{Each}
 use Rattle.net_model.specs.Proc.Mux.{Trees, in_bit_order, run_value, tree_runs}
 use Rattle.net_model.specs.Proc.Mux as by_places
 use Rattle.proc_mux.specs.Givens.{case_given, unknowns}
-use Rattle.proc_mux.specs.Numbers.{case_behind}
-use Rattle.proc_mux.specs.Trees.{Numbered, made_at, none_made, run_step, runs_step, switches_value, value_at}
-use Rattle.proc_mux.proofs.Growing.{Grows, grows_more, grows_none, over_later}
+use Rattle.match_cells.specs.Trees.{Numbered, none_made}
+use Rattle.proc_mux.specs.Trees.{run_step, runs_step, switches_value, value_at}
+use Rattle.match_cells.proofs.Growing.{Grows, grows_more, grows_none, over_later}
 use Rattle.proc_mux.proofs.RunSteps.{runs_grow}
 use Rattle.std.proofs.Math.Seq.{drop-cons}
 use Rattle.net_index.specs.Builder.{PassesLimit}
 use Rattle.proc_mux.proofs.Fitting.{AreEven, root_fits, root_value}
-use Rattle.proc_mux.proofs.Numbering.{switches_count}
-use Rattle.proc_mux.proofs.Places.{IsInSwitches, switch_number, switch_range}
-use Rattle.proc_mux.proofs.Same.{Agrees, IsMade, switches_same, value_width}
+use Rattle.match_cells.proofs.Places.{IsInSwitches, switch_number}
+use Rattle.match_cells.proofs.Same.{Agrees, IsMade, none_is_made}
+use Rattle.proc_mux.proofs.Same.{switches_same, value_width}
 use Rattle.proc_mux.proofs.Uniform.{runs_uniform}
 
 -- what is built is the same, and so are the matches that are made
@@ -50,23 +49,8 @@ runs_same c [] even d f same = same
 runs_same c (run ∷ runs) even d f same =
     runs_same c runs (λ r i. even r (inr i)) (by_places.run_step c run d) (run_step c run f) (run_same c run (even run (inl refl)) d f same)
 
-none_at : (count n : ℕ) → made_at (replicate count None) n ≡ None
-none_at zero n = refl
-none_at (suc count) zero = refl
-none_at (suc count) (suc n) = none_at count n
-
-replicate_count : {A : Type 0} (count : ℕ) (x : A) → length (replicate count x) ≡ count
-replicate_count zero x = refl
-replicate_count (suc count) x = ap suc (replicate_count count x)
-
 none_same : (c : CaseView) (b : Building) → AreSame c.switches (record { building = b; made = [] }) (none_made b c)
-none_same c b = record {
-  building = refl;
-  made = record {
-    same = λ p i. none_at (length (case_behind 0 c)) (switch_number 1 c.switches p);
-    long = λ p i. omega (arith, (switch_range 1 c.switches p i).1, replicate_count {A = Option SigBit} (length (case_behind 0 c)) None, switches_count 1 c.switches);
-  };
-}
+none_same c b = record { building = refl; made = none_is_made c }
 
 pub numbers_are : (b : Building) (p : Process) → (runs_step p.root (tree_runs p.root) (none_made b p.root)).building ≡ by_places.process_step b p
 numbers_are b p =

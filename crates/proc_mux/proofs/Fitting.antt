@@ -12,7 +12,7 @@ use Rattle.rtl_ir.specs.Tree.{CaseView, Switches, NoSwitch, OneSwitch, Cases, No
 use Rattle.net_model.specs.Lists.{In}
 use Rattle.net_model.specs.Proc.Mux.{assigns_run, names_bit, run_value}
 use Rattle.proc_mux.specs.Givens.{case_given, cases_given, own_given, switches_given, unknowns}
-use Rattle.proc_mux.specs.Numbers.{behind_case, behind_switch, cases_size, switches_size}
+use Rattle.match_cells.specs.Numbers.{behind_case, behind_switch, cases_size, switches_size}
 use Rattle.proc_mux.specs.Trees.{has_between, value_at}
 use Rattle.proc_mux.specs.declared.given.Given.{Given}
 use Rattle.proc_mux.proofs.Same.{FitsCases, FitsSwitches}

@@ -1,5 +1,5 @@
 -- What the step promises of what it answers.
-use Rattle.std.proofs.Common.{◌≡◌, Bool, true, Result, Ok, Err, refl, sym, ap, subst}
+use Rattle.std.proofs.Common.{◌≡◌, Bool, true, Result, Ok, Err, sym, ap, subst}
 use Rattle.std.specs.Prelude.{IfOk, OnOk}
 use Rattle.rtl_ir.specs.Flat.Cell.{Ports, instances}
 use Rattle.rtl_ir.specs.Ports.{ports_of}

@@ -10,9 +10,10 @@ use Rattle.rtl_ir.specs.Build.{new_link}
 use Rattle.rtl_ir.specs.Tree.{CaseView}
 use Rattle.net_index.specs.Builder.{PassesLimit}
 use Rattle.proc_mux.specs.Givens.{case_given, unknowns}
-use Rattle.proc_mux.specs.Trees.{Numbered, run_step, runs_step, switches_value, value_at}
+use Rattle.match_cells.specs.Trees.{Numbered}
+use Rattle.proc_mux.specs.Trees.{run_step, runs_step, switches_value, value_at}
 use Rattle.proc_mux.specs.declared.given.Given.{Given}
-use Rattle.proc_mux.proofs.Growing.{Grows, grows_more, grows_none, link_grows, over_later}
+use Rattle.match_cells.proofs.Growing.{Grows, grows_more, grows_none, link_grows, over_later}
 use Rattle.proc_mux.proofs.Walking.{switches_grow}
 
 pub unknown_goes : (run : List WireBit) (at : ℕ) → at < length run → (bits bits' all : List SigBit) → bits' ≡ bits ++ Fixed X ∷ [] → bits ++ unknowns (drop at run) ≡ all → bits' ++ unknowns (drop (at + 1) run) ≡ all

@@ -5,12 +5,13 @@ use Rattle.std.proofs.Math.Seq.{drop-cons}
 use Rattle.rtl_sig.specs.declared.sig.SigBit.{SigBit}
 use Rattle.rtl_ir.specs.Tree.{CaseView, SwitchView, Switches, NoSwitch, OneSwitch, Cases, NoCase, OneCase, cases_of, switches_of}
 use Rattle.net_index.specs.Builder.{PassesLimit}
-use Rattle.proc_mux.specs.Numbers.{HasCases, HasSwitches, behind_case, behind_switch}
-use Rattle.proc_mux.specs.Trees.{Numbered, case_value, cases_value, has_between, switch_value, switches_value, value_at, with_case}
+use Rattle.match_cells.specs.Numbers.{HasCases, HasSwitches, behind_case, behind_switch}
+use Rattle.match_cells.specs.Trees.{Numbered, with_case}
+use Rattle.proc_mux.specs.Trees.{case_value, cases_value, has_between, switch_value, switches_value, value_at}
 use Rattle.proc_mux.specs.declared.given.Given.{Given}
-use Rattle.proc_mux.proofs.Growing.{Grows, grows_more, grows_none, over_later}
-use Rattle.proc_mux.proofs.Nodes.{node_next, node_of}
-use Rattle.proc_mux.proofs.Steps.{with_case_grows}
+use Rattle.match_cells.proofs.Growing.{Grows, grows_more, grows_none, over_later}
+use Rattle.match_cells.proofs.NodeRows.{node_next, node_of}
+use Rattle.match_cells.proofs.Steps.{with_case_grows}
 
 either_grows : (h : Bool) (prior : List SigBit) (t : Numbered) (r : List SigBit × Numbered) → Grows t.building r.1.building → Grows t.building (if h then r else (prior, t)).1.building
 either_grows true prior t r g = g

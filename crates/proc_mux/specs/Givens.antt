@@ -7,7 +7,7 @@ use Rattle.rtl_sig.specs.declared.sig.WireBit.{WireBit}
 use Rattle.rtl_ir.specs.declared.module.Link.{Link}
 use Rattle.rtl_ir.specs.Tree.{Switches, NoSwitch, OneSwitch, Cases, NoCase, OneCase, CaseView, SwitchView}
 use Rattle.net_model.specs.Proc.Mux.{assigns_run, run_value}
-use Rattle.proc_mux.specs.Numbers.{behind_case, behind_switch}
+use Rattle.match_cells.specs.Numbers.{behind_case, behind_switch}
 use Rattle.proc_mux.specs.declared.given.Given.{Given}
 
 -- as many unknown constants as a run has bits

@@ -1,5 +1,3 @@
-pub mod Parts
-pub mod Numbers
 pub mod Trees
 pub mod Lines
 pub mod Givens

@@ -2,7 +2,7 @@
 
 ghost use Rattle.std.specs.Prelude.{◌≡◌, ◌+◌, ◌++◌, IfOk, OnOk};
 ghost use Rattle.proc_mux.specs.Givens.{case_given, own_given, switch_given, unknowns};
-ghost use Rattle.proc_mux.specs.Numbers.{behind_case, behind_switch};
+ghost use Rattle.match_cells.specs.Numbers.{behind_case, behind_switch};
 
 use crate::given::Given;
 use crate::lines::{assigns_run, run_value};

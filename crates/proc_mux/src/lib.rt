@@ -1,15 +1,11 @@
 //! The last step of `proc`: trees of decisions become multiplexers, and the processes go.
 #![tactic(auto)]
 
-mod cells;
 mod given;
 mod given_walk;
-mod limits;
 mod lines;
-mod numbers;
 mod process;
 mod runs;
-mod trees;
 mod walk;
 
 ghost use Rattle.std.specs.Prelude.{◌≡◌, Bool, Err, IfOk, OnOk, true};
@@ -23,8 +19,8 @@ ghost use Rattle.proc_laws.specs.Ready.{AreRuled, HaveNoLines, IsReady, with_pro
 ghost use Rattle.proc_laws.specs.Rebuilds.{KeepsEnds};
 ghost use Rattle.proc_mux.specs.Limits.{MuxPassesLimit, muxed};
 
-use crate::limits::check_limits;
 use crate::process::processes_step;
+use match_cells::check_limits;
 use net_index::{Builder, PassFault};
 use rtl_bits::{Copied, Seq};
 use rtl_ir::{Module, PortTable};

@@ -1,19 +1,19 @@
 //! Processes, one after another.
 
-ghost use Rattle.std.specs.Prelude.{◌≡◌, Err, IfOk, OnOk, None, map, replicate};
+ghost use Rattle.std.specs.Prelude.{◌≡◌, Err, IfOk, OnOk, map};
 ghost use Rattle.rtl_sig.specs.declared.sig.SigBit.TheVariants.{Wire as OnWire};
 ghost use Rattle.net_index.specs.Builder.{IsInLimits, PassesLimit};
 ghost use Rattle.net_model.specs.Proc.Mux.{process_step, processes_step};
-ghost use Rattle.proc_mux.specs.Numbers.{HasSwitches};
-ghost use Rattle.proc_mux.specs.Trees.{run_step, seen, switches_value};
+ghost use Rattle.match_cells.specs.Numbers.{HasSwitches};
+ghost use Rattle.match_cells.specs.Trees.{seen};
+ghost use Rattle.proc_mux.specs.Trees.{run_step, switches_value};
 
 use crate::given::Given;
 use crate::given_walk::{given_of, unknowns};
 use crate::lines::lines_of;
-use crate::numbers::nodes_behind;
 use crate::runs::{bits_in_order, runs_of};
-use crate::trees::Trees;
-use crate::walk::start_of;
+use crate::walk::{start_of, switches_value};
+use match_cells::{Trees, nodes_behind};
 use net_index::{Builder, PassFault};
 use rtl_bits::Memory;
 use rtl_ir::{Case, Process};
@@ -48,58 +48,48 @@ fn process_step(alloc: Global, builder: Builder, process: &Process) -> Result<Bu
     let lines = lines_of(alloc, root)?;
     let bits = bits_in_order(alloc, root)?;
     let runs = runs_of(alloc, lines.as_slice(), bits.as_slice())?;
-    let mut trees = no_match(alloc, builder, table.len())?;
+    let mut trees = Trees::of(alloc, builder, table.len())?;
     for run in runs.as_slice() {
-        trees.run_step(table.as_slice(), root, run.as_slice())?;
+        run_step(&mut trees, table.as_slice(), root, run.as_slice())?;
     }
     Ok(trees.builder)
 }
 
-/// No match is made yet of so many nodes.
-fn no_match(alloc: Global, builder: Builder, nodes: usize) -> Result<Trees, Memory>
-    ensures building { IfOk result (λ trees. trees.builder ≡ builder) }
-    ensures made { IfOk result (λ trees. trees.made.items ≡ replicate nodes None) }
+/// The run is connected to what the tree makes of x.
+fn run_step(
+    trees: &mut Trees,
+    table: &[usize],
+    root: &Case,
+    run: &[WireBit],
+) -> Result<(), PassFault>
+    requires table { HasSwitches table.now 1 root.now.switches }
+    ensures exact { OnOk result (seen trees.new ≡ run_step root.now run.now (seen trees.old)) }
+    ensures over { result ≡ Err PassFault.Over → PassesLimit (run_step root.now run.now (seen trees.old)).building }
+    ensures within { IsInLimits trees.old.builder → OnOk result (IsInLimits trees.new.builder) }
 {
-    let made = vec![in alloc; None; nodes]?;
-    Ok(Trees {
-        alloc,
-        builder,
-        made,
-    })
+    let given = given_of(trees.alloc, run, root)?;
+    let prior = unknowns(trees.alloc, run)?;
+    let start = start_of(trees.alloc, given.as_slice(), 0, prior.as_slice())?;
+    let value = tree_value(trees, table, given.as_slice(), root, start)?;
+    let signal = signal_of(trees.alloc, run)?;
+    trees.builder.connect(&signal, &value)?;
+    Ok(())
 }
 
-impl Trees {
-    /// The run is connected to what the tree makes of x.
-    fn run_step(&mut self, table: &[usize], root: &Case, run: &[WireBit]) -> Result<(), PassFault>
-        requires table { HasSwitches table.now 1 root.now.switches }
-        ensures exact { OnOk result (seen self.new ≡ run_step root.now run.now (seen self.old)) }
-        ensures over { result ≡ Err PassFault.Over → PassesLimit (run_step root.now run.now (seen self.old)).building }
-        ensures within { IsInLimits self.old.builder → OnOk result (IsInLimits self.new.builder) }
-    {
-        let given = given_of(self.alloc, run, root)?;
-        let prior = unknowns(self.alloc, run)?;
-        let start = start_of(self.alloc, given.as_slice(), 0, prior.as_slice())?;
-        let value = self.tree_value(table, given.as_slice(), root, start)?;
-        let signal = signal_of(self.alloc, run)?;
-        self.builder.connect(&signal, &value)?;
-        Ok(())
-    }
-
-    /// The switches of the tree act on the value of a run.
-    fn tree_value(
-        &mut self,
-        table: &[usize],
-        given: &[Given],
-        root: &Case,
-        start: SigSpec,
-    ) -> Result<SigSpec, PassFault>
-        requires table { HasSwitches table.now 1 root.now.switches }
-        ensures exact { IfOk result (λ value. (value, seen self.new) ≡ switches_value given.now 1 root.now.switches start (seen self.old)) }
-        ensures over { result ≡ Err PassFault.Over → PassesLimit (switches_value given.now 1 root.now.switches start (seen self.old)).1.building }
-        ensures within { IsInLimits self.old.builder → OnOk result (IsInLimits self.new.builder) }
-    {
-        self.switches_value(table, given, 1, root.switches.as_slice(), start)
-    }
+/// The switches of the tree act on the value of a run.
+fn tree_value(
+    trees: &mut Trees,
+    table: &[usize],
+    given: &[Given],
+    root: &Case,
+    start: SigSpec,
+) -> Result<SigSpec, PassFault>
+    requires table { HasSwitches table.now 1 root.now.switches }
+    ensures exact { IfOk result (λ value. (value, seen trees.new) ≡ switches_value given.now 1 root.now.switches start (seen trees.old)) }
+    ensures over { result ≡ Err PassFault.Over → PassesLimit (switches_value given.now 1 root.now.switches start (seen trees.old)).1.building }
+    ensures within { IsInLimits trees.old.builder → OnOk result (IsInLimits trees.new.builder) }
+{
+    switches_value(trees, table, given, 1, root.switches.as_slice(), start)
 }
 
 /// The signal of the run.

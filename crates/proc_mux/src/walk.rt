@@ -3,128 +3,136 @@
 ghost use Rattle.std.specs.Prelude.{◌≡◌, ◌+◌, Err, IfOk, OnOk, Some, slice_get, unwrap_or};
 ghost use Rattle.rtl_ir.specs.Tree.{cases_of, switches_of};
 ghost use Rattle.net_index.specs.Builder.{IsInLimits, PassesLimit};
-ghost use Rattle.proc_mux.specs.Numbers.{HasCases, HasSwitches, behind_case, behind_switch, case_nodes};
-ghost use Rattle.proc_mux.specs.Trees.{case_value, cases_value, seen, switch_value, switches_value, value_at};
+ghost use Rattle.match_cells.specs.Numbers.{HasCases, HasSwitches, behind_case, behind_switch};
+ghost use Rattle.match_cells.specs.Trees.{seen};
+ghost use Rattle.proc_mux.specs.Trees.{case_value, cases_value, switch_value, switches_value, value_at};
 
 use crate::given::{Given, has_between, value_at};
-use crate::trees::Trees;
+use match_cells::{Trees, behind, case_nodes};
 use net_index::PassFault;
 use rtl_bits::{Copied, Memory};
 use rtl_ir::{Case, Switch};
 use rtl_sig::{SigBit, SigSpec};
 use std::alloc::Global;
 
-impl Trees {
-    /// The switches act in order on the value of a run. The first of them is the node of this number; the table
-    /// has of each node the first node behind it.
-    #[cycle(tree)]
-    pub(crate) fn switches_value(
-        &mut self,
-        table: &[usize],
-        given: &[Given],
-        node: usize,
-        switches: &[Switch],
-        prior: SigSpec,
-    ) -> Result<SigSpec, PassFault>
-        requires table { HasSwitches table.now node (switches_of switches.now) }
-        ensures exact { IfOk result (λ value. (value, seen self.new) ≡ switches_value given.now node (switches_of switches.now) prior (seen self.old)) }
-        ensures over { result ≡ Err PassFault.Over → PassesLimit (switches_value given.now node (switches_of switches.now) prior (seen self.old)).1.building }
-        ensures within { IsInLimits self.old.builder → OnOk result (IsInLimits self.new.builder) }
-    {
-        let mut node = node;
-        let mut value = prior;
-        for switch in switches {
-            value = self.switch_value(table, given, node, switch, value)?;
-            node = behind(table, node);
-        }
-        Ok(value)
+/// The switches act in order on the value of a run. The first of them is the node of this number; the table
+/// has of each node the first node behind it.
+#[cycle(tree)]
+pub(crate) fn switches_value(
+    trees: &mut Trees,
+    table: &[usize],
+    given: &[Given],
+    node: usize,
+    switches: &[Switch],
+    prior: SigSpec,
+) -> Result<SigSpec, PassFault>
+    requires table { HasSwitches table.now node (switches_of switches.now) }
+    ensures exact { IfOk result (λ value. (value, seen trees.new) ≡ switches_value given.now node (switches_of switches.now) prior (seen trees.old)) }
+    ensures over { result ≡ Err PassFault.Over → PassesLimit (switches_value given.now node (switches_of switches.now) prior (seen trees.old)).1.building }
+    ensures within { IsInLimits trees.old.builder → OnOk result (IsInLimits trees.new.builder) }
+{
+    let mut node = node;
+    let mut value = prior;
+    for switch in switches {
+        value = switch_value(trees, table, given, node, switch, value)?;
+        node = behind(table, node);
     }
+    Ok(value)
+}
 
-    /// The switch acts on the value of a run, where it assigns the run.
-    #[cycle(tree)]
-    fn switch_value(
-        &mut self,
-        table: &[usize],
-        given: &[Given],
-        node: usize,
-        switch: &Switch,
-        prior: SigSpec,
-    ) -> Result<SigSpec, PassFault>
-        requires behind { slice_get table.now node ≡ Some (behind_switch node switch.now.cases) }
-        requires table { HasCases table.now (node + 1) switch.now.cases }
-        ensures exact { IfOk result (λ value. (value, seen self.new) ≡ switch_value given.now node switch.now.signal switch.now.cases prior (seen self.old)) }
-        ensures over { result ≡ Err PassFault.Over → PassesLimit (switch_value given.now node switch.now.signal switch.now.cases prior (seen self.old)).1.building }
-        ensures within { IsInLimits self.old.builder → OnOk result (IsInLimits self.new.builder) }
-    {
-        if !has_between(given, node, behind(table, node)) {
-            return Ok(prior);
-        }
-        let signal = switch.signal.as_slice();
-        self.cases_value(
+/// The switch acts on the value of a run, where it assigns the run.
+#[cycle(tree)]
+fn switch_value(
+    trees: &mut Trees,
+    table: &[usize],
+    given: &[Given],
+    node: usize,
+    switch: &Switch,
+    prior: SigSpec,
+) -> Result<SigSpec, PassFault>
+    requires behind { slice_get table.now node ≡ Some (behind_switch node switch.now.cases) }
+    requires table { HasCases table.now (node + 1) switch.now.cases }
+    ensures exact { IfOk result (λ value. (value, seen trees.new) ≡ switch_value given.now node switch.now.signal switch.now.cases prior (seen trees.old)) }
+    ensures over { result ≡ Err PassFault.Over → PassesLimit (switch_value given.now node switch.now.signal switch.now.cases prior (seen trees.old)).1.building }
+    ensures within { IsInLimits trees.old.builder → OnOk result (IsInLimits trees.new.builder) }
+{
+    if !has_between(given, node, behind(table, node)) {
+        return Ok(prior);
+    }
+    let signal = switch.signal.as_slice();
+    cases_value(
+        trees,
+        table,
+        given,
+        node + 1,
+        signal,
+        switch.cases.as_slice(),
+        prior,
+    )
+}
+
+/// The cases of a switch act, the last one first, on the value of a run before the switch.
+#[cycle(tree)]
+fn cases_value(
+    trees: &mut Trees,
+    table: &[usize],
+    given: &[Given],
+    node: usize,
+    signal: &[SigBit],
+    cases: &[Case],
+    prior: SigSpec,
+) -> Result<SigSpec, PassFault>
+    requires table { HasCases table.now node (cases_of cases.now) }
+    ensures exact { IfOk result (λ value. (value, seen trees.new) ≡ cases_value given.now node signal.now (cases_of cases.now) prior (seen trees.old)) }
+    ensures over { result ≡ Err PassFault.Over → PassesLimit (cases_value given.now node signal.now (cases_of cases.now) prior (seen trees.old)).1.building }
+    ensures within { IsInLimits trees.old.builder → OnOk result (IsInLimits trees.new.builder) }
+{
+    let nodes = case_nodes(trees.alloc, table, node, cases)?;
+    let nodes = nodes.as_slice();
+    let mut value = prior.copy()?;
+    for at in (0..cases.len()).rev() {
+        value = case_value(
+            trees,
             table,
             given,
-            node + 1,
+            nodes[at],
             signal,
-            switch.cases.as_slice(),
-            prior,
-        )
+            &cases[at],
+            prior.as_slice(),
+            value,
+        )?;
     }
+    Ok(value)
+}
 
-    /// The cases of a switch act, the last one first, on the value of a run before the switch.
-    #[cycle(tree)]
-    fn cases_value(
-        &mut self,
-        table: &[usize],
-        given: &[Given],
-        node: usize,
-        signal: &[SigBit],
-        cases: &[Case],
-        prior: SigSpec,
-    ) -> Result<SigSpec, PassFault>
-        requires table { HasCases table.now node (cases_of cases.now) }
-        ensures exact { IfOk result (λ value. (value, seen self.new) ≡ cases_value given.now node signal.now (cases_of cases.now) prior (seen self.old)) }
-        ensures over { result ≡ Err PassFault.Over → PassesLimit (cases_value given.now node signal.now (cases_of cases.now) prior (seen self.old)).1.building }
-        ensures within { IsInLimits self.old.builder → OnOk result (IsInLimits self.new.builder) }
-    {
-        let nodes = case_nodes(self.alloc, table, node, cases)?;
-        let nodes = nodes.as_slice();
-        let mut value = prior.copy()?;
-        for at in (0..cases.len()).rev() {
-            value = self.case_value(
-                table,
-                given,
-                nodes[at],
-                signal,
-                &cases[at],
-                prior.as_slice(),
-                value,
-            )?;
-        }
-        Ok(value)
-    }
-
-    /// The case acts on what stands for the cases behind it.
-    #[cycle(tree)]
-    fn case_value(
-        &mut self,
-        table: &[usize],
-        given: &[Given],
-        node: usize,
-        signal: &[SigBit],
-        case: &Case,
-        prior: &[SigBit],
-        acc: SigSpec,
-    ) -> Result<SigSpec, PassFault>
-        requires behind { slice_get table.now node ≡ Some (behind_case node case.now.switches) }
-        requires table { HasSwitches table.now (node + 1) case.now.switches }
-        ensures exact { IfOk result (λ value. (value, seen self.new) ≡ case_value given.now node signal.now case.now.patterns case.now.switches prior.now acc (seen self.old)) }
-        ensures over { result ≡ Err PassFault.Over → PassesLimit (case_value given.now node signal.now case.now.patterns case.now.switches prior.now acc (seen self.old)).1.building }
-        ensures within { IsInLimits self.old.builder → OnOk result (IsInLimits self.new.builder) }
-    {
-        let start = start_of(self.alloc, given, node, prior)?;
-        let body = self.switches_value(table, given, node + 1, case.switches.as_slice(), start)?;
-        self.with_case(node, signal, case.patterns.as_slice(), body, acc)
-    }
+/// The case acts on what stands for the cases behind it.
+#[cycle(tree)]
+fn case_value(
+    trees: &mut Trees,
+    table: &[usize],
+    given: &[Given],
+    node: usize,
+    signal: &[SigBit],
+    case: &Case,
+    prior: &[SigBit],
+    acc: SigSpec,
+) -> Result<SigSpec, PassFault>
+    requires behind { slice_get table.now node ≡ Some (behind_case node case.now.switches) }
+    requires table { HasSwitches table.now (node + 1) case.now.switches }
+    ensures exact { IfOk result (λ value. (value, seen trees.new) ≡ case_value given.now node signal.now case.now.patterns case.now.switches prior.now acc (seen trees.old)) }
+    ensures over { result ≡ Err PassFault.Over → PassesLimit (case_value given.now node signal.now case.now.patterns case.now.switches prior.now acc (seen trees.old)).1.building }
+    ensures within { IsInLimits trees.old.builder → OnOk result (IsInLimits trees.new.builder) }
+{
+    let start = start_of(trees.alloc, given, node, prior)?;
+    let body = switches_value(
+        trees,
+        table,
+        given,
+        node + 1,
+        case.switches.as_slice(),
+        start,
+    )?;
+    trees.with_case(node, signal, case.patterns.as_slice(), body, acc)
 }
 
 /// What a run has once the assigns of the case at this node have acted.
@@ -140,33 +148,4 @@ pub(crate) fn start_of(
         Some(value) => SigSpec::from_slice(alloc, value),
         None => SigSpec::from_slice(alloc, prior),
     }
-}
-
-/// The first node behind a node.
-fn behind(table: &[usize], node: usize) -> usize
-    ensures value { result ≡ unwrap_or (slice_get table.now node) node }
-{
-    match table.get(node) {
-        Some(behind) => *behind,
-        None => node,
-    }
-}
-
-/// The nodes of the cases.
-fn case_nodes(
-    alloc: Global,
-    table: &[usize],
-    node: usize,
-    cases: &[Case],
-) -> Result<Vec<usize>, Memory>
-    requires table { HasCases table.now node (cases_of cases.now) }
-    ensures value { IfOk result (λ nodes. nodes.items ≡ case_nodes node (cases_of cases.now)) }
-{
-    let mut nodes = Vec::with_capacity(alloc, cases.len())?;
-    let mut node = node;
-    for _ in cases {
-        nodes.push(node)?;
-        node = behind(table, node);
-    }
-    Ok(nodes)
 }

@@ -2,7 +2,7 @@ use Rattle.std.proofs.Common.{rules}
 use Rattle.rtl_ir.specs.Build.{building_of}
 use Rattle.proc_mux.specs.Limits.{muxed}
 use Rattle.proc_mux.proofs.Exact.{processes_grow}
-use Rattle.proc_mux.proofs.Growing.{over_later}
+use Rattle.match_cells.proofs.Growing.{over_later}
 use Rattle.proc_mux.proofs.muxed_module.Goals as goal
 
 pub returns-in_err-check_limits-clause-over : goal.returns-in_err-check_limits-clause-over

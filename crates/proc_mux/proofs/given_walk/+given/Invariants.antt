@@ -1,7 +1,7 @@
 use Rattle.std.proofs.Common.{◌≡◌, ◌+◌, ◌++◌, drop}
 use Rattle.rtl_ir.specs.Tree.{cases_of, switches_of}
 use Rattle.proc_mux.specs.Givens.{cases_given, switches_given}
-use Rattle.proc_mux.specs.Numbers.{cases_size, switches_size}
+use Rattle.match_cells.specs.Numbers.{cases_size, switches_size}
 use Rattle.proc_mux.proofs.given_walk.+given.Given as goal
 
 -- what is given so far, and below the switches that are left, is all

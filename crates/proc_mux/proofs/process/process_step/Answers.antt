@@ -1,8 +1,9 @@
 use Rattle.std.proofs.Common.{rules, ◌≤◌, ◌∙◌, ap, subst, arith, length}
 use Rattle.net_index.specs.Builder.{PassesLimit}
-use Rattle.proc_mux.specs.Trees.{Numbered, run_step, seen}
+use Rattle.match_cells.specs.Trees.{Numbered, seen}
+use Rattle.proc_mux.specs.Trees.{run_step}
 use Rattle.proc_mux.proofs.Exact.{numbers_are}
-use Rattle.proc_mux.proofs.Numbering.{has_root}
+use Rattle.match_cells.proofs.Numbering.{has_root}
 use Rattle.proc_mux.proofs.RunSteps.{run_goes, runs_end, runs_over}
 use Rattle.proc_mux.proofs.process.process_step.Goals as goal
 
@@ -18,7 +19,7 @@ returns-in_err-run_step-clause-over c e =
 pub loop-run-preserved : goal.loop-run-preserved
 loop-run-preserved c = record {
   all =
-      run_goes c.args.process.now.root c.as_slice-run-items.result.now c.loop-run.run-index c.run-item.result c.loop-run-test.true c.run-item.is (seen c.loop-run.trees) (seen c.run_step.new.self) _
+      run_goes c.args.process.now.root c.as_slice-run-items.result.now c.loop-run.run-index c.run-item.result c.loop-run-test.true c.run-item.is (seen c.loop-run.trees) (seen c.run_step.new.trees) _
       (c.in_ok-run_step.ensures.exact ∙ ap (λ r. run_step c.args.process.now.root r (seen c.loop-run.trees)) c.as_slice-in-loop-run-2.ensures.value) c.loop-run.invariant.all;
   within = λ few. c.in_ok-run_step.ensures.within (c.loop-run.invariant.within few);
 }

@@ -2,7 +2,8 @@
 use Rattle.std.proofs.Common.{◌≡◌, drop}
 use Rattle.net_index.specs.Builder.{IsInLimits}
 use Rattle.net_model.specs.Proc.Mux.{tree_runs}
-use Rattle.proc_mux.specs.Trees.{none_made, runs_step, seen}
+use Rattle.match_cells.specs.Trees.{none_made, seen}
+use Rattle.proc_mux.specs.Trees.{runs_step}
 use Rattle.proc_mux.proofs.process.process_step.Given as goal
 
 abbrev pub invariant-loop-run : goal.invariant-loop-run

@@ -1,0 +1,14 @@
+pub mod Keys
+pub mod Updating
+pub mod Forking
+pub mod Trees
+pub mod Finding
+pub mod Visiting
+pub mod Parts
+pub mod Ordering
+pub mod Wholes
+pub mod TreeFound
+pub mod Placing
+pub mod Ordered
+pub mod Marking
+pub mod Comparing

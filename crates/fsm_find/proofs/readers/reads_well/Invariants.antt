@@ -1,0 +1,16 @@
+-- The pins so far read well.
+use Rattle.std.proofs.Common.{◌≡◌, ℕ, List, drop}
+use Rattle.std.specs.List.{list_all}
+use Rattle.rtl_sig.specs.declared.sig.WireBit.{WireBit}
+use Rattle.rtl_ir.specs.declared.module.Module.{Module}
+use Rattle.rtl_ir.specs.Types.{Ports}
+use Rattle.net_index.specs.Types.{AreTypes}
+use Rattle.net_model.specs.Fsm.Find.{reads_well}
+use Rattle.fsm_find.specs.Readers.{AreMarks, ArePlaces, pin_reads_well}
+use Rattle.fsm_find.specs.View.{IsView}
+use Rattle.fsm_find.proofs.readers.reads_well.Given as goal
+
+abbrev pub invariant-loop-pin : goal.invariant-loop-pin
+invariant-loop-pin l =
+    (ports : Ports) (m : Module) (places : List ℕ) (bits : List WireBit) → IsView l.view ports m → AreTypes l.types ports → ArePlaces places l.machine.forks.items → AreMarks l.table bits
+    → reads_well ports m places l.machine.flop bits l.at l.cell ≡ list_all (pin_reads_well ports m places l.machine.flop bits l.at l.cell) (drop l.pin-index l.cell.pins)

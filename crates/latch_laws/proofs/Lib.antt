@@ -1,0 +1,15 @@
+pub mod LeavesGiven
+pub mod Finding
+pub mod SourcesGiven
+pub mod Depths
+pub mod Expanded
+pub mod ChainGrows
+pub mod ChainStands
+pub mod ChainLeaves
+pub mod HeldMarks
+pub mod LatchCell
+pub mod LatchSteps
+pub mod RowsStay
+pub mod RulesLess
+pub mod UpdatesFree
+pub mod RowsMet

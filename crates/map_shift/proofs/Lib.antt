@@ -1,0 +1,11 @@
+pub mod Limits
+pub mod Steps
+pub mod Reaching
+pub mod Places
+pub mod Words
+pub mod Distances
+pub mod Readings
+pub mod Nets
+pub mod Values
+pub mod Expanded
+pub mod Renaming

@@ -1,0 +1,103 @@
+//! The net of the value of a cell, by its kind.
+
+ghost use Rattle.std.specs.Prelude.{◌≡◌, Err, IfOk, OnOk};
+ghost use Rattle.net_index.specs.Builder.{IsInLimits, PassesLimit};
+ghost use Rattle.map_shift.specs.Expand.{fill_by, is_mapped, moved_by, shift_by, value_of};
+
+use crate::moves::Way;
+use crate::shift::{shifted, shifted_either_way};
+use cell_types::{CellKind, PinName, Shape, ShiftKind, WordKind};
+use gate_nets::{fill_of, operand_of, pin_signal};
+use net_index::{Builder, PassFault};
+use rtl_bits::Bit;
+use rtl_ir::Cell;
+use rtl_sig::{SigBit, SigSpec};
+use std::alloc::Global;
+
+/// A kind becomes gates here.
+pub(crate) fn is_mapped(kind: CellKind) -> bool
+    ensures value { result ≡ is_mapped kind }
+{
+    matches!(kind, CellKind::Word(WordKind::Shift(_)))
+}
+
+/// What the kind moves into the places that are left.
+fn fill_by(kind: ShiftKind, signed: bool, a: &[SigBit]) -> SigBit
+    ensures value { result ≡ fill_by kind signed a.now }
+{
+    match kind {
+        ShiftKind::Sshr => fill_of(signed, a),
+        ShiftKind::Shiftx => SigBit::Fixed(Bit::X),
+        _ => SigBit::Fixed(Bit::S0),
+    }
+}
+
+/// A word moved as the kind does by a distance, signed or not.
+fn moved_by(
+    alloc: Global,
+    kind: ShiftKind,
+    signed: bool,
+    fill: SigBit,
+    bits: &[SigBit],
+    distance: &[SigBit],
+    builder: &mut Builder,
+) -> Result<SigSpec, PassFault>
+    ensures exact { IfOk result (λ word. (word, builder.new) ≡ moved_by kind signed fill bits.now distance.now builder.old) }
+    ensures over { result ≡ Err PassFault.Over → PassesLimit (moved_by kind signed fill bits.now distance.now builder.old).1 }
+    ensures within { IsInLimits builder.old → OnOk result (IsInLimits builder.new) }
+{
+    match kind {
+        ShiftKind::Shl | ShiftKind::Sshl => {
+            shifted(alloc, Way::Left, fill, bits, distance, builder)
+        }
+        ShiftKind::Shift | ShiftKind::Shiftx if signed => {
+            shifted_either_way(alloc, fill, bits, distance, builder)
+        }
+        _ => shifted(alloc, Way::Right, fill, bits, distance, builder),
+    }
+}
+
+/// The first operand, at the greater of its width and that of Y, moved by the second one.
+fn shift(
+    alloc: Global,
+    kind: ShiftKind,
+    cell: &Cell,
+    shape: &Shape,
+    builder: &mut Builder,
+) -> Result<SigSpec, PassFault>
+    ensures exact { IfOk result (λ bits. (bits, builder.new) ≡ shift_by kind shape.now cell.now builder.old) }
+    ensures over { result ≡ Err PassFault.Over → PassesLimit (shift_by kind shape.now cell.now builder.old).1 }
+    ensures within { IsInLimits builder.old → OnOk result (IsInLimits builder.new) }
+{
+    let a = pin_signal(cell, PinName::A);
+    let width = a.len().max(shape.widths.y as usize);
+    let bits = operand_of(alloc, cell, PinName::A, width, shape.signs.a)?;
+    let fill = fill_by(kind, shape.signs.a, a);
+    let distance = pin_signal(cell, PinName::B);
+    moved_by(
+        alloc,
+        kind,
+        shape.signs.b,
+        fill,
+        bits.as_slice(),
+        distance,
+        builder,
+    )
+}
+
+/// The net of the value of a cell, by its kind.
+pub(crate) fn value(
+    alloc: Global,
+    cell: &Cell,
+    shape: &Shape,
+    builder: &mut Builder,
+) -> Result<SigSpec, PassFault>
+    ensures exact { IfOk result (λ bits. (bits, builder.new) ≡ value_of shape.now.kind shape.now cell.now builder.old) }
+    ensures over { result ≡ Err PassFault.Over → PassesLimit (value_of shape.now.kind shape.now cell.now builder.old).1 }
+    ensures within { IsInLimits builder.old → OnOk result (IsInLimits builder.new) }
+{
+    match shape.kind {
+        CellKind::Word(WordKind::Shift(kind)) => shift(alloc, kind, cell, shape, builder),
+        _ => Ok(SigSpec::make(alloc)),
+    }
+}

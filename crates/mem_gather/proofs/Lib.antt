@@ -1,0 +1,4 @@
+mod Tabling
+mod Starting
+mod Planning
+mod Placing

@@ -1,0 +1,204 @@
+//! The cells of words, write chains and read trees.
+
+ghost use Rattle.std.specs.Prelude.{◌≡◌, true, Err, IfOk, OnOk};
+ghost use Rattle.rtl_ir.specs.Build.{integer_param, pin_of};
+ghost use Rattle.cell_types.specs.ParamName.{param_text};
+ghost use Rattle.cell_types.specs.PinName.{pin_text};
+ghost use Rattle.net_index.specs.Builder.{IsInLimits, PassesLimit, is_number_param, new_param, new_params};
+ghost use Rattle.net_model.specs.Mem.Expand.{address_match, mux_of_signals, run_select};
+ghost use Rattle.mem_map.specs.Parts.{and_cell, binary_params, binary_pins, mux_pins, register_cell, register_params, register_pins};
+
+use crate::words::fixed;
+use cell_types::{
+    BitwiseKind, CellKind, EqualKind, Param, ParamName, PinName, StorageKind, WordKind,
+};
+use net_index::{Builder, PassFault, number_param, whole};
+use rtl_bits::{Bit, Bits, Memory, Text};
+use rtl_ir::Pin;
+use rtl_sig::{SigBit, SigSpec, WireBit};
+use std::alloc::Global;
+
+/// A parameter of this length. One of 2^31 or more is taken for want of memory.
+fn length_param(alloc: Global, name: ParamName, length: usize) -> Result<Param, Memory>
+    requires number { is_number_param name ≡ true }
+    ensures value { IfOk result (λ param. new_param param ≡ integer_param (param_text name) «length») }
+{
+    match u32::try_from(length) {
+        Ok(number) if number < 1 << 31 => number_param(alloc, name, number),
+        _ => Err(Memory),
+    }
+}
+
+/// A pin with this signal.
+fn pin(alloc: Global, name: PinName, bits: &[SigBit]) -> Result<Pin, Memory>
+    ensures value { IfOk result (λ pin. pin ≡ pin_of (pin_text name) bits.now) }
+{
+    Ok(Pin {
+        name: Text::from_slice(alloc, name.text())?,
+        sig: SigSpec::from_slice(alloc, bits)?,
+    })
+}
+
+/// The parameters of two unsigned operands of this width, and an output of one bit.
+fn binary_params(alloc: Global, width: usize) -> Result<Vec<Param>, Memory>
+    ensures value { IfOk result (λ params. new_params params.items ≡ binary_params width) }
+{
+    let mut params = Vec::new(alloc);
+    params.push(number_param(alloc, ParamName::ASigned, 0)?)?;
+    params.push(length_param(alloc, ParamName::AWidth, width)?)?;
+    params.push(number_param(alloc, ParamName::BSigned, 0)?)?;
+    params.push(length_param(alloc, ParamName::BWidth, width)?)?;
+    params.push(number_param(alloc, ParamName::YWidth, 1)?)?;
+    Ok(params)
+}
+
+/// The pins of two operands.
+fn binary_pins(alloc: Global, a: &[SigBit], b: &[SigBit]) -> Result<Vec<Pin>, Memory>
+    ensures value { IfOk result (λ pins. pins.items ≡ binary_pins a.now b.now) }
+{
+    let mut pins = Vec::new(alloc);
+    pins.push(pin(alloc, PinName::A, a)?)?;
+    pins.push(pin(alloc, PinName::B, b)?)?;
+    Ok(pins)
+}
+
+/// The match of a port: whether its address is the number.
+pub(crate) fn address_match(
+    alloc: Global,
+    address: &[SigBit],
+    number: u64,
+    builder: &mut Builder,
+) -> Result<SigBit, PassFault>
+    ensures exact { IfOk result (λ bit. (bit, builder.new) ≡ address_match address.now number builder.old) }
+    ensures over { result ≡ Err PassFault.Over → PassesLimit (address_match address.now number builder.old).1 }
+    ensures within { OnOk result (IsInLimits builder.new) }
+{
+    let width = u32::try_from(address.len()).map_err(|_| Memory)?;
+    let bits = Bits::from_number(alloc, u128::from(number), width)?;
+    let asked = fixed(alloc, bits.as_slice())?;
+    let params = binary_params(alloc, address.len())?;
+    let pins = binary_pins(alloc, address, asked.as_slice())?;
+    let kind = CellKind::Word(WordKind::Equal(EqualKind::Eq));
+    let wire = builder.add_driver(
+        kind,
+        params.as_slice(),
+        pins.as_slice(),
+        PinName::Y.text(),
+        1,
+    )?;
+    Ok(SigBit::Wire(WireBit { wire, at: 0 }))
+}
+
+/// An `$and` of two bits.
+fn and_cell(alloc: Global, a: SigBit, b: SigBit, builder: &mut Builder) -> Result<SigBit, PassFault>
+    ensures exact { IfOk result (λ bit. (bit, builder.new) ≡ and_cell a b builder.old) }
+    ensures over { result ≡ Err PassFault.Over → PassesLimit (and_cell a b builder.old).1 }
+    ensures within { OnOk result (IsInLimits builder.new) }
+{
+    let params = binary_params(alloc, 1)?;
+    let pins = binary_pins(alloc, &[a], &[b])?;
+    let kind = CellKind::Word(WordKind::Bitwise(BitwiseKind::And));
+    let wire = builder.add_driver(
+        kind,
+        params.as_slice(),
+        pins.as_slice(),
+        PinName::Y.text(),
+        1,
+    )?;
+    Ok(SigBit::Wire(WireBit { wire, at: 0 }))
+}
+
+/// The select of a run of this enable: the match where the enable is the constant 1, else both.
+pub(crate) fn run_select(
+    alloc: Global,
+    matched: SigBit,
+    enable: SigBit,
+    builder: &mut Builder,
+) -> Result<SigBit, PassFault>
+    ensures exact { IfOk result (λ bit. (bit, builder.new) ≡ run_select matched enable builder.old) }
+    ensures over { result ≡ Err PassFault.Over → PassesLimit (run_select matched enable builder.old).1 }
+    ensures within { IsInLimits builder.old → OnOk result (IsInLimits builder.new) }
+{
+    match enable {
+        SigBit::Fixed(Bit::S1) => Ok(matched),
+        _ => and_cell(alloc, matched, enable, builder),
+    }
+}
+
+/// The pins of a `$mux`: A, B and S.
+fn mux_pins(alloc: Global, a: &[SigBit], b: &[SigBit], s: SigBit) -> Result<Vec<Pin>, Memory>
+    ensures value { IfOk result (λ pins. pins.items ≡ mux_pins a.now b.now s) }
+{
+    let mut pins = Vec::new(alloc);
+    pins.push(pin(alloc, PinName::A, a)?)?;
+    pins.push(pin(alloc, PinName::B, b)?)?;
+    pins.push(pin(alloc, PinName::S, &[s])?)?;
+    Ok(pins)
+}
+
+/// The output of a `$mux` that gives A, and B where the bit is 1.
+pub(crate) fn mux_of_signals(
+    alloc: Global,
+    a: &[SigBit],
+    b: &[SigBit],
+    s: SigBit,
+    builder: &mut Builder,
+) -> Result<SigSpec, PassFault>
+    ensures exact { IfOk result (λ output. (output, builder.new) ≡ mux_of_signals a.now b.now s builder.old) }
+    ensures over { result ≡ Err PassFault.Over → PassesLimit (mux_of_signals a.now b.now s builder.old).1 }
+    ensures within { OnOk result (IsInLimits builder.new) }
+{
+    let width = u32::try_from(a.len()).map_err(|_| Memory)?;
+    let params = [length_param(alloc, ParamName::Width, a.len())?];
+    let pins = mux_pins(alloc, a, b, s)?;
+    let kind = CellKind::Word(WordKind::Mux);
+    let wire = builder.add_driver(kind, &params, pins.as_slice(), PinName::Y.text(), width)?;
+    Ok(whole(alloc, wire, width)?)
+}
+
+/// The parameters of a register.
+fn register_params(alloc: Global, width: usize, rising: bool) -> Result<Vec<Param>, Memory>
+    ensures value { IfOk result (λ params. new_params params.items ≡ register_params width rising) }
+{
+    let polarity = if rising { 1 } else { 0 };
+    let mut params = Vec::new(alloc);
+    params.push(length_param(alloc, ParamName::Width, width)?)?;
+    params.push(number_param(alloc, ParamName::ClkPolarity, polarity)?)?;
+    Ok(params)
+}
+
+/// The pins of a register: CLK, D and Q.
+fn register_pins(
+    alloc: Global,
+    clock: SigBit,
+    d: &[SigBit],
+    q: &[SigBit],
+) -> Result<Vec<Pin>, Memory>
+    ensures value { IfOk result (λ pins. pins.items ≡ register_pins clock d.now q.now) }
+{
+    let mut pins = Vec::new(alloc);
+    pins.push(pin(alloc, PinName::Clk, &[clock])?)?;
+    pins.push(pin(alloc, PinName::D, d)?)?;
+    pins.push(pin(alloc, PinName::Q, q)?)?;
+    Ok(pins)
+}
+
+/// A `$dff` of a clock bit.
+pub(crate) fn register_cell(
+    alloc: Global,
+    clock: SigBit,
+    rising: bool,
+    d: &[SigBit],
+    q: &[SigBit],
+    builder: &mut Builder,
+) -> Result<(), PassFault>
+    ensures exact { OnOk result (builder.new ≡ register_cell clock rising d.now q.now builder.old) }
+    ensures over { result ≡ Err PassFault.Over → PassesLimit (register_cell clock rising d.now q.now builder.old) }
+    ensures within { OnOk result (IsInLimits builder.new) }
+{
+    let params = register_params(alloc, q.len(), rising)?;
+    let pins = register_pins(alloc, clock, d, q)?;
+    let kind = CellKind::Storage(StorageKind::Dff);
+    builder.add_cell(kind, params.as_slice(), pins.as_slice())?;
+    Ok(())
+}

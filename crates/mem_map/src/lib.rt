@@ -1,0 +1,85 @@
+//! A memory becomes words, write chains and read trees.
+#![tactic(auto)]
+
+mod cells;
+mod chain;
+mod reach;
+mod reads;
+mod runs;
+mod without;
+mod words;
+
+ghost use Rattle.std.specs.Prelude.{◌≡◌, ◌<◌, Err, IfOk, OnOk, length, nat_abs};
+ghost use Rattle.net_index.specs.Builder.{IsInLimits, PassesLimit};
+ghost use Rattle.net_model.specs.Mem.Expand.{expanded_memory, memory_step, words_made};
+ghost use Rattle.mem_map.specs.Limits.{ExpandPassesLimit, expanded, planned_store};
+ghost use Rattle.mem_map.specs.Words.{words_of};
+
+use crate::chain::words_step;
+use crate::reads::reads_step;
+use crate::without::without_memory;
+use crate::words::{Words, fixed_words, word_wires};
+use match_cells::check_limits;
+use net_index::{Builder, PassFault};
+use rtl_bits::Copied;
+use rtl_ir::{MemPlan, Module, Store};
+use std::alloc::Global;
+
+/// The module in which this memory is expanded by its plan, which is gathered from the module: each word becomes
+/// a register with a chain of multiplexers, one for each write port that reaches it, and each read port a tree
+/// of multiplexers; without write ports the words are constants. The memory and its cells go. `Over` comes where
+/// the module with all that is added, its memory beside it, would pass a limit on cells, on bits of wires or
+/// on fresh names. In the Yosys manual, the command `memory_map`.
+pub fn expand(alloc: Global, module: &Module, plan: &MemPlan) -> Result<Module, PassFault>
+    requires in_range { plan.now.store < length «module».now.memories }
+    ensures exact { IfOk result (λ after. after ≡ expanded_memory «module».now plan.now (planned_store «module».now plan.now)) }
+    ensures over { result ≡ Err PassFault.Over → ExpandPassesLimit «module».now plan.now }
+    ensures within { OnOk result (IsInLimits (expanded «module».now plan.now)) }
+{
+    check_limits(module)?;
+    let at = plan.store as usize;
+    let store = &module.memories.as_slice()[at];
+    let builder = Builder::of(alloc, module.copy()?)?;
+    let builder = memory_step(alloc, plan, store, builder)?;
+    Ok(without_memory(alloc, at, store.name.as_slice(), builder.finish())?)
+}
+
+/// Words, write chains and read trees are added. After an error the builder is given up.
+fn memory_step(
+    alloc: Global,
+    plan: &MemPlan,
+    store: &Store,
+    builder: Builder,
+) -> Result<Builder, PassFault>
+    ensures exact { IfOk result (λ after. after ≡ memory_step plan.now store.now builder) }
+    ensures over { result ≡ Err PassFault.Over → PassesLimit (memory_step plan.now store.now builder) }
+    ensures within { IsInLimits builder → IfOk result IsInLimits }
+{
+    let mut builder = builder;
+    let words = words_made(alloc, plan, store, &mut builder)?;
+    if !plan.writes.as_slice().is_empty() {
+        words_step(alloc, plan, &words, &mut builder)?;
+    }
+    reads_step(alloc, &words, plan.reads.as_slice(), &mut builder)?;
+    Ok(builder)
+}
+
+/// The words: constants without write ports, else fresh wires.
+fn words_made(
+    alloc: Global,
+    plan: &MemPlan,
+    store: &Store,
+    builder: &mut Builder,
+) -> Result<Words, PassFault>
+    ensures exact { IfOk result (λ words. (words_of words, builder.new) ≡ words_made plan.now (nat_abs store.now.offset) builder.old) }
+    ensures over { result ≡ Err PassFault.Over → PassesLimit (words_made plan.now (nat_abs store.now.offset) builder.old).1 }
+    ensures within { IsInLimits builder.old → OnOk result (IsInLimits builder.new) }
+{
+    let first = store.offset.unsigned_abs();
+    let starts = plan.words.as_slice();
+    if plan.writes.as_slice().is_empty() {
+        Ok(fixed_words(alloc, first, starts)?)
+    } else {
+        word_wires(alloc, first, starts, builder)
+    }
+}

@@ -1,0 +1,103 @@
+//! The module without a memory and its cells.
+
+ghost use Rattle.std.specs.Prelude.{◌≡◌, ◌+◌, ◌++◌, IfOk, not, ◌&&◌, filter, take, drop, option_map};
+ghost use Rattle.rtl_ir.specs.Flat.Cell.{cell_kind};
+ghost use Rattle.rtl_ir.specs.Parameters.{chars_in, memory_name};
+ghost use Rattle.rtl_ir.specs.WritePorts.{is_of_memory};
+ghost use Rattle.rtl_ir.specs.declared.cell.Cell.{Cell};
+ghost use Rattle.rtl_ir.specs.declared.store.Store.{Store};
+ghost use Rattle.net_model.specs.Mem.Expand.{is_memory_kind, without_memory};
+
+use cell_types::{CellKind, ParamName, kind_of};
+use rtl_bits::{Memory, Seq};
+use rtl_ir::{Cell, CellParam, Module, Store, Value};
+use std::alloc::Global;
+
+/// The characters of a string, where the constant is one.
+fn chars_in(value: &Value) -> Option<&[u8]>
+    ensures value { option_map (λ text. text.now) result ≡ chars_in value.now }
+{
+    match value {
+        Value::Chars(text) => Some(text.as_slice()),
+        _ => None,
+    }
+}
+
+/// The name of the memory that a cell belongs to, where it is written as a string.
+fn memory_name(params: &[CellParam]) -> Option<&[u8]>
+    ensures value { option_map (λ name. name.now) result ≡ memory_name params.now }
+{
+    for param in params {
+        if param.name.as_slice() == ParamName::Memid.text() {
+            return chars_in(&param.value);
+        }
+    }
+    None
+}
+
+/// Whether the cell belongs to the memory of this name.
+fn is_of_memory(name: &[u8], cell: &Cell) -> bool
+    ensures value { result ≡ is_of_memory name.now cell.now }
+{
+    match memory_name(cell.params.as_slice()) {
+        Some(memory) => name == memory,
+        None => false,
+    }
+}
+
+/// Whether a cell of this type is one of a memory.
+fn is_memory_kind(kind: Option<CellKind>) -> bool
+    ensures value { result ≡ is_memory_kind kind }
+{
+    matches!(kind, Some(CellKind::Memory(_)))
+}
+
+/// Whether the cell is none of this memory.
+#[tactic(auto, unfolding(rtl_ir::specs::Flat::Cell::cell_kind))]
+fn stays(name: &[u8], cell: &Cell) -> bool
+    ensures value { result ≡ not (is_memory_kind (cell_kind cell.now) && is_of_memory name.now cell.now) }
+{
+    !(is_memory_kind(kind_of(cell.kind_name.as_slice())) && is_of_memory(name, cell))
+}
+
+/// The cells that are none of this memory.
+fn other_cells(alloc: Global, name: &[u8], cells: Seq<Cell>) -> Result<Seq<Cell>, Memory>
+    ensures value { IfOk result (λ others. others ≡ filter (λ (c : Cell). not (is_memory_kind (cell_kind c) && is_of_memory name.now c)) cells) }
+{
+    let mut others = Vec::new(alloc);
+    for cell in cells.into_vec() {
+        if stays(name, &cell) {
+            others.push(cell)?;
+        }
+    }
+    Ok(Seq::from_vec(others))
+}
+
+/// The memories but the one at this place.
+fn other_memories(at: usize, memories: Seq<Store>) -> Seq<Store>
+    ensures value { result ≡ take at memories ++ drop (at + 1) memories }
+{
+    let mut others = memories.into_vec();
+    if at < others.len() {
+        others.remove(at);
+    }
+    Seq::from_vec(others)
+}
+
+/// The module without the memory at this place, which has this name, and its cells.
+pub(crate) fn without_memory(
+    alloc: Global,
+    at: usize,
+    name: &[u8],
+    module: Module,
+) -> Result<Module, Memory>
+    ensures value { (s : Store) → s.name ≡ name.now → IfOk result (λ after. after ≡ without_memory at s «module») }
+{
+    let memories = other_memories(at, module.memories);
+    let cells = other_cells(alloc, name, module.cells)?;
+    Ok(Module {
+        memories,
+        cells,
+        ..module
+    })
+}

@@ -1,0 +1,11 @@
+pub mod Parts
+pub mod Runs
+pub mod StoreFits
+pub mod StoreParts
+pub mod RuleSplit
+pub mod StoreRows
+pub mod RuleParts
+pub mod RuleRows
+pub mod GoodRules
+pub mod Refined
+pub mod Formed
