@@ -1,15 +1,17 @@
 -- Numbers that stand for something go on to stand for it.
 use Rattle.std.proofs.Common.{◌≡◌, ℕ, zero, suc, ◌+◌, ◌<◌, List, [], ◌∷◌, ◌++◌, length, get_or, take, Some, slice_get, refl, ◌∙◌, ap, subst, arith, map, if◌then◌else◌}
-use Rattle.std.specs.Prelude.{nat_eq}
+use Rattle.std.specs.Prelude.{Bool, Option, None, nat_eq}
+use Rattle.std.specs.Option.{option_map_or}
 use Rattle.rtl_bits.specs.declared.bit.Bit.TheVariants.{X}
 use Rattle.std.specs.List.{AllByRecursion}
 use Rattle.std.proofs.lemmas.Grind.{flat_map-append}
 use Rattle.std.proofs.lemmas.List.{map-append, take_more, append-nil}
 use Rattle.std.proofs.lemmas.Option.{slice_get_within, get_or_from_slice_get}
 use Rattle.rtl_sig.specs.declared.sig.SigBit.{SigBit}
+use Rattle.rtl_sig.specs.declared.sig.WireBit.{WireBit}
 use Rattle.rtl_ir.specs.declared.wire.Wire.{Wire}
-use Rattle.rtl_ir.specs.Flat.Driver.{Driven, Given, Joined, Worked, Stored, Decided}
-use Rattle.rtl_ir.specs.Flat.Pick.{Pick, Is, Where}
+use Rattle.rtl_ir.specs.Flat.Driver.{Driven, Given, Joined, Worked, Stored, Decided, Held as HeldBy, Raced as RacedBy}
+use Rattle.rtl_ir.specs.Flat.Pick.{Pick, Is, where_of}
 use Rattle.rtl_ir.specs.Flat.Place.{Path, Place, wire_place}
 use Rattle.rtl_ir.specs.Flat.Point.{point, points, point_at, wire_points}
 use Rattle.rtl_ir.specs.Flat.Point as rtl
@@ -23,14 +25,18 @@ use Rattle.flat_net.specs.declared.net.StorePins.{StorePins}
 use Rattle.cell_types.specs.declared.shape.Shape.{Shape}
 use Rattle.flat_net.specs.Cells.{listed_point}
 use Rattle.flat_net.specs.declared.choices.Assign.{Assign}
+use Rattle.flat_net.specs.declared.choices.Tree.{Tree}
+use Rattle.flat_net.specs.declared.leaves.HeldBit.{HeldBit}
+use Rattle.flat_net.specs.declared.leaves.Raced.{Raced}
+use Rattle.flat_net.specs.declared.leaves.Source.{Source}
 use Rattle.flat_net.specs.Choices.{Choices, NoChoice, OneChoice, Branches, NoBranch, OneBranch, BranchView}
-use Rattle.flat_net.specs.Picks.{assigned_pick, branch_pick, branches_pick, choices_pick, tree_row}
-use Rattle.flat_net.specs.Trees.{AreSignals}
+use Rattle.flat_net.specs.Picks.{assigned_pick, branch_pick, branches_pick, choices_pick, expanded_pick, leaf_pick, root_pick, source_of, tree_pick, tree_row}
+use Rattle.flat_net.specs.Trees.{AreSignals, IsSource}
 use Rattle.flat_net.specs.Known.{Known, Keeps, Extends}
-use Rattle.flat_net.specs.Parts.{part_rows, parts_rows, output_row, store_row, inputs_of}
+use Rattle.flat_net.specs.Parts.{held_row, part_rows, parts_rows, output_row, raced_row, store_row, inputs_of}
 use Rattle.flat_net.specs.Points.{place_at, point_of, points_of, pins_of}
 use Rattle.flat_net.specs.Reads.{IsPoint, ArePoints, AreParts}
-use Rattle.flat_net.specs.Within.{IsPointWithin, ArePointsWithin, ArePinsWithin, IsStoreWithin, IsAssignWithin, AreChoicesWithin, AreBranchesWithin, IsBranchWithin, IsOutputWithin, IsPartWithin, ArePartsWithin}
+use Rattle.flat_net.specs.Within.{IsPointWithin, ArePointsWithin, ArePinsWithin, IsStoreWithin, IsAssignWithin, IsSourceWithin, AreChoicesWithin, AreBranchesWithin, IsBranchWithin, IsOutputWithin, IsTreeWithin, IsHeldBitWithin, IsRacedWithin, IsPartWithin, ArePartsWithin}
 use Rattle.flat_net.proofs.Kept.{Keeps-refl, get_or-Keeps, within-Keeps}
 
 pub Extends-refl : (k : Known) → Extends k k
@@ -111,7 +117,7 @@ module _ (ps qs : List Place) (keeps : Keeps ps qs) where
   outputs-within [] h = tt
   outputs-within (o ∷ os) h = (number-kept o.number h.0, outputs-within os h.1)
 
-  bits-kept : (shape : Shape) (bs : List StoreBit) → AllByRecursion (IsStoreWithin (length ps)) bs → map (store_row qs shape) bs ≡ map (store_row ps shape) bs
+  pub bits-kept : (shape : Shape) (bs : List StoreBit) → AllByRecursion (IsStoreWithin (length ps)) bs → map (store_row qs shape) bs ≡ map (store_row ps shape) bs
   bits-kept shape [] h = refl
   bits-kept shape (b ∷ bs) h =
       let place = place-kept b.number h.0.0 in
@@ -119,7 +125,7 @@ module _ (ps qs : List Place) (keeps : Keeps ps qs) where
       let rest = bits-kept shape bs h.1 in
       (λ i. record { place = place i; driver = Stored b.start shape b.at (pins i) (place i) } ∷ rest i)
 
-  bits-within : (bs : List StoreBit) → AllByRecursion (IsStoreWithin (length ps)) bs → AllByRecursion (IsStoreWithin (length qs)) bs
+  pub bits-within : (bs : List StoreBit) → AllByRecursion (IsStoreWithin (length ps)) bs → AllByRecursion (IsStoreWithin (length qs)) bs
   bits-within [] h = tt
   bits-within (b ∷ bs) h = ((number-kept b.number h.0.0, pins-within b.pins h.0.1), bits-within bs h.1)
 
@@ -136,59 +142,114 @@ module _ (ps qs : List Place) (keeps : Keeps ps qs) where
 
   -- trees of decisions
 
-  pub assigns-kept : (at : ℕ) (as' : List Assign) (e : Pick) → AllByRecursion (IsAssignWithin (length ps)) as' → assigned_pick qs at as' e ≡ assigned_pick ps at as' e
-  assigns-kept at [] e h = refl
-  assigns-kept at (a ∷ as') e h =
-      let from = point-kept a.from h.0 in
-      (λ i. assigned_pick qs at as' (if nat_eq a.at at then Is (from i) else e)) ∙ assigns-kept at as' (if nat_eq a.at at then Is (point_of ps a.from) else e) h.1
+  source-within : (width : ℕ) (s : Source) → IsSourceWithin (length ps) width s → IsSourceWithin (length qs) width s
+  source-within width s h = (point-within s.from h.0, h.1)
 
-  pub assigns-within : (as' : List Assign) → AllByRecursion (IsAssignWithin (length ps)) as' → AllByRecursion (IsAssignWithin (length qs)) as'
-  assigns-within [] h = tt
-  assigns-within (a ∷ as') h = (point-within a.from h.0, assigns-within as' h.1)
+  pub IsSource-kept : (p : Path) (wires : List Wire) (bits : List WireBit) (source : Source) (s : SigBit) → IsSource ps p wires bits source s → IsSource qs p wires bits source s
+  IsSource-kept p wires bits source s h = record { from = IsPoint-kept source.from (point p wires s) h.from; tree = h.tree }
+
+  -- what sources come to is the same
+  abbrev pub AreSame : ℕ → (Source → Pick) → (Source → Pick) → Type 0
+  AreSame width old new = (s : Source) → IsSourceWithin (length ps) width s → new s ≡ old s
+
+  pub leaf-kept : (width : ℕ) → AreSame width (leaf_pick ps) (leaf_pick qs)
+  leaf-kept width s h = ap Is (point-kept s.from h.0)
+
+  module _ (width : ℕ) (old new : Source → Pick) (same : AreSame width old new) (at : ℕ) where
+    pub assigns-kept : (as' : List Assign) (e : Pick) → AllByRecursion (IsAssignWithin (length ps) width) as' → assigned_pick new at as' e ≡ assigned_pick old at as' e
+    assigns-kept [] e h = refl
+    assigns-kept (a ∷ as') e h =
+        (λ i. assigned_pick new at as' (if nat_eq a.at at then same (source_of a) h.0 i else e))
+        ∙ assigns-kept as' (if nat_eq a.at at then old (source_of a) else e) h.1
+
+    mutual
+      pub choices-kept : (cs : Choices) (e : Pick) → AreChoicesWithin (length ps) width cs → choices_pick qs new at cs e ≡ choices_pick ps old at cs e
+      choices-kept NoChoice e h = refl
+      choices-kept (OneChoice signal test bs rest) e h =
+          (λ i. choices_pick qs new at rest (branches_pick qs new at test (points-kept signal h.0 i) bs e e))
+          ∙ ap (choices_pick qs new at rest) (branches-kept test (points_of ps signal) bs e e h.1)
+          ∙ choices-kept rest (branches_pick ps old at test (points_of ps signal) bs e e) h.2
+
+      pub branches-kept : (test : Option Bool) (signal : List rtl.Point) (bs : Branches) (e last : Pick) → AreBranchesWithin (length ps) width bs
+          → branches_pick qs new at test signal bs e last ≡ branches_pick ps old at test signal bs e last
+      branches-kept test signal NoBranch e last h = refl
+      branches-kept test signal (OneBranch [] as' cs rest) e last h =
+          ap (choices_pick qs new at cs) (assigns-kept as' e h.1) ∙ choices-kept cs (assigned_pick old at as' e) h.2
+      branches-kept test signal (OneBranch (w ∷ ws) as' cs rest) e last h =
+          let words = words-kept (w ∷ ws) h.0 in
+          let met : choices_pick qs new at cs (assigned_pick new at as' e) ≡ choices_pick ps old at cs (assigned_pick old at as' e) =
+          ap (choices_pick qs new at cs) (assigns-kept as' e h.1) ∙ choices-kept cs (assigned_pick old at as' e) h.2 in
+          let other = branches-kept test signal rest e last h.3 in
+          (λ i. where_of test signal (words i) (met i) (other i))
+
+    pub branch-kept : (b : BranchView) (e : Pick) → IsBranchWithin (length ps) width b → branch_pick qs new at b e ≡ branch_pick ps old at b e
+    branch-kept b e h = ap (choices_pick qs new at b.choices) (assigns-kept b.assigns e h.assigns) ∙ choices-kept b.choices (assigned_pick old at b.assigns e) h.choices
+
+  pub assigns-within : (width : ℕ) (as' : List Assign) → AllByRecursion (IsAssignWithin (length ps) width) as' → AllByRecursion (IsAssignWithin (length qs) width) as'
+  assigns-within width [] h = tt
+  assigns-within width (a ∷ as') h = ((point-within a.from h.0.0, h.0.1), assigns-within width as' h.1)
 
   mutual
-    pub choices-kept : (at : ℕ) (cs : Choices) (e : Pick) → AreChoicesWithin (length ps) cs → choices_pick qs at cs e ≡ choices_pick ps at cs e
-    choices-kept at NoChoice e h = refl
-    choices-kept at (OneChoice signal bs rest) e h =
-        (λ i. choices_pick qs at rest (branches_pick qs at (points-kept signal h.0 i) bs e e))
-        ∙ ap (choices_pick qs at rest) (branches-kept at (points_of ps signal) bs e e h.1)
-        ∙ choices-kept at rest (branches_pick ps at (points_of ps signal) bs e e) h.2
+    pub choices-within : (width : ℕ) (cs : Choices) → AreChoicesWithin (length ps) width cs → AreChoicesWithin (length qs) width cs
+    choices-within width NoChoice h = tt
+    choices-within width (OneChoice signal test bs rest) h = (points-within signal h.0, branches-within width bs h.1, choices-within width rest h.2)
 
-    pub branches-kept : (at : ℕ) (signal : List rtl.Point) (bs : Branches) (e last : Pick) → AreBranchesWithin (length ps) bs → branches_pick qs at signal bs e last ≡ branches_pick ps at signal bs e last
-    branches-kept at signal NoBranch e last h = refl
-    branches-kept at signal (OneBranch [] as' cs rest) e last h =
-        ap (choices_pick qs at cs) (assigns-kept at as' e h.1) ∙ choices-kept at cs (assigned_pick ps at as' e) h.2
-    branches-kept at signal (OneBranch (w ∷ ws) as' cs rest) e last h =
-        let words = words-kept (w ∷ ws) h.0 in
-        let met : choices_pick qs at cs (assigned_pick qs at as' e) ≡ choices_pick ps at cs (assigned_pick ps at as' e) =
-        ap (choices_pick qs at cs) (assigns-kept at as' e h.1) ∙ choices-kept at cs (assigned_pick ps at as' e) h.2 in
-        let other = branches-kept at signal rest e last h.3 in
-        (λ i. Where signal (words i) (met i) (other i))
+    pub branches-within : (width : ℕ) (bs : Branches) → AreBranchesWithin (length ps) width bs → AreBranchesWithin (length qs) width bs
+    branches-within width NoBranch h = tt
+    branches-within width (OneBranch ws as' cs rest) h =
+        (words-within ws h.0, assigns-within width as' h.1, choices-within width cs h.2, branches-within width rest h.3)
 
-  mutual
-    pub choices-within : (cs : Choices) → AreChoicesWithin (length ps) cs → AreChoicesWithin (length qs) cs
-    choices-within NoChoice h = tt
-    choices-within (OneChoice signal bs rest) h = (points-within signal h.0, branches-within bs h.1, choices-within rest h.2)
+  pub branch-within : (width : ℕ) (b : BranchView) → IsBranchWithin (length ps) width b → IsBranchWithin (length qs) width b
+  branch-within width b h = record { assigns = assigns-within width b.assigns h.assigns; choices = choices-within width b.choices h.choices }
 
-    pub branches-within : (bs : Branches) → AreBranchesWithin (length ps) bs → AreBranchesWithin (length qs) bs
-    branches-within NoBranch h = tt
-    branches-within (OneBranch ws as' cs rest) h =
-        (words-within ws h.0, assigns-within as' h.1, choices-within cs h.2, branches-within rest h.3)
+  root-kept : (width : ℕ) (root : BranchView) (at : ℕ) → IsBranchWithin (length ps) width root → tree_pick qs root at ≡ tree_pick ps root at
+  root-kept width root at h = branch-kept width (leaf_pick ps) (leaf_pick qs) (leaf-kept width) at root (Is (rtl.Constant X)) h
 
-  pub branch-kept : (at : ℕ) (b : BranchView) (e : Pick) → IsBranchWithin (length ps) b → branch_pick qs at b e ≡ branch_pick ps at b e
-  branch-kept at b e h = ap (choices_pick qs at b.choices) (assigns-kept at b.assigns e h.assigns) ∙ choices-kept at b.choices (assigned_pick ps at b.assigns e) h.choices
+  expanded-kept : (width : ℕ) (root : BranchView) → IsBranchWithin (length ps) width root → (n : ℕ) → AreSame width (expanded_pick ps root n) (expanded_pick qs root n)
+  expanded-kept width root h zero s w = leaf-kept width s w
+  expanded-kept width root h (suc n) s w = by (expanded-kept width root h n) s.tree
+    where
+      by : AreSame width (expanded_pick ps root n) (expanded_pick qs root n) → (o : Option ℕ) → option_map_or (root_pick qs (expanded_pick qs root n) root) o (leaf_pick qs s) ≡ option_map_or (root_pick ps (expanded_pick ps root n) root) o (leaf_pick ps s)
+      by same None = leaf-kept width s w
+      by same (Some at) = branch-kept width (expanded_pick ps root n) (expanded_pick qs root n) same at root (Is (rtl.Constant X)) h
 
-  trees-kept : (root : BranchView) (width : ℕ) (os : List Output) → IsBranchWithin (length ps) root → AllByRecursion (IsOutputWithin (length ps) width) os → map (tree_row qs root) os ≡ map (tree_row ps root) os
+  trees-kept : (root : BranchView) (width : ℕ) (os : List Output) → IsBranchWithin (length ps) width root → AllByRecursion (IsOutputWithin (length ps) width) os → map (tree_row qs root) os ≡ map (tree_row ps root) os
   trees-kept root width [] h w = refl
   trees-kept root width (o ∷ os) h w =
       let place = place-kept o.number w.0.0 in
-      let tree = branch-kept o.at root (Is (rtl.Constant X)) h in
+      let tree = root-kept width root o.at h in
       let rest = trees-kept root width os h w.1 in
       (λ i. record { place = place i; driver = Decided (tree i) } ∷ rest i)
 
-  trees-within : (width : ℕ) (os : List Output) → AllByRecursion (IsOutputWithin (length ps) width) os → AllByRecursion (IsOutputWithin (length qs) width) os
-  trees-within width [] h = tt
-  trees-within width (o ∷ os) h = ((number-kept o.number h.0.0, h.0.1), trees-within width os h.1)
+  outputs-within-tree : (width : ℕ) (os : List Output) → AllByRecursion (IsOutputWithin (length ps) width) os → AllByRecursion (IsOutputWithin (length qs) width) os
+  outputs-within-tree width [] h = tt
+  outputs-within-tree width (o ∷ os) h = ((number-kept o.number h.0.0, h.0.1), outputs-within-tree width os h.1)
+
+  tree-within : (t : Tree) → IsTreeWithin (length ps) t → IsTreeWithin (length qs) t
+  tree-within t h = record { root = branch-within t.width t.root h.root; outputs = outputs-within-tree t.width t.outputs h.outputs }
+
+  helds-kept : (t : Tree) (bs : List HeldBit) → IsTreeWithin (length ps) t → AllByRecursion (IsHeldBitWithin (length ps) t.width) bs → map (held_row qs t) bs ≡ map (held_row ps t) bs
+  helds-kept t [] h w = refl
+  helds-kept t (b ∷ bs) h w =
+      let place = place-kept b.number w.0.0 in
+      let from = point-kept b.source.from w.0.1.0 in
+      let tree = expanded-kept t.width t.root h.root t.width b.source w.0.1 in
+      let rest = helds-kept t bs h w.1 in
+      (λ i. record { place = place i; driver = HeldBy b.start (from i) (tree i) (place i) } ∷ rest i)
+
+  raced-kept : (r : Raced) (bs : List HeldBit) → IsRacedWithin (length ps) r → AllByRecursion (IsHeldBitWithin (length ps) r.tree.width) bs → map (raced_row qs r) bs ≡ map (raced_row ps r) bs
+  raced-kept r [] h w = refl
+  raced-kept r (b ∷ bs) h w =
+      let place = place-kept b.number w.0.0 in
+      let clock = point-kept r.clock h.clock in
+      let reset = point-kept r.reset h.reset in
+      let tree = expanded-kept r.tree.width r.tree.root h.tree.root r.tree.width b.source w.0.1 in
+      let rest = raced-kept r bs h w.1 in
+      (λ i. record { place = place i; driver = RacedBy b.start (clock i) r.clock_level (reset i) r.reset_level (tree i) (place i) } ∷ rest i)
+
+  helds-within : (width : ℕ) (bs : List HeldBit) → AllByRecursion (IsHeldBitWithin (length ps) width) bs → AllByRecursion (IsHeldBitWithin (length qs) width) bs
+  helds-within width [] h = tt
+  helds-within width (b ∷ bs) h = ((number-kept b.number h.0.0, source-within width b.source h.0.1), helds-within width bs h.1)
 
   part-kept : (x : Part) → IsPartWithin (length ps) x → part_rows qs x ≡ part_rows ps x
   part-kept (part.Given o) h = let place = place-kept o.number h in (λ i. record { place = place i; driver = Given o.at } ∷ [])
@@ -204,6 +265,8 @@ module _ (ps qs : List Place) (keeps : Keeps ps qs) where
       outputs-kept c.value.shape (inputs_of qs c.value) (inputs_of ps c.value) inputs c.value.outputs h.outputs
   part-kept (part.Storage c) h = bits-kept c.value.shape c.value.bits h
   part-kept (part.Tree t) h = trees-kept t.value.root t.value.width t.value.outputs h.root h.outputs
+  part-kept (part.Held h) w = helds-kept h.value.tree h.value.bits w.tree w.bits
+  part-kept (part.Raced r) w = raced-kept r.value r.value.bits w w.bits
 
   part-within : (x : Part) → IsPartWithin (length ps) x → IsPartWithin (length qs) x
   part-within (part.Given o) h = number-kept o.number h
@@ -215,9 +278,13 @@ module _ (ps qs : List Place) (keeps : Keeps ps qs) where
     outputs = outputs-within c.value.outputs h.outputs;
   }
   part-within (part.Storage c) h = bits-within c.value.bits h
-  part-within (part.Tree t) h = record {
-    root = record { assigns = assigns-within t.value.root.assigns h.root.assigns; choices = choices-within t.value.root.choices h.root.choices };
-    outputs = trees-within t.value.width t.value.outputs h.outputs;
+  part-within (part.Tree t) h = tree-within t.value h
+  part-within (part.Held h) w = record { tree = tree-within h.value.tree w.tree; bits = helds-within h.value.tree.width h.value.bits w.bits }
+  part-within (part.Raced r) w = record {
+    tree = tree-within r.value.tree w.tree;
+    clock = point-within r.value.clock w.clock;
+    reset = point-within r.value.reset w.reset;
+    bits = helds-within r.value.tree.width r.value.bits w.bits;
   }
 
   parts-kept : (xs : List Part) → ArePartsWithin (length ps) xs → parts_rows qs xs ≡ parts_rows ps xs

@@ -1,18 +1,21 @@
 -- The tree bits of a process, found one after another from the last one on.
-use Rattle.std.proofs.Common.{◌≡◌, ℕ, zero, suc, ◌-◌, ◌<◌, ◌≤◌, Bool, true, false, if◌then◌else◌, ◌&&◌, ◌||◌, true≢false, List, [], ◌∷◌, ◌++◌, length, get_or, drop, position, Option, Some, None, slice_get, refl, sym, ◌∙◌, ap, subst, arith}
-use Rattle.std.specs.Prelude.{nat_eq, reverse}
-use Rattle.std.specs.List.{IsDistinct, list_any}
+use Rattle.std.proofs.Common.{◌≡◌, ℕ, zero, suc, ◌+◌, ◌-◌, ◌<◌, ◌≤◌, Bool, true, false, if◌then◌else◌, ◌&&◌, ◌||◌, true≢false, List, [], ◌∷◌, ◌++◌, length, get_or, drop, position, Option, Some, None, slice_get, refl, sym, ◌∙◌, ap, subst, arith}
+use Rattle.std.specs.Prelude.{nat_eq, nat_lt, not, cond, reverse}
+use Rattle.std.specs.List.{IsDistinct, list_any, position_or_len}
 use Rattle.std.proofs.Math.Seq.{drop-cons}
 use Rattle.std.proofs.lemmas.List.{reverse-append}
 use Rattle.std.specs.Option.{is_some}
-use Rattle.std.proofs.lemmas.Bool.{eqb-true, eq-eqb}
+use Rattle.std.proofs.lemmas.Bool.{eqb-true, eq-eqb, le-ltb, lt-ltb, ltb-false, ltb-true}
 use Rattle.std.proofs.lemmas.List.Quantifiers.{position-Some}
 use Rattle.std.proofs.lemmas.Option.{slice_get-get_or}
 use Rattle.indexmap.specs.IndexSet.{insert_key}
 use Rattle.rtl_sig.specs.declared.sig.WireBit.{WireBit}
 use Rattle.rtl_ir.specs.Assigns.{each_once}
 use Rattle.rtl_ir.specs.Signals.{has_bit, same_bit}
-use Rattle.flat_net.specs.Trees.{IsFound}
+use Rattle.rtl_sig.specs.declared.sig.SigBit.{SigBit}
+use Rattle.rtl_sig.specs.declared.sig.SigBit.TheVariants.{Fixed, Wire as OnWire}
+use Rattle.flat_net.specs.Trees.{IsFound, place_in}
+use Rattle.flat_net.specs.Within.{IsPlaceWithin}
 use Rattle.flat_net.proofs.Apart.{one_number}
 
 pub drop_here : {A : Type 0} (items : List A) (i : ℕ) (d : A) → 0 < i → i ≤ length items → drop (i - 1) items ≡ get_or items (i - 1) d ∷ drop i items
@@ -34,7 +37,7 @@ or_swap true false = refl
 or_swap false true = refl
 or_swap false false = refl
 
-any-reverse : (test : WireBit → Bool) (xs : List WireBit) → list_any test (reverse xs) ≡ list_any test xs
+pub any-reverse : (test : WireBit → Bool) (xs : List WireBit) → list_any test (reverse xs) ≡ list_any test xs
 any-reverse test [] = refl
 any-reverse test (x ∷ xs) =
     ap (list_any test) (reverse-append (x ∷ []) xs)
@@ -126,3 +129,42 @@ found_at bit keys (Some i) e some d at b h =
         let same : b ≡ bit = sym (bits_same bit b g) in
         absurd (true≢false (sym (eq-eqb i at (one_number same_bit bit_itself keys d i at bit there (h ∙ ap Some same))) ∙ f))
     by there false f false g = f ∙ sym g
+
+-- a bit is one of these just where it has a place
+
+lt_behind : (m n : ℕ) → nat_lt (suc m) (suc n) ≡ nat_lt m n
+lt_behind m n = by (nat_lt m n) refl
+  where
+    by : (t : Bool) → nat_lt m n ≡ t → nat_lt (suc m) (suc n) ≡ t
+    by true e = let h = ltb-true m n e in lt-ltb (suc m) (suc n) (omega arith)
+    by false e = let h = ltb-false m n e in le-ltb (suc m) (suc n) (omega arith)
+
+pub placed_any : (test : WireBit → Bool) (bits : List WireBit) → nat_lt (position_or_len test bits) (length bits) ≡ list_any test bits
+placed_any test [] = refl
+placed_any test (c ∷ bits) = by (placed_any test bits) (test c)
+  where
+    by : nat_lt (position_or_len test bits) (length bits) ≡ list_any test bits → (t : Bool) → nat_lt (cond (not t) (1 + position_or_len test bits) 0) (suc (length bits)) ≡ (t || list_any test bits)
+    by rest true = lt-ltb 0 (suc (length bits)) (omega arith)
+    by rest false = let next : 1 + position_or_len test bits ≡ suc (position_or_len test bits) = omega arith in rw next (lt_behind (position_or_len test bits) (length bits) ∙ rest)
+
+pub not_placed : (bits : List WireBit) (b : WireBit) → position (same_bit b) bits ≡ None → has_bit bits b ≡ false
+not_placed bits b e = sym (placed_any (same_bit b) bits) ∙ by (nat_lt (position_or_len (same_bit b) bits) (length bits)) e
+  where
+    by : (t : Bool) → cond t (Some (position_or_len (same_bit b) bits)) None ≡ None → t ≡ false
+    by true h = absurd (cc)
+    by false h = refl
+
+pub placed_at : (bits : List WireBit) (b : WireBit) (at : ℕ) → position (same_bit b) bits ≡ Some at → (slice_get bits at ≡ Some b) × (has_bit bits b ≡ true)
+placed_at bits b at e =
+    let parts = position-Some (same_bit b) bits at b e in
+    let there : slice_get bits at ≡ Some b = slice_get-get_or bits at b parts.0 ∙ ap Some (sym (bits_same b (get_or bits at b) parts.1)) in
+    (there, any_at (same_bit b) bits at b there (bit_itself b))
+
+-- the place of a bit is within the width
+pub source_within : (bits : List WireBit) (s : SigBit) (place : Option ℕ) → place ≡ place_in bits s → IsPlaceWithin (length bits) place
+source_within bits (Fixed c) place e = subst (IsPlaceWithin (length bits)) (sym e) tt
+source_within bits (OnWire b) place e = subst (IsPlaceWithin (length bits)) (sym e) (by (position (same_bit b) bits) refl)
+  where
+    by : (o : Option ℕ) → position (same_bit b) bits ≡ o → IsPlaceWithin (length bits) o
+    by None f = tt
+    by (Some at) f = (position-Some (same_bit b) bits at b f).0

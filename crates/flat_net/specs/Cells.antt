@@ -5,13 +5,10 @@ use Rattle.rtl_bits.specs.declared.bit.Bit.{Bit}
 use Rattle.rtl_bits.specs.declared.bit.Bit.TheVariants.{X}
 use Rattle.rtl_sig.specs.declared.sig.SigBit.{SigBit}
 use Rattle.cell_types.specs.declared.shape.Shape.{Shape}
-use Rattle.rtl_ir.specs.declared.wire.Wire.{Wire}
 use Rattle.rtl_ir.specs.Flat.Cell.{outputs, stores}
 use Rattle.rtl_ir.specs.Flat.Driver.{Driven, StorePoints}
 use Rattle.rtl_ir.specs.Flat.Place.{Place}
 use Rattle.rtl_ir.specs.Flat.Point as rtl
-use Rattle.rtl_ir.specs.Flat.Start.{init_bits}
-use Rattle.std.specs.Prelude.{Some}
 use Rattle.flat_net.specs.declared.net.Logic.{Logic}
 use Rattle.flat_net.specs.declared.net.Output.{Output}
 use Rattle.flat_net.specs.declared.net.Point.{Point}
@@ -66,7 +63,3 @@ pub record PutsStores (start : SigBit → Bit) (reads : Reads) (at : ℕ) (old n
       → map (store_row ps shape) new ≡ map (store_row ps shape) old ++ stores start shape (λ at. pins_of ps (reads_at reads at)) signal (points_of ps points) at
   pub within : (count : ℕ) → ((at : ℕ) → ArePinsWithin count (reads_at reads at)) → ArePointsWithin count points
       → AllByRecursion (IsStoreWithin count) old → AllByRecursion (IsStoreWithin count) new
-
--- the start values that the attributes of the wires say
-abbrev pub starts_of : List Wire → List (List Bit)
-starts_of wires = map (λ (w : Wire). init_bits (Some w)) wires

@@ -1,9 +1,9 @@
 -- What a type that leads back to itself needs to be seen as its trees: a code by which a tree is told from any other,
 -- and that what stands in a tree is less deep than the tree.
-use Rattle.std.specs.Prelude.{◌≡◌, ◌+◌, ◌≤◌, max, List, [], ◌∷◌, refl}
+use Rattle.std.specs.Prelude.{◌≡◌, ◌+◌, ◌≤◌, Bool, max, List, [], ◌∷◌, Option, refl}
 use Rattle.std.proofs.Common.{sym, ◌∙◌, ap, subst, le_of_eq}
 use denote.Param.Weighed.{most, max_none}
-use Rattle.std.specs.Coded.{Coded, code_by, coded×, coded_list}
+use Rattle.std.specs.Coded.{Coded, code_by, coded×, coded_bool, coded_list, coded_option}
 use base.Stored.{Gv, gnil, gcons}
 use Rattle.flat_net.specs.declared.choices.Assign.{Assign}
 use Rattle.flat_net.specs.contracts.choices.Assign as assign
@@ -12,6 +12,9 @@ use Rattle.flat_net.specs.contracts.net.Point as point
 use Rattle.flat_net.specs.Choices.{Choices, NoChoice, OneChoice, Branches, NoBranch, OneBranch, BranchView, ChoiceView, choices_of, branches_of, choices_depth, branches_depth, choice_depth, branch_depth}
 
 -- the codes of what stands beside the choices and the branches
+abbrev pub coded_test : Coded (Option Bool)
+coded_test = coded_option coded_bool
+
 abbrev pub coded_signal : Coded (List Point)
 coded_signal = coded_list point.the_row.coded
 
@@ -25,7 +28,8 @@ abbrev mutual
   -- the code of a list of choices: that of the first one's parts, then that of the rest
   pub choices_code : Choices → Gv
   choices_code NoChoice = gnil
-  choices_code (OneChoice signal branches rest) = gcons (coded_signal.code signal) (gcons (branches_code branches) (choices_code rest))
+  choices_code (OneChoice signal test branches rest) =
+      gcons (coded_signal.code signal) (gcons (coded_test.code test) (gcons (branches_code branches) (choices_code rest)))
 
   -- the code of a list of branches: that of the first one's parts, then that of the rest
   pub branches_code : Branches → Gv
@@ -51,13 +55,14 @@ mutual
   -- choices of one code are equal
   pub choices_code-inj : (x y : Choices) → choices_code x ≡ choices_code y → x ≡ y
   choices_code-inj NoChoice NoChoice e = refl
-  choices_code-inj NoChoice (OneChoice s bs cs) e = absurd (subst HasParts (sym e) tt)
-  choices_code-inj (OneChoice s bs cs) NoChoice e = absurd (subst HasParts e tt)
-  choices_code-inj (OneChoice s bs cs) (OneChoice s' bs' cs') e =
+  choices_code-inj NoChoice (OneChoice s t bs cs) e = absurd (subst HasParts (sym e) tt)
+  choices_code-inj (OneChoice s t bs cs) NoChoice e = absurd (subst HasParts e tt)
+  choices_code-inj (OneChoice s t bs cs) (OneChoice s' t' bs' cs') e =
       let signal = coded_signal.inj s s' (ap first e) in
-      let branches = branches_code-inj bs bs' (ap (λ g. first (behind g)) e) in
-      let rest = choices_code-inj cs cs' (ap (λ g. behind (behind g)) e) in
-      λ i. OneChoice (signal i) (branches i) (rest i)
+      let test = coded_test.inj t t' (ap (λ g. first (behind g)) e) in
+      let branches = branches_code-inj bs bs' (ap (λ g. first (behind (behind g))) e) in
+      let rest = choices_code-inj cs cs' (ap (λ g. behind (behind (behind g))) e) in
+      λ i. OneChoice (signal i) (test i) (branches i) (rest i)
 
   -- branches of one code are equal
   pub branches_code-inj : (x y : Branches) → branches_code x ≡ branches_code y → x ≡ y
@@ -91,10 +96,10 @@ coded_branch =
 -- a choice can be stored as its parts
 abbrev pub coded_choice : Coded ChoiceView
 coded_choice =
-    code_by (List Point × Branches)
-    (coded× coded_signal coded_branches)
-    (λ c. (c.signal, c.branches))
-    (λ p. record { signal = p.0; branches = p.1 })
+    code_by (List Point × (Option Bool × Branches))
+    (coded× coded_signal (coded× coded_test coded_branches))
+    (λ c. (c.signal, (c.test, c.branches)))
+    (λ p. record { signal = p.0; test = p.1.0; branches = p.1.1 })
     (λ _. refl)
 
 -- the depth of a list of choices is that of the deepest one, and one more

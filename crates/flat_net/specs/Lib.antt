@@ -8,7 +8,15 @@ pub mod Parts
 pub mod Within
 pub mod Reads
 pub mod Cells
+pub mod Starts
+pub mod Lines
+pub mod Acting
+pub mod Registers
+pub mod Rules
+pub mod Pairs
 pub mod Trees
+pub mod Resets
+pub mod Sources
 pub mod Adds
 pub mod Tables
 pub mod Visits

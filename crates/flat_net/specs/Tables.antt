@@ -1,5 +1,5 @@
--- The modules of a design by their names, and the rows of one in which no rule has a line, without memories.
-use Rattle.std.specs.Prelude.{◌≡◌, ℕ, List, [], ◌++◌, flat_map, map, filter, Option, Some, None}
+-- The modules of a design by their names, and the rows of one without memories.
+use Rattle.std.specs.Prelude.{◌≡◌, ℕ, List, ◌++◌, map, filter, Option, Some, None}
 use Rattle.std.specs.Str.{bytes_eq}
 use Rattle.std.specs.HashMap.{HashMap, get_by}
 use Rattle.std.specs.declared.hash.FoldHasher.{FoldHasher}
@@ -7,18 +7,15 @@ use Rattle.std.specs.declared.hash.BuildHasherDefault.{BuildHasherDefault}
 use Rattle.std.proofs.Common.{Bor}
 use Rattle.rtl_ir.specs.declared.module.Design.{Design}
 use Rattle.rtl_ir.specs.declared.module.Module.{Module}
-use Rattle.rtl_ir.specs.declared.process.Process.{Process}
 use Rattle.rtl_ir.specs.declared.wire.Wire.{Wire}
-use Rattle.rtl_ir.specs.Assigns.{tree_bits}
 use Rattle.rtl_ir.specs.Flat.Cell.{cells_rows}
 use Rattle.rtl_ir.specs.Flat.Driver.{Driven}
 use Rattle.rtl_ir.specs.Flat.Link.{link_rows}
 use Rattle.rtl_ir.specs.Flat.Place.{Path}
-use Rattle.rtl_ir.specs.Flat.Process.{tree_bit_rows}
+use Rattle.rtl_ir.specs.Flat.Process.{processes_rows}
 use Rattle.rtl_ir.specs.Flat.Start.{start_of}
 use Rattle.rtl_ir.specs.Flat.Tree.{design_ports, named}
 use Rattle.rtl_ir.specs.Ports.{is_port, in_number_order}
-use Rattle.rtl_ir.specs.SwitchRules.{root_by_rules}
 use Rattle.flat_net.specs.declared.modules.Entry.{Entry}
 use Rattle.flat_net.specs.declared.modules.Table.{Table}
 
@@ -54,13 +51,9 @@ Stands (Some e) None = ⊥
 abbrev pub IsTable : Table → List Module → Type 0
 IsTable table modules = (name : List ℕ) → Stands (at_name table.modules name) (named modules name)
 
--- the tree bits of processes
-abbrev pub trees_rows : Path → List Wire → List Process → List Driven
-trees_rows p wires processes =
-    flat_map (λ (q : Process). tree_bit_rows (start_of wires []) p wires (root_by_rules q.root) (tree_bits q.root)) processes
-
--- what the cells, the connections and the trees of the processes of a module drive, where no process gives a start value
+-- what the cells, the connections and the processes of a module drive
 abbrev pub own_rows : Design → Path → Module → List Driven
 own_rows d p m =
-    cells_rows (start_of m.wires []) (design_ports d) p m.wires m.cells
-    ++ (link_rows p m.wires m.links ++ trees_rows p m.wires m.processes)
+    let start = start_of m.wires m.processes in
+    cells_rows start (design_ports d) p m.wires m.cells
+    ++ (link_rows p m.wires m.links ++ processes_rows start p m.wires m m.processes)

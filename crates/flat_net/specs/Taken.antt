@@ -1,6 +1,6 @@
 -- Which parts of a design a flat netlist in numbers has.
-use Rattle.rtl_ir.specs.Scope.{Scope, trees_alone}
+use Rattle.rtl_ir.specs.Scope.{Scope, no_memories}
 
--- cells, instances, and the processes in which no rule has a line
+-- cells, instances, and the processes in which no rule writes a memory
 abbrev pub taken : Scope
-taken = trees_alone
+taken = no_memories

@@ -1,8 +1,12 @@
 -- Parts whose numbers are all below a count.
-use Rattle.std.specs.Prelude.{◌<◌, ℕ, List}
+use Rattle.std.specs.Prelude.{◌<◌, ℕ, List, Option, Some, None}
 use Rattle.std.specs.List.{AllByRecursion}
 use Rattle.flat_net.specs.declared.choices.Assign.{Assign}
 use Rattle.flat_net.specs.declared.choices.Tree.{Tree}
+use Rattle.flat_net.specs.declared.leaves.Held.{Held}
+use Rattle.flat_net.specs.declared.leaves.HeldBit.{HeldBit}
+use Rattle.flat_net.specs.declared.leaves.Raced.{Raced}
+use Rattle.flat_net.specs.declared.leaves.Source.{Source}
 use Rattle.flat_net.specs.declared.net.Logic.{Logic}
 use Rattle.flat_net.specs.declared.net.Output.{Output}
 use Rattle.flat_net.specs.declared.net.Part.{Part}
@@ -45,28 +49,37 @@ pub record IsLogicWithin (count : ℕ) (c : Logic) : Type 0 where
   pub s : ArePointsWithin count c.s
   pub outputs : AllByRecursion (λ (o : Output). o.number < count) c.outputs
 
--- the number of what an assign reads is below the count
-abbrev pub IsAssignWithin : ℕ → Assign → Type 0
-IsAssignWithin count a = IsPointWithin count a.from
+-- the place of a tree bit, where there is one, is within the tree's width
+abbrev pub IsPlaceWithin : ℕ → Option ℕ → Type 0
+IsPlaceWithin width None = Unit {0}
+IsPlaceWithin width (Some at) = at < width
+
+-- the number of what an assign reads is below the count, and its place within the tree's width
+abbrev pub IsAssignWithin : ℕ → ℕ → Assign → Type 0
+IsAssignWithin count width a = IsPointWithin count a.from × IsPlaceWithin width a.tree
+
+-- the same of a source
+abbrev pub IsSourceWithin : ℕ → ℕ → Source → Type 0
+IsSourceWithin count width s = IsPointWithin count s.from × IsPlaceWithin width s.tree
 
 abbrev mutual
-  -- the numbers in choices are below the count
-  pub AreChoicesWithin : ℕ → Choices → Type 0
-  AreChoicesWithin count NoChoice = Unit {0}
-  AreChoicesWithin count (OneChoice signal branches rest) =
-      ArePointsWithin count signal × AreBranchesWithin count branches × AreChoicesWithin count rest
+  -- the numbers in choices are below the count, and places within the tree's width
+  pub AreChoicesWithin : ℕ → ℕ → Choices → Type 0
+  AreChoicesWithin count width NoChoice = Unit {0}
+  AreChoicesWithin count width (OneChoice signal test branches rest) =
+      ArePointsWithin count signal × AreBranchesWithin count width branches × AreChoicesWithin count width rest
 
-  -- the numbers in branches are below the count
-  pub AreBranchesWithin : ℕ → Branches → Type 0
-  AreBranchesWithin count NoBranch = Unit {0}
-  AreBranchesWithin count (OneBranch patterns assigns choices rest) =
-      AllByRecursion (ArePointsWithin count) patterns × AllByRecursion (IsAssignWithin count) assigns
-      × AreChoicesWithin count choices × AreBranchesWithin count rest
+  -- the same of branches
+  pub AreBranchesWithin : ℕ → ℕ → Branches → Type 0
+  AreBranchesWithin count width NoBranch = Unit {0}
+  AreBranchesWithin count width (OneBranch patterns assigns choices rest) =
+      AllByRecursion (ArePointsWithin count) patterns × AllByRecursion (IsAssignWithin count width) assigns
+      × AreChoicesWithin count width choices × AreBranchesWithin count width rest
 
--- what a branch does reads numbers below the count
-pub record IsBranchWithin (count : ℕ) (b : BranchView) : Type 0 where
-  pub assigns : AllByRecursion (IsAssignWithin count) b.assigns
-  pub choices : AreChoicesWithin count b.choices
+-- what a branch does reads numbers below the count, and tree bits within the tree's width
+pub record IsBranchWithin (count width : ℕ) (b : BranchView) : Type 0 where
+  pub assigns : AllByRecursion (IsAssignWithin count width) b.assigns
+  pub choices : AreChoicesWithin count width b.choices
 
 -- a bit of a tree has its number below the count, and its place within the tree's width
 abbrev pub IsOutputWithin : ℕ → ℕ → Output → Type 0
@@ -74,8 +87,24 @@ IsOutputWithin count width o = (o.number < count) × (o.at < width)
 
 -- the numbers of a tree are below the count, and its bits within its width
 pub record IsTreeWithin (count : ℕ) (t : Tree) : Type 0 where
-  pub root : IsBranchWithin count t.root
+  pub root : IsBranchWithin count t.width t.root
   pub outputs : AllByRecursion (IsOutputWithin count t.width) t.outputs
+
+-- the numbers of a bit that a rule updates are below the count, and its place within the tree's width
+abbrev pub IsHeldBitWithin : ℕ → ℕ → HeldBit → Type 0
+IsHeldBitWithin count width b = (b.number < count) × IsSourceWithin count width b.source
+
+-- the numbers of bits that may hold are below the count
+pub record IsHeldWithin (count : ℕ) (h : Held) : Type 0 where
+  pub tree : IsTreeWithin count h.tree
+  pub bits : AllByRecursion (IsHeldBitWithin count h.tree.width) h.bits
+
+-- the same of the bits of a process with two edges
+pub record IsRacedWithin (count : ℕ) (r : Raced) : Type 0 where
+  pub tree : IsTreeWithin count r.tree
+  pub clock : IsPointWithin count r.clock
+  pub reset : IsPointWithin count r.reset
+  pub bits : AllByRecursion (IsHeldBitWithin count r.tree.width) r.bits
 
 -- the numbers of a part are below the count
 abbrev pub IsPartWithin : ℕ → Part → Type 0
@@ -84,6 +113,8 @@ IsPartWithin count (part.Joined j) = (j.to < count) × IsPointWithin count j.fro
 IsPartWithin count (part.Logic c) = IsLogicWithin count c.value
 IsPartWithin count (part.Storage c) = AllByRecursion (IsStoreWithin count) c.value.bits
 IsPartWithin count (part.Tree t) = IsTreeWithin count t.value
+IsPartWithin count (part.Held h) = IsHeldWithin count h.value
+IsPartWithin count (part.Raced r) = IsRacedWithin count r.value
 
 -- the same of several parts
 abbrev pub ArePartsWithin : ℕ → List Part → Type 0

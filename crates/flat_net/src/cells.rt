@@ -7,12 +7,14 @@ ghost use Rattle.rtl_ir.specs.Flat.Cell.{cell_kind, cell_rows, cells_rows, insta
 ghost use Rattle.rtl_ir.specs.Flat.Place.{Frame, Path, frame};
 ghost use Rattle.rtl_ir.specs.Flat.Point as rtl;
 ghost use Rattle.rtl_ir.specs.Flat.Point.{points, wire_points};
+ghost use Rattle.rtl_bits.specs.declared.bit.Bit.{Bit};
+ghost use Rattle.rtl_sig.specs.declared.sig.SigBit.{SigBit};
 ghost use Rattle.rtl_ir.specs.Flat.Start.{start_of};
 ghost use Rattle.rtl_ir.specs.Flat.Tree.{design_ports};
 ghost use Rattle.rtl_ir.specs.Parameters.{signal_at};
 ghost use Rattle.rtl_ir.specs.Ports.{line_of};
 ghost use Rattle.flat_net.specs.Adds.{Adds};
-ghost use Rattle.flat_net.specs.Cells.{starts_of};
+ghost use Rattle.flat_net.specs.Starts.{IsStart};
 ghost use Rattle.flat_net.specs.Known.{Extends};
 ghost use Rattle.flat_net.specs.Reads.{ArePoints};
 ghost use Rattle.flat_net.specs.Tables.{IsTable, all_now, own_rows};
@@ -21,14 +23,14 @@ use crate::builder::Builder;
 use crate::modules::Table;
 use crate::net::Point;
 use crate::signals::signal_at;
-use crate::starts::starts;
+use crate::starts::Starts;
 use cell_types::{CellKind, kind_of};
-use rtl_bits::{Bits, Memory};
+use rtl_bits::Memory;
 use rtl_ir::{Cell, Module, Pin, Role, Wire};
 use std::alloc::Global;
 
 impl Builder {
-    /// The cells, the connections and the trees of the processes of a module in this path.
+    /// The cells, the connections and the processes of a module in this path.
     pub(crate) fn add_module(
         &mut self,
         alloc: Global,
@@ -42,11 +44,11 @@ impl Builder {
             OnOk result (Adds self.old self.new (own_rows d p body.now)) }
     {
         let wires = body.wires.as_slice();
-        let starts = starts(alloc, wires)?;
+        let starts = Starts::of(alloc, wires, body.processes.as_slice())?;
         let cells = body.cells.as_slice();
-        self.add_cells(alloc, table, path, wires, starts.as_slice(), cells)?;
+        self.add_cells(alloc, table, path, wires, &starts, cells)?;
         self.add_links(alloc, path, wires, body.links.as_slice())?;
-        self.add_trees(alloc, path, wires, body.processes.as_slice())
+        self.add_processes(alloc, path, &starts, body)
     }
 
     /// The cells of a module with these wires and start values in this path.
@@ -56,14 +58,14 @@ impl Builder {
         table: &Table,
         path: u32,
         wires: &[Wire],
-        starts: &[Bits],
+        starts: &Starts,
         cells: &[Cell],
     ) -> Result<(), Memory>
         requires in_range { path < length self.old.places.paths }
         ensures grows { OnOk result (Extends self.old.places self.new.places) }
         ensures rows { (p : Path) → slice_get self.old.places.paths path ≡ Some p → (d : Design) → IsTable table.now d.modules →
-            starts.now ≡ starts_of wires.now →
-            OnOk result (Adds self.old self.new (cells_rows (start_of wires.now []) (design_ports d) p wires.now cells.now)) }
+            (start : SigBit → Bit) → IsStart starts.now start →
+            OnOk result (Adds self.old self.new (cells_rows start (design_ports d) p wires.now cells.now)) }
     {
         for cell in cells {
             self.add_cell(alloc, table, path, wires, starts, cell)?;
@@ -78,14 +80,14 @@ impl Builder {
         table: &Table,
         path: u32,
         wires: &[Wire],
-        starts: &[Bits],
+        starts: &Starts,
         cell: &Cell,
     ) -> Result<(), Memory>
         requires in_range { path < length self.old.places.paths }
         ensures grows { OnOk result (Extends self.old.places self.new.places) }
         ensures rows { (p : Path) → slice_get self.old.places.paths path ≡ Some p → (d : Design) → IsTable table.now d.modules →
-            starts.now ≡ starts_of wires.now →
-            OnOk result (Adds self.old self.new (cell_rows (start_of wires.now []) (design_ports d) p wires.now cell.now (cell_kind cell.now))) }
+            (start : SigBit → Bit) → IsStart starts.now start →
+            OnOk result (Adds self.old self.new (cell_rows start (design_ports d) p wires.now cell.now (cell_kind cell.now))) }
     {
         match kind_of(cell.kind_name.as_slice()) {
             Some(kind) => self.add_library_cell(alloc, path, wires, starts, cell, kind),
@@ -99,14 +101,14 @@ impl Builder {
         alloc: Global,
         path: u32,
         wires: &[Wire],
-        starts: &[Bits],
+        starts: &Starts,
         cell: &Cell,
         kind: CellKind,
     ) -> Result<(), Memory>
         requires in_range { path < length self.old.places.paths }
         ensures grows { OnOk result (Extends self.old.places self.new.places) }
-        ensures rows { (p : Path) → slice_get self.old.places.paths path ≡ Some p → starts.now ≡ starts_of wires.now →
-            OnOk result (Adds self.old self.new (kind_rows (start_of wires.now []) p wires.now cell.now kind)) }
+        ensures rows { (p : Path) → slice_get self.old.places.paths path ≡ Some p → (start : SigBit → Bit) → IsStart starts.now start →
+            OnOk result (Adds self.old self.new (kind_rows start p wires.now cell.now kind)) }
     {
         let pins = cell.pins.as_slice();
         match kind {

@@ -4,11 +4,13 @@ use crate::net::{Output, Point};
 use rtl_bits::Seq;
 use std::marker::Model;
 
-/// A line of a branch: the tree bit at a place gets what a point has.
+/// A line of a branch: the tree bit at a place gets what a point has. Where that is a tree bit of the same process, its place
+/// is given too.
 #[derive(Clone, Copy, Debug, PartialEq, Eq)]
 pub struct Assign {
     pub at: u32,
     pub from: Point,
+    pub tree: Option<u32>,
 }
 
 /// What happens where one of the patterns matches; without patterns, wherever it is reached. The assigns act in order,
@@ -21,11 +23,13 @@ pub struct Branch {
     pub choices: Vec<Choice>,
 }
 
-/// A choice of the first branch that matches the signal.
+/// A choice of the first branch that matches the signal. Where it tests a reset, it is said whether the signal is the inverse
+/// of that.
 #[cycle(choices)]
 #[derive(Drop)]
 pub struct Choice {
     pub signal: Seq<Point>,
+    pub test: Option<bool>,
     pub branches: Vec<Branch>,
 }
 
@@ -61,7 +65,7 @@ impl Model for Choice {
 
     ghost coded = { coded_choice };
 
-    ghost view = { λ c. record { signal = c.signal; branches = branches_of c.branches.items } };
+    ghost view = { λ c. record { signal = c.signal; test = c.test; branches = branches_of c.branches.items } };
 
     ghost size = { choice_depth };
 

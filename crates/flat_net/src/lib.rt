@@ -1,21 +1,32 @@
 //! The flat netlist of a module with all its instances, in which each bit is a number.
 #![tactic(auto)]
 
+mod acting;
+mod always;
 mod builder;
 mod cells;
 mod choices;
 mod ends;
 mod flat;
 mod inputs;
+mod leaves;
+mod lines;
 mod links;
 mod logic;
 mod modules;
 mod net;
 mod places;
 mod ports;
+mod processes;
+mod races;
 mod reads;
+mod registers;
+mod resets;
+mod rooted;
+mod rules;
 mod shapes;
 mod signals;
+mod sources;
 mod starts;
 mod stores;
 mod tree;
@@ -25,4 +36,5 @@ mod values;
 
 pub use choices::{Assign, Branch, Choice, Tree};
 pub use flat::flatten;
+pub use leaves::{Held, HeldBit, Raced, Source};
 pub use net::{Join, Logic, Net, Output, Part, Point, Storage, StoreBit, StorePins};

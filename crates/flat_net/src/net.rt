@@ -1,6 +1,7 @@
 //! The flat netlist, in which each bit is a number.
 
 use crate::choices::Tree;
+use crate::leaves::{Held, Raced};
 use cell_types::Shape;
 use rtl_bits::{Bit, Seq};
 
@@ -79,6 +80,10 @@ pub enum Part {
     Storage(Box<Storage>),
     /// The tree of a process drives its tree bits.
     Tree(Box<Tree>),
+    /// A process drives bits that are always updated and may hold.
+    Held(Box<Held>),
+    /// A process with two edges drives the bits that it updates.
+    Raced(Box<Raced>),
 }
 
 /// A flat netlist. The bits are numbered from 0 on, and no bit has two numbers.

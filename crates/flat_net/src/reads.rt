@@ -83,10 +83,7 @@ impl Places {
         ensures value { (p : Path) → slice_get self.old.paths path ≡ Some p →
             IfOk result (λ it. IsPoint self.new.places it (point_at (pin_points p wires.now pins.now name) 0)) }
     {
-        match signal_at(pins, name.text()).first() {
-            Some(bit) => self.point(path, wires, *bit),
-            None => Ok(Point::Constant(Bit::X)),
-        }
+        self.first_point(path, wires, signal_at(pins, name.text()))
     }
 
     /// What the bits of a storage cell on words read.

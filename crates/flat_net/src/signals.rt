@@ -2,7 +2,7 @@
 
 ghost use Rattle.std.specs.Prelude.{◌≡◌, ◌<◌, Some, IfOk, OnOk, length, slice_get};
 ghost use Rattle.rtl_ir.specs.Flat.Place.{Path};
-ghost use Rattle.rtl_ir.specs.Flat.Point.{bit_place, name_or_empty, pin_points, point, points, wire_points};
+ghost use Rattle.rtl_ir.specs.Flat.Point.{bit_place, name_or_empty, pin_points, point, point_at, points, wire_points};
 ghost use Rattle.rtl_ir.specs.Parameters.{signal_at};
 ghost use Rattle.flat_net.specs.Known.{Extends};
 ghost use Rattle.flat_net.specs.Reads.{ArePoints, IsPoint};
@@ -10,7 +10,7 @@ ghost use Rattle.flat_net.specs.Reads.{ArePoints, IsPoint};
 use crate::net::Point;
 use crate::places::Places;
 use cell_types::PinName;
-use rtl_bits::{Memory, Seq};
+use rtl_bits::{Bit, Memory, Seq};
 use rtl_ir::{Pin, Wire};
 use rtl_sig::{SigBit, WireBit};
 use std::alloc::Global;
@@ -26,6 +26,24 @@ impl Places {
         match bit {
             SigBit::Fixed(value) => Ok(Point::Constant(value)),
             SigBit::Wire(bit) => Ok(Point::At(self.bit(path, wires, bit)?)),
+        }
+    }
+
+    /// The lowest bit of a signal, the constant x where there is none.
+    pub(crate) fn first_point(
+        &mut self,
+        path: u32,
+        wires: &[Wire],
+        signal: &[SigBit],
+    ) -> Result<Point, Memory>
+        requires in_range { path < length self.old.paths }
+        ensures grows { OnOk result (Extends self.old self.new) }
+        ensures value { (p : Path) → slice_get self.old.paths path ≡ Some p →
+            IfOk result (λ it. IsPoint self.new.places it (point_at (points p wires.now signal.now) 0)) }
+    {
+        match signal.first() {
+            Some(bit) => self.point(path, wires, *bit),
+            None => Ok(Point::Constant(Bit::X)),
         }
     }
 

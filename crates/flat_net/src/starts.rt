@@ -1,26 +1,122 @@
-//! The start values of storage bits.
+//! The start values of the bits of a module.
 
-ghost use Rattle.std.specs.Prelude.{◌≡◌, List, [], IfOk, codes, slice_index_or};
+ghost use Rattle.std.specs.Prelude.{◌≡◌, List, [], ◌∷◌, IfOk, OnOk, codes, map, slice_index_or};
+ghost use Rattle.rtl_bits.specs.declared.bit.Bit.{Bit};
 ghost use Rattle.rtl_bits.specs.declared.bit.Bit.TheVariants.{X};
-ghost use Rattle.rtl_ir.specs.declared.wire.Wire.{Wire};
-ghost use Rattle.rtl_ir.specs.Flat.Start.{attribute_bits, start_of};
-ghost use Rattle.flat_net.specs.Cells.{starts_of};
+ghost use Rattle.rtl_sig.specs.declared.sig.SigBit.{SigBit};
+ghost use Rattle.rtl_sig.specs.declared.sig.WireBit as rtl;
+ghost use Rattle.rtl_ir.specs.Decisions.{expanded, leaves_of};
+ghost use Rattle.rtl_ir.specs.Flat.Start.{attribute_bits, first_constant, process_starts, start_of};
+ghost use Rattle.rtl_ir.specs.Tree.{CaseView};
+ghost use Rattle.tree_leaves.specs.Rounds.{AreLeaves};
+ghost use Rattle.flat_net.specs.Lines.{join_of};
+ghost use Rattle.flat_net.specs.Starts.{AreStarts, Gains, IsStart, starts_by, starts_of};
 
+use crate::lines::{Line, start_places};
+use crate::rooted::Rooted;
 use crate::values::value_bits;
+use net_index::BitTable;
 use rtl_bits::{Bit, Bits, Memory};
-use rtl_ir::{Attribute, Wire};
-use rtl_sig::SigBit;
+use rtl_ir::{Attribute, Process, Wire};
+use rtl_sig::{SigBit, WireBit};
 use std::alloc::Global;
+use tree_leaves::Leaves;
+
+/// The start values of the bits of a module: what the attributes `\init` of its wires say, and, before that, what its
+/// processes give, of each bit the last one. In the Yosys manual, "The RTL Intermediate Language (RTLIL)", the section
+/// "RTLIL::Process" has the rules of start values.
+#[derive(Drop)]
+pub(crate) struct Starts {
+    said: Vec<Bits>,
+    given: BitTable<Bit>,
+}
+
+impl Starts {
+    /// The start values of a module with these wires and processes.
+    pub(crate) fn of(alloc: Global, wires: &[Wire], processes: &[Process]) -> Result<Starts, Memory>
+        ensures value { IfOk result (λ starts. IsStart starts (start_of wires.now processes.now)) }
+    {
+        let mut starts = Starts::said(alloc, wires)?;
+        for process in processes {
+            starts.put_process(alloc, process)?;
+        }
+        Ok(starts)
+    }
+
+    /// What the wires say.
+    fn said(alloc: Global, wires: &[Wire]) -> Result<Starts, Memory>
+        ensures value { IfOk result (λ starts. AreStarts starts wires.now []) }
+    {
+        Ok(Starts {
+            said: said_of(alloc, wires)?,
+            given: BitTable::of(alloc, wires)?,
+        })
+    }
+
+    /// The start values that the process gives.
+    fn put_process(&mut self, alloc: Global, process: &Process) -> Result<(), Memory>
+        ensures gains { OnOk result (Gains self.old self.new (process_starts process.now)) }
+    {
+        let lines = start_places(alloc, process.syncs.as_slice())?;
+        if lines.is_empty() {
+            return Ok(());
+        }
+        let rooted = Rooted::of(alloc, &process.root)?;
+        let bits = rooted.bits.list(alloc)?;
+        let leaves = Leaves::of(alloc, &rooted.root, bits.as_slice(), None)?;
+        self.give_all(&leaves, lines.as_slice())
+    }
+
+    /// Gives each of these bits the constant that its source comes to.
+    fn give_all(&mut self, leaves: &Leaves, lines: &[Line]) -> Result<(), Memory>
+        ensures gains { (root : CaseView) (bits : List rtl.WireBit) → AreLeaves leaves.now root bits → OnOk result (Gains self.old self.new (starts_by root bits (map join_of lines.now))) }
+    {
+        for line in lines {
+            self.give(line.bit, constant_of(leaves, line.source)?)?;
+        }
+        Ok(())
+    }
+
+    /// Gives the bit a start value.
+    fn give(&mut self, bit: WireBit, value: Bit) -> Result<(), Memory>
+        ensures gains { OnOk result (Gains self.old self.new (record { bit = bit; value = value } ∷ [])) }
+    {
+        self.given.put(bit, value)
+    }
+
+    /// The start value of a bit.
+    pub(crate) fn at(&self, bit: SigBit) -> Bit
+        ensures value { (start : SigBit → Bit) → IsStart self.now start → result ≡ start bit }
+    {
+        match bit {
+            SigBit::Fixed(_) => Bit::X,
+            SigBit::Wire(bit) => match self.given.get(bit) {
+                Some(value) => value.seen(),
+                None => said_at(self.said.as_slice(), bit).seen(),
+            },
+        }
+    }
+}
+
+/// The constant that a source comes to. A source that comes to none is taken for want of memory.
+fn constant_of(leaves: &Leaves, source: SigBit) -> Result<Bit, Memory>
+    ensures value { (root : CaseView) (bits : List rtl.WireBit) → AreLeaves leaves.now root bits → IfOk result (λ b. b ≡ first_constant (leaves_of (expanded root bits source))) }
+{
+    match leaves.of_source(source).only {
+        Some(SigBit::Fixed(value)) => Ok(value),
+        _ => Err(Memory),
+    }
+}
 
 /// The bits of the attribute `\init` of each wire, none where it has no such attribute.
-pub(crate) fn starts(alloc: Global, wires: &[Wire]) -> Result<Vec<Bits>, Memory>
-    ensures value { IfOk result (λ starts. starts.items ≡ starts_of wires.now) }
+fn said_of(alloc: Global, wires: &[Wire]) -> Result<Vec<Bits>, Memory>
+    ensures value { IfOk result (λ said. said.items ≡ starts_of wires.now) }
 {
-    let mut starts = Vec::with_capacity(alloc, wires.len())?;
+    let mut said = Vec::with_capacity(alloc, wires.len())?;
     for wire in wires {
-        starts.push(init_bits(alloc, wire.attributes.as_slice())?)?;
+        said.push(init_bits(alloc, wire.attributes.as_slice())?)?;
     }
-    Ok(starts)
+    Ok(said)
 }
 
 /// The bits of the attribute `\init`, none where there is no such attribute.
@@ -35,16 +131,13 @@ fn init_bits(alloc: Global, attributes: &[Attribute]) -> Result<Bits, Memory>
     Ok(Bits::make(alloc))
 }
 
-/// The start value of a bit, where no process gives one.
-pub(crate) fn start(starts: &[Bits], bit: SigBit) -> Bit
-    ensures value { (wires : List Wire) → starts.now ≡ starts_of wires → result ≡ start_of wires [] bit }
+/// What is said of a bit, x where nothing is.
+fn said_at(said: &[Bits], bit: WireBit) -> Bit
+    ensures value { result ≡ slice_index_or (slice_index_or said.now bit.wire []) bit.at X }
 {
-    match bit {
-        SigBit::Fixed(_) => Bit::X,
-        SigBit::Wire(bit) => match starts.get(bit.wire as usize) {
-            Some(bits) => bit_at(bits.as_slice(), bit.at).seen(),
-            None => Bit::X,
-        },
+    match said.get(bit.wire as usize) {
+        Some(bits) => bit_at(bits.as_slice(), bit.at),
+        None => Bit::X,
     }
 }
 

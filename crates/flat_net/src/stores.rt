@@ -3,23 +3,22 @@
 ghost use Rattle.std.specs.Prelude.{◌≡◌, ◌<◌, ℕ, List, [], ◌∷◌, Some, IfOk, OnOk, length, slice_get};
 ghost use Rattle.rtl_bits.specs.declared.bit.Bit.{Bit};
 ghost use Rattle.rtl_sig.specs.declared.sig.SigBit.{SigBit};
-ghost use Rattle.rtl_ir.specs.declared.wire.Wire.{Wire};
 ghost use Rattle.rtl_ir.specs.Flat.Cell.{cell_shape, stored_rows};
 ghost use Rattle.rtl_ir.specs.Flat.Driver.{StorePoints};
 ghost use Rattle.rtl_ir.specs.Flat.Place.{Path};
-ghost use Rattle.rtl_ir.specs.Flat.Start.{start_of};
 ghost use Rattle.flat_net.specs.Adds.{Adds};
-ghost use Rattle.flat_net.specs.Cells.{AreReads, PutsStores, starts_of};
+ghost use Rattle.flat_net.specs.Cells.{AreReads, PutsStores};
 ghost use Rattle.flat_net.specs.Known.{Extends};
+ghost use Rattle.flat_net.specs.Starts.{IsStart};
 
 use crate::builder::Builder;
 use crate::net::{Part, Point, Storage, StoreBit};
 use crate::reads::Reads;
 use crate::shapes::shape;
 use crate::signals::signal_at;
-use crate::starts::start;
+use crate::starts::Starts;
 use cell_types::{CellKind, PinName};
-use rtl_bits::{Bit, Bits, Memory, Seq};
+use rtl_bits::{Bit, Memory, Seq};
 use rtl_ir::{Cell, Wire};
 use rtl_sig::SigBit;
 use std::alloc::Global;
@@ -31,16 +30,16 @@ impl Builder {
         alloc: Global,
         path: u32,
         wires: &[Wire],
-        starts: &[Bits],
+        starts: &Starts,
         cell: &Cell,
         kind: CellKind,
         reads: &Reads,
     ) -> Result<(), Memory>
         requires in_range { path < length self.old.places.paths }
         ensures grows { OnOk result (Extends self.old.places self.new.places) }
-        ensures rows { (p : Path) → slice_get self.old.places.paths path ≡ Some p → starts.now ≡ starts_of wires.now →
+        ensures rows { (p : Path) → slice_get self.old.places.paths path ≡ Some p → (start : SigBit → Bit) → IsStart starts.now start →
             (they : ℕ → StorePoints) → AreReads self.old.places.places reads.now they →
-            OnOk result (Adds self.old self.new (stored_rows (start_of wires.now []) p wires.now cell.now.pins (cell_shape kind cell.now.params) they)) }
+            OnOk result (Adds self.old self.new (stored_rows start p wires.now cell.now.pins (cell_shape kind cell.now.params) they)) }
     {
         let signal = signal_at(cell.pins.as_slice(), PinName::Q.text());
         let points = self.places.points(alloc, path, wires, signal)?;
@@ -56,17 +55,17 @@ impl Builder {
 /// The bits that a storage cell keeps. More than 2^32 are taken for want of memory.
 fn store_bits(
     alloc: Global,
-    starts: &[Bits],
+    starts: &Starts,
     signal: &[SigBit],
     points: &[Point],
     reads: &Reads,
 ) -> Result<Seq<StoreBit>, Memory>
-    ensures value { (wires : List Wire) → starts.now ≡ starts_of wires →
-        IfOk result (λ bits. PutsStores (start_of wires []) reads.now 0 [] bits signal.now points.now) }
+    ensures value { (start : SigBit → Bit) → IsStart starts.now start →
+        IfOk result (λ bits. PutsStores start reads.now 0 [] bits signal.now points.now) }
 {
     let mut bits = Vec::with_capacity(alloc, signal.len())?;
     for at in 0..signal.len().min(points.len()) {
-        let start = start(starts, signal[at]);
+        let start = starts.at(signal[at]);
         put_store(&mut bits, start, points[at], at, reads)?;
     }
     Ok(Seq::from_vec(bits))

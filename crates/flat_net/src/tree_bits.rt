@@ -1,14 +1,16 @@
 //! The tree bits of a process.
 
-ghost use Rattle.std.specs.Prelude.{◌≡◌, ◌<◌, IfOk, Some, length, reverse, slice_get};
+ghost use Rattle.std.specs.Prelude.{◌≡◌, ◌<◌, IfOk, Some, length, position, reverse, slice_get};
 ghost use Rattle.rtl_ir.specs.Assigns.{tree_bits};
-ghost use Rattle.flat_net.specs.Trees.{IsFound};
+ghost use Rattle.rtl_ir.specs.Signals.{same_bit};
+ghost use Rattle.flat_net.specs.Trees.{IsFound, place_in};
 
+use crate::places::number_at;
 use indexmap::IndexSet;
 use net_index::assigned_bits;
 use rtl_bits::Memory;
 use rtl_ir::Case;
-use rtl_sig::WireBit;
+use rtl_sig::{SigBit, WireBit};
 use std::alloc::Global;
 use std::marker::Model;
 
@@ -46,9 +48,23 @@ impl TreeBits {
 
     /// The place of a bit, where it is one of them.
     pub(crate) fn find(&self, bit: WireBit) -> Option<usize>
-        ensures value { IsFound self.now bit result }
+        ensures value { result ≡ position (same_bit bit) self.now }
+        ensures found { IsFound self.now bit result }
     {
         self.bits.get_index_of(&bit)
+    }
+
+    /// The place of a bit or a constant, where it is one of them. More than 2^32 are taken for want of memory.
+    pub(crate) fn place(&self, bit: SigBit) -> Result<Option<u32>, Memory>
+        ensures value { IfOk result (λ place. place ≡ place_in self.now bit) }
+    {
+        match bit {
+            SigBit::Fixed(_) => Ok(None),
+            SigBit::Wire(bit) => match self.find(bit) {
+                Some(at) => Ok(Some(number_at(at)?)),
+                None => Ok(None),
+            },
+        }
     }
 
     /// The bit at a place.
@@ -60,6 +76,17 @@ impl TreeBits {
             Some(bit) => *bit,
             None => unreachable!(),
         }
+    }
+
+    /// The bits in order.
+    pub(crate) fn list(&self, alloc: Global) -> Result<Vec<WireBit>, Memory>
+        ensures value { IfOk result (λ list. list.items ≡ reverse self.now) }
+    {
+        let mut list = Vec::with_capacity(alloc, self.len())?;
+        for at in (0..self.len()).rev() {
+            list.push(self.at(at))?;
+        }
+        Ok(list)
     }
 
     /// How many there are.

@@ -1,88 +1,70 @@
 //! The parts of the trees of processes.
 
 ghost use Rattle.std.specs.Prelude.{◌≡◌, ◌<◌, List, [], ◌∷◌, ◌++◌, Some, IfOk, OnOk, length, reverse, slice_get};
-ghost use Rattle.rtl_ir.specs.Assigns.{tree_bits};
+ghost use Rattle.rtl_bits.specs.declared.bit.Bit.{Bit};
+ghost use Rattle.rtl_sig.specs.declared.sig.SigBit.{SigBit};
+ghost use Rattle.rtl_ir.specs.Faults.TwoEdges.{SwitchTest};
 ghost use Rattle.rtl_ir.specs.Flat.Place.{Path};
 ghost use Rattle.rtl_ir.specs.Flat.Process.{tree_bit_rows};
-ghost use Rattle.rtl_ir.specs.Flat.Start.{start_of};
 ghost use Rattle.rtl_ir.specs.Follow.{Join, all_joins, joins};
-ghost use Rattle.rtl_ir.specs.SwitchRules.{root_by_rules};
-ghost use Rattle.flat_net.specs.Adds.{Adds};
 ghost use Rattle.flat_net.specs.Known.{Extends};
-ghost use Rattle.flat_net.specs.Tables.{trees_rows};
+ghost use Rattle.flat_net.specs.Resets.{IsTest};
+ghost use Rattle.flat_net.specs.Sources.{IsRoot};
 ghost use Rattle.flat_net.specs.Trees.{AreAssigns, AreOutputs, AreSignals, IsBranchAt, IsChoice, IsTree};
 
-use crate::builder::Builder;
 use crate::choices::{Assign, Branch, Choice, Tree};
-use crate::net::{Output, Part, Point};
+use crate::net::{Output, Point};
 use crate::places::{Places, number_at};
+use crate::resets::{Reset, test_of};
+use crate::rooted::Rooted;
 use crate::tree_bits::TreeBits;
 use rtl_bits::{Memory, Seq};
-use rtl_ir::{Case, Link, Process, Switch, Wire};
+use rtl_ir::{Case, Link, Switch, Wire};
 use rtl_sig::{SigBit, SigSpec};
 use std::alloc::Global;
-use tree_rules::ruled;
-
-impl Builder {
-    /// The trees of the processes of a module with these wires in this path.
-    pub(crate) fn add_trees(
-        &mut self,
-        alloc: Global,
-        path: u32,
-        wires: &[Wire],
-        processes: &[Process],
-    ) -> Result<(), Memory>
-        requires in_range { path < length self.old.places.paths }
-        ensures grows { OnOk result (Extends self.old.places self.new.places) }
-        ensures rows { (p : Path) → slice_get self.old.places.paths path ≡ Some p →
-            OnOk result (Adds self.old self.new (trees_rows p wires.now processes.now)) }
-    {
-        for process in processes {
-            self.add_process(alloc, path, wires, &process.root)?;
-        }
-        Ok(())
-    }
-
-    /// The tree of the process with this root.
-    fn add_process(
-        &mut self,
-        alloc: Global,
-        path: u32,
-        wires: &[Wire],
-        root: &Case,
-    ) -> Result<(), Memory>
-        requires in_range { path < length self.old.places.paths }
-        ensures grows { OnOk result (Extends self.old.places self.new.places) }
-        ensures rows { (p : Path) → slice_get self.old.places.paths path ≡ Some p →
-            OnOk result (Adds self.old self.new (tree_bit_rows (start_of wires.now []) p wires.now (root_by_rules root.now) (tree_bits root.now))) }
-    {
-        let tree = self.places.tree(alloc, path, wires, root)?;
-        self.parts.push(Part::Tree(Box::new(alloc, tree)?))?;
-        Ok(())
-    }
-}
 
 impl Places {
-    /// The tree of the process with this root, in numbers.
-    fn tree(
+    /// The tree of a process, in numbers.
+    pub(crate) fn tree(
         &mut self,
         alloc: Global,
         path: u32,
         wires: &[Wire],
-        root: &Case,
+        rooted: &Rooted,
     ) -> Result<Tree, Memory>
         requires in_range { path < length self.old.paths }
         ensures grows { OnOk result (Extends self.old self.new) }
-        ensures value { (p : Path) → slice_get self.old.paths path ≡ Some p →
-            IfOk result (λ tree. IsTree self.new.places tree (tree_bit_rows (start_of wires.now []) p wires.now (root_by_rules root.now) (tree_bits root.now))) }
+        ensures value { (p : Path) → slice_get self.old.paths path ≡ Some p → (start : SigBit → Bit) →
+            IfOk result (λ tree. IsTree self.new.places tree (tree_bit_rows start p wires.now rooted.now.root (reverse rooted.now.bits))) }
     {
-        let bits = TreeBits::of(alloc, root)?;
-        let ruled = ruled(alloc, root)?;
-        let root = self.branch(alloc, path, wires, &bits, &[], &ruled)?;
+        let tree = self.root(alloc, path, wires, None, rooted)?;
+        Ok(Tree {
+            width: tree.width,
+            root: tree.root,
+            outputs: self.tree_outputs(alloc, path, wires, &rooted.bits)?,
+        })
+    }
+
+    /// The tree of a process in numbers, where it drives nothing. Its choices tell which of them test the reset.
+    pub(crate) fn root(
+        &mut self,
+        alloc: Global,
+        path: u32,
+        wires: &[Wire],
+        reset: Option<Reset>,
+        rooted: &Rooted,
+    ) -> Result<Tree, Memory>
+        requires in_range { path < length self.old.paths }
+        ensures grows { OnOk result (Extends self.old self.new) }
+        ensures value { (p : Path) → slice_get self.old.paths path ≡ Some p → (test : SwitchTest) → IsTest reset.entry test →
+            IfOk result (λ tree. IsRoot self.new.places test p wires.now rooted.now.bits tree rooted.now.root) }
+    {
+        let bits = &rooted.bits;
+        let root = self.branch(alloc, path, wires, bits, reset, &[], &rooted.root)?;
         Ok(Tree {
             width: number_at(bits.len())?,
             root,
-            outputs: self.tree_outputs(alloc, path, wires, &bits)?,
+            outputs: Seq::make(alloc),
         })
     }
 
@@ -116,19 +98,20 @@ impl Places {
         path: u32,
         wires: &[Wire],
         bits: &TreeBits,
+        reset: Option<Reset>,
         patterns: &[SigSpec],
         case: &Case,
     ) -> Result<Branch, Memory>
         requires in_range { path < length self.old.paths }
         ensures grows { OnOk result (Extends self.old self.new) }
-        ensures value { (p : Path) → slice_get self.old.paths path ≡ Some p →
-            IfOk result (λ branch. IsBranchAt self.new.places p wires.now bits.now patterns.now branch case.now) }
+        ensures value { (p : Path) → slice_get self.old.paths path ≡ Some p → (test : SwitchTest) → IsTest reset.entry test →
+            IfOk result (λ branch. IsBranchAt self.new.places test p wires.now bits.now patterns.now branch case.now) }
     {
         let patterns = self.signals(alloc, path, wires, patterns)?;
         let assigns = self.assigns(alloc, path, wires, bits, case.assigns.as_slice())?;
         let mut choices = Vec::with_capacity(alloc, case.switches.len())?;
         for switch in &case.switches {
-            choices.push(self.choice(alloc, path, wires, bits, switch)?)?;
+            choices.push(self.choice(alloc, path, wires, bits, reset, switch)?)?;
         }
         Ok(Branch {
             patterns,
@@ -145,20 +128,26 @@ impl Places {
         path: u32,
         wires: &[Wire],
         bits: &TreeBits,
+        reset: Option<Reset>,
         switch: &Switch,
     ) -> Result<Choice, Memory>
         requires in_range { path < length self.old.paths }
         ensures grows { OnOk result (Extends self.old self.new) }
-        ensures value { (p : Path) → slice_get self.old.paths path ≡ Some p →
-            IfOk result (λ choice. IsChoice self.new.places p wires.now bits.now choice switch.now) }
+        ensures value { (p : Path) → slice_get self.old.paths path ≡ Some p → (test : SwitchTest) → IsTest reset.entry test →
+            IfOk result (λ choice. IsChoice self.new.places test p wires.now bits.now choice switch.now) }
     {
         let signal = self.points(alloc, path, wires, switch.signal.as_slice())?;
+        let test = test_of(alloc, reset, switch)?;
         let mut branches = Vec::with_capacity(alloc, switch.cases.len())?;
         for case in &switch.cases {
             let patterns = case.patterns.as_slice();
-            branches.push(self.branch(alloc, path, wires, bits, patterns, case)?)?;
+            branches.push(self.branch(alloc, path, wires, bits, reset, patterns, case)?)?;
         }
-        Ok(Choice { signal, branches })
+        Ok(Choice {
+            signal,
+            test,
+            branches,
+        })
     }
 
     /// The points of several signals.
@@ -192,8 +181,8 @@ impl Places {
     ) -> Result<Seq<Assign>, Memory>
         requires in_range { path < length self.old.paths }
         ensures grows { OnOk result (Extends self.old self.new) }
-        ensures value { (p : Path) → slice_get self.old.paths path ≡ Some p →
-            IfOk result (λ assigns. AreAssigns self.new.places p wires.now bits.now assigns (all_joins lines.now)) }
+        ensures value { (p : Path) → slice_get self.old.paths path ≡ Some p → (test : SwitchTest) →
+            IfOk result (λ assigns. AreAssigns self.new.places test p wires.now bits.now assigns (all_joins lines.now)) }
     {
         let mut assigns = Vec::new(alloc);
         for line in lines {
@@ -216,8 +205,8 @@ impl Places {
         requires in_range { path < length self.old.paths }
         ensures grows { OnOk result (Extends self.old self.new) }
         ensures value { (p : Path) → slice_get self.old.paths path ≡ Some p →
-            (js : List Join) → AreAssigns self.old.places p wires.now bits.now assigns.old.items js →
-            OnOk result (AreAssigns self.new.places p wires.now bits.now assigns.new.items (js ++ joins left.now right.now)) }
+            (test : SwitchTest) → (js : List Join) → AreAssigns self.old.places test p wires.now bits.now assigns.old.items js →
+            OnOk result (AreAssigns self.new.places test p wires.now bits.now assigns.new.items (js ++ joins left.now right.now)) }
     {
         for at in 0..left.len().min(right.len()) {
             self.put_assign(path, wires, bits, left[at], right[at], assigns)?;
@@ -238,8 +227,8 @@ impl Places {
         requires in_range { path < length self.old.paths }
         ensures grows { OnOk result (Extends self.old self.new) }
         ensures value { (p : Path) → slice_get self.old.paths path ≡ Some p →
-            (js : List Join) → AreAssigns self.old.places p wires.now bits.now assigns.old.items js →
-            OnOk result (AreAssigns self.new.places p wires.now bits.now assigns.new.items (js ++ joins (left ∷ []) (right ∷ []))) }
+            (test : SwitchTest) → (js : List Join) → AreAssigns self.old.places test p wires.now bits.now assigns.old.items js →
+            OnOk result (AreAssigns self.new.places test p wires.now bits.now assigns.new.items (js ++ joins (left ∷ []) (right ∷ []))) }
     {
         let SigBit::Wire(bit) = left else {
             return Ok(());
@@ -248,8 +237,11 @@ impl Places {
             return Ok(());
         };
         let from = self.point(path, wires, right)?;
-        let at = number_at(at)?;
-        assigns.push(Assign { at, from })?;
+        assigns.push(Assign {
+            at: number_at(at)?,
+            from,
+            tree: bits.place(right)?,
+        })?;
         Ok(())
     }
 }

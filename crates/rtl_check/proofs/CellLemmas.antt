@@ -1,6 +1,7 @@
 -- What is found of cells is what the faults say.
-use Rattle.std.proofs.Common.{Bor, nat_eq, is_some, is_none, ◌≡◌, ◌≢◌, ℕ, suc, ◌<◌, ◌==◌, Bool, false, not, ◌&&◌, List, [], ◌∷◌, ◌++◌, length, get_or, drop, Option, Some, None, option_map, refl, sym, ◌∙◌, ap, subst}
+use Rattle.std.proofs.Common.{Bor, nat_eq, is_some, is_none, ◌≡◌, ◌≢◌, ℕ, suc, ◌<◌, ◌≤◌, ◌==◌, Bool, false, not, ◌&&◌, List, [], ◌∷◌, ◌++◌, length, get_or, drop, Option, Some, None, option_map, refl, sym, ◌∙◌, ap, subst}
 use Rattle.std.proofs.Math.Seq.{drop-cons}
+use Rattle.std.proofs.lemmas.List.{drop_all}
 use Rattle.rtl_ir.specs.declared.cell.Cell.{Cell}
 use Rattle.rtl_ir.specs.declared.cell.Pin.{Pin}
 use Rattle.rtl_ir.specs.declared.module.Module.{Module}
@@ -17,6 +18,8 @@ use Rattle.net_index.specs.Types.{Named, IsTable, IsType, at_name, port_of}
 use Rattle.rtl_ir.specs.Types as rtl_types
 use Rattle.rtl_ir.specs.Fault as rtl
 use Rattle.rtl_check.specs.declared.fault.CheckFault.{CheckFault}
+use Rattle.event_tests.specs.Fitting.{DoCellsFit}
+use Rattle.event_tests.proofs.Faultless.{faultless_cells}
 use Rattle.rtl_check.specs.Finds.{IsFirst}
 use Rattle.rtl_check.proofs.Firsts.{first_before}
 
@@ -64,3 +67,10 @@ instance_type table (rtl_types.Library kind) is P h = absurd is
 instance_type table (rtl_types.Instance lines) is P h = h lines is
 instance_type table rtl_types.Unsupported is P h = absurd is
 instance_type table rtl_types.Unknown is P h = absurd is
+
+-- cells without faults fit
+pub cells_fit_all : (ports : Ports) (m : Module) (items : List Cell) (i : ℕ) (earlier : List Cell) → items ≡ m.cells → length items ≤ i
+    → cell_faults taken ports m earlier (drop i m.cells) ≡ cell_faults taken ports m [] m.cells → DoCellsFit ports m
+cells_fit_all ports m items i earlier are h so_far =
+    let past : length m.cells ≤ i = subst (λ cs. length cs ≤ i) are h in
+    faultless_cells taken ports m (sym so_far ∙ ap (cell_faults taken ports m earlier) (drop_all i m.cells past))

@@ -19,3 +19,17 @@ module _ (faults : Module → List rtl.Fault) (modules : List Module) (at : ℕ)
   -- a module without faults
   pub next_at : faults m ≡ [] → flat_map faults (drop (at + 1) modules) ≡ flat_map faults modules
   next_at none = ap (λ xs. xs ++ flat_map faults (drop (at + 1) modules)) (sym none) ∙ split
+
+-- the first fault of a module's parts, where those before it have none
+pub first_process : (f : CheckFault) (wires stores cells processes links bits : List rtl.Fault) → wires ≡ [] → stores ≡ [] → cells ≡ [] → IsFirst f processes
+    → IsFirst f (wires ++ stores ++ cells ++ processes ++ links ++ bits)
+first_process f wires stores cells processes links bits w s c first =
+    let none : processes ≡ wires ++ stores ++ cells ++ processes = sym (λ i. w i ++ s i ++ c i ++ processes) in
+    first_before f (wires ++ stores ++ cells ++ processes ++ links) bits
+    (first_before f (wires ++ stores ++ cells ++ processes) links (subst (IsFirst f) none first))
+
+pub first_link : (f : CheckFault) (wires stores cells processes links bits : List rtl.Fault) → wires ≡ [] → stores ≡ [] → cells ≡ [] → processes ≡ [] → IsFirst f links
+    → IsFirst f (wires ++ stores ++ cells ++ processes ++ links ++ bits)
+first_link f wires stores cells processes links bits w s c p first =
+    let none : links ≡ wires ++ stores ++ cells ++ processes ++ links = sym (λ i. w i ++ s i ++ c i ++ p i ++ links) in
+    first_before f (wires ++ stores ++ cells ++ processes ++ links) bits (subst (IsFirst f) none first)

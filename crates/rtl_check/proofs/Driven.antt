@@ -1,7 +1,7 @@
--- The bits that are driven in a module whose processes have no rules with lines.
+-- The bits that are driven in a module.
 use Rattle.std.proofs.Common.{◌≡◌, ℕ, ◌+◌, min, Bool, true, false, cond, List, [], ◌∷◌, ◌++◌, length, map, flat_map, take, refl, ◌∙◌, ap}
 use Rattle.std.proofs.Math.Nat.{min-zero, suc-min-suc, zero-min}
-use Rattle.std.proofs.lemmas.List.{map-append, append-nil}
+use Rattle.std.proofs.lemmas.List.{map-append}
 use Rattle.rtl_sig.specs.declared.sig.SigBit.{SigBit}
 use Rattle.rtl_sig.specs.declared.sig.SigBit.TheVariants as sig
 use Rattle.rtl_sig.specs.declared.sig.WireBit.{WireBit}
@@ -12,12 +12,13 @@ use Rattle.rtl_ir.specs.declared.module.Module.{Module}
 use Rattle.rtl_ir.specs.declared.process.Process.{Process}
 use Rattle.rtl_ir.specs.declared.wire.Wire.{Wire}
 use Rattle.rtl_ir.specs.Assigns.{tree_bits}
-use Rattle.rtl_ir.specs.Drivers.{Source, Drive, FromPort, FromCell, FromLink, FromTree, all_by, port_drives, places_by, pin_drives, cell_drives, link_drives, drives_of, tree_drives, rule_drives, is_input}
+use Rattle.rtl_ir.specs.Drivers.{Source, Drive, FromPort, FromCell, FromLink, FromTree, FromRules, all_by, port_drives, places_by, pin_drives, cell_drives, link_drives, drives_of, tree_drives, rule_drives, is_input}
 use Rattle.rtl_ir.specs.Follow.{Join, joins, all_joins}
 use Rattle.rtl_ir.specs.Outputs.{drives_pin}
+use Rattle.rtl_ir.specs.Rules.{updated_bits}
 use Rattle.rtl_ir.specs.Signals.{bits_of_wire, wire_bits}
 use Rattle.rtl_ir.specs.Types.{CellType, Ports, cell_type}
-use Rattle.rtl_check.specs.Tallies.{bits_of_cell, bits_of_link, bits_of_pin, bits_of_tree, port_bits}
+use Rattle.rtl_check.specs.Tallies.{bits_of_cell, bits_of_link, bits_of_pin, bits_of_rules, bits_of_tree, port_bits}
 use Rattle.rtl_check.proofs.Telling.{driven}
 
 driven-append : (xs ys : List Drive) → driven (xs ++ ys) ≡ driven xs ++ driven ys
@@ -80,16 +81,21 @@ driven-trees process (p ∷ ps) =
     driven-append (all_by (FromTree process) (tree_bits p.root)) (tree_drives (process + 1) ps)
     ∙ (λ i. driven-all_by (FromTree process) (tree_bits p.root) i ++ driven-trees (process + 1) ps i)
 
+driven-rules : (process : ℕ) (ps : List Process) → driven (rule_drives process ps) ≡ flat_map bits_of_rules ps
+driven-rules process [] = refl
+driven-rules process (p ∷ ps) =
+    driven-append (all_by (FromRules process) (updated_bits p.syncs)) (rule_drives (process + 1) ps)
+    ∙ (λ i. driven-all_by (FromRules process) (updated_bits p.syncs) i ++ driven-rules (process + 1) ps i)
+
 -- all of them
-pub driven-drives_of : (ports : Ports) (m : Module) → rule_drives 0 m.processes ≡ []
-    → driven (drives_of ports m) ≡ port_bits 0 m.wires ++ flat_map (bits_of_cell ports) m.cells ++ flat_map bits_of_link m.links ++ flat_map bits_of_tree m.processes
-driven-drives_of ports m none =
+pub driven-drives_of : (ports : Ports) (m : Module)
+    → driven (drives_of ports m) ≡ port_bits 0 m.wires ++ flat_map (bits_of_cell ports) m.cells ++ flat_map bits_of_link m.links ++ flat_map bits_of_tree m.processes ++ flat_map bits_of_rules m.processes
+driven-drives_of ports m =
     let some = port_drives 0 m.wires ++ cell_drives ports 0 m.cells ++ link_drives m.links in
     let first : driven some ≡ port_bits 0 m.wires ++ flat_map (bits_of_cell ports) m.cells ++ flat_map bits_of_link m.links =
     driven-append (port_drives 0 m.wires ++ cell_drives ports 0 m.cells) (link_drives m.links)
     ∙ (λ i. driven-append (port_drives 0 m.wires) (cell_drives ports 0 m.cells) i ++ (bits_of_joins (all_joins m.links) ∙ left_of_links m.links) i)
     ∙ (λ i. (driven-ports 0 m.wires i ++ driven-cells ports 0 m.cells i) ++ flat_map bits_of_link m.links) in
-    ap (λ rules. driven (some ++ tree_drives 0 m.processes ++ rules)) none
-    ∙ ap driven (append-nil (some ++ tree_drives 0 m.processes))
-    ∙ driven-append some (tree_drives 0 m.processes)
-    ∙ (λ i. first i ++ driven-trees 0 m.processes i)
+    driven-append (some ++ tree_drives 0 m.processes) (rule_drives 0 m.processes)
+    ∙ (λ i. driven-append some (tree_drives 0 m.processes) i ++ driven-rules 0 m.processes i)
+    ∙ (λ i. first i ++ driven-trees 0 m.processes i ++ flat_map bits_of_rules m.processes)

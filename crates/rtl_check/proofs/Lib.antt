@@ -4,16 +4,7 @@ pub mod Tallying
 pub mod Telling
 pub mod Driven
 pub mod Scanning
-pub mod Searches
 pub mod PlaceLemmas
 pub mod Recursions
 pub mod Designs
-pub mod Endings
-pub mod PatternsLeft
-pub mod TreeReading
-pub mod Among
-pub mod FlawLemmas
-pub mod ReadingLemmas
-pub mod Selves
 pub mod ProcessLemmas
-pub mod GraphEdges

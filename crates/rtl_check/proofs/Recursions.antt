@@ -11,8 +11,8 @@ use Rattle.rtl_check.specs.declared.fault.CheckFault.TheVariants as check
 use Rattle.rtl_check.specs.Finds.{first_answer}
 use Rattle.rtl_check.specs.Places.{faults_from}
 use Rattle.rtl_ir.specs.Ports.{is_library_cell}
-use Rattle.rtl_check.proofs.Searches.{length-rows}
-use Rattle.rtl_check.specs.Search.{In, IsGraph, followers, rows_of}
+use Rattle.process_check.proofs.Searches.{length-rows}
+use Rattle.process_check.specs.Search.{In, IsGraph, followers, rows_of}
 
 -- a place with a recursion is the first, where those before have none
 pub recursion_here : (modules : List Module) (at : ℕ) → at < length modules → is_recursive modules at ≡ true → faults_from modules at (length modules - at) ≡ recursion_faults modules

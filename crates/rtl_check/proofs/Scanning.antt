@@ -1,10 +1,10 @@
 -- The bits of wires, one after another.
-use Rattle.std.proofs.Common.{◌≡◌, ℕ, suc, ◌+◌, ◌-◌, ◌<◌, Bool, true, false, cond, ltb, List, [], ◌∷◌, ◌++◌, get_or, flat_map, Some, sym, ◌∙◌, ap, subst, arith}
+use Rattle.std.proofs.Common.{◌≡◌, ℕ, suc, ◌+◌, ◌-◌, ◌<◌, Bool, true, false, cond, ltb, List, [], ◌∷◌, ◌++◌, get_or, flat_map, Some, refl, sym, ◌∙◌, ap, subst, arith}
 use Rattle.std.specs.List.{range_with_len}
 use Rattle.rtl_sig.specs.declared.sig.WireBit.{WireBit}
 use Rattle.rtl_ir.specs.declared.module.Module.{Module}
 use Rattle.rtl_ir.specs.declared.wire.Wire.{Wire}
-use Rattle.rtl_ir.specs.Drivers.{Drive, drives_of, rule_drives}
+use Rattle.rtl_ir.specs.Drivers.{Drive, drives_of}
 use Rattle.rtl_ir.specs.Fault as rtl
 use Rattle.rtl_ir.specs.Faults.Bits.{bit_faults, faults_of_two, has_two}
 use Rattle.rtl_ir.specs.Types.{Ports}
@@ -13,10 +13,10 @@ use Rattle.net_index.proofs.Numbers.{at_number}
 use Rattle.rtl_check.specs.declared.fault.CheckFault.{CheckFault}
 use Rattle.rtl_check.specs.declared.fault.CheckFault.TheVariants as check
 use Rattle.rtl_check.specs.Finds.{IsFirst, first_answer}
-use Rattle.rtl_check.specs.Tallies.{Tallied, Tells, bits_of_cell, bits_of_link, bits_of_tree, port_bits, untallied, with_bits}
+use Rattle.rtl_check.specs.Tallies.{Tallied, HasCounted, Tells, bits_of_cell, bits_of_link, bits_of_rules, bits_of_tree, port_bits, untallied, with_bits}
 use Rattle.rtl_check.proofs.Driven.{driven-drives_of}
 use Rattle.rtl_check.proofs.Firsts.{first_before}
-use Rattle.rtl_check.proofs.Tallying.{with_bits-append}
+use Rattle.rtl_check.proofs.Tallying.{alike_append, with_bits-append}
 use Rattle.rtl_check.proofs.Telling.{tells_driven}
 
 -- what a tally tells of a bit
@@ -65,14 +65,18 @@ bit_found id drives place w at h two f is all e =
     subst (IsFirst f) (sym (ap (flat_map (bit_faults id drives place w)) (range-next at w.width h)) ∙ e) here
 
 -- all that is counted in a module tells of its bits
-pub counted_tells : (ports : Ports) (m : Module) → rule_drives 0 m.processes ≡ [] → (t : Tallied)
-    → t ≡ with_bits (with_bits (with_bits (with_bits (untallied (widths_of m.wires)) (port_bits 0 m.wires)) (flat_map (bits_of_cell ports) m.cells)) (flat_map bits_of_link m.links)) (flat_map bits_of_tree m.processes)
-    → Tells t (drives_of ports m)
-counted_tells ports m none t made =
+pub counted_tells : (ports : Ports) (m : Module) (s t : Tallied)
+    → s ≡ with_bits (with_bits (with_bits (with_bits (untallied (widths_of m.wires)) (port_bits 0 m.wires)) (flat_map (bits_of_cell ports) m.cells)) (flat_map bits_of_link m.links)) (flat_map bits_of_tree m.processes)
+    → HasCounted s (flat_map bits_of_rules m.processes) t → Tells t (drives_of ports m)
+counted_tells ports m s t made counted =
     let start = untallied (widths_of m.wires) in
     let some = port_bits 0 m.wires ++ flat_map (bits_of_cell ports) m.cells in
-    tells_driven (widths_of m.wires) (drives_of ports m) (some ++ flat_map bits_of_link m.links ++ flat_map bits_of_tree m.processes) (driven-drives_of ports m none) t
-    (made
+    let trees = some ++ flat_map bits_of_link m.links ++ flat_map bits_of_tree m.processes in
+    tells_driven (widths_of m.wires) (drives_of ports m) (trees ++ flat_map bits_of_rules m.processes) (trees ++ counted.0) (driven-drives_of ports m)
+    (alike_append trees trees counted.0 (flat_map bits_of_rules m.processes) (λ b. refl) counted.1) t
+    (counted.2
+    ∙ ap (λ x. with_bits x counted.0) (made
     ∙ ap (λ x. with_bits (with_bits x (flat_map bits_of_link m.links)) (flat_map bits_of_tree m.processes)) (sym (with_bits-append start (port_bits 0 m.wires) (flat_map (bits_of_cell ports) m.cells)))
     ∙ ap (λ x. with_bits x (flat_map bits_of_tree m.processes)) (sym (with_bits-append start some (flat_map bits_of_link m.links)))
     ∙ sym (with_bits-append start (some ++ flat_map bits_of_link m.links) (flat_map bits_of_tree m.processes)))
+    ∙ sym (with_bits-append start trees counted.0))

@@ -1,10 +1,14 @@
 -- What is counted of bits one after another.
-use Rattle.std.proofs.Common.{◌≡◌, ℕ, suc, ◌+◌, ◌-◌, ◌<◌, List, [], ◌∷◌, ◌++◌, length, get_or, drop, map, flat_map, refl, sym, ◌∙◌, ap, arith, add-one}
+use Rattle.std.proofs.Common.{◌≡◌, ℕ, suc, ◌+◌, ◌-◌, ◌<◌, min, List, [], ◌∷◌, ◌++◌, length, get_or, take, drop, map, flat_map, append-nil, refl, sym, ◌∙◌, ap, subst, arith, add-one}
 use Rattle.std.specs.List.{range_with_len}
-use Rattle.std.proofs.Math.Seq.{drop-cons}
+use Rattle.std.proofs.Math.Seq.{drop-cons, take-suc}
 use Rattle.rtl_sig.specs.declared.sig.WireBit.{WireBit}
+use Rattle.rtl_ir.specs.declared.process.Process.{Process}
 use Rattle.rtl_ir.specs.declared.wire.Wire.{Wire}
-use Rattle.rtl_check.specs.Tallies.{Tallied, bits_of_port, port_bits, with_bit, with_bits}
+use Rattle.process_check.specs.Updates.{AreAlike, times}
+use Rattle.process_check.proofs.Among.{flat_map-append}
+use Rattle.process_check.proofs.Updating.{times-append}
+use Rattle.rtl_check.specs.Tallies.{HasCounted, Tallied, bits_of_port, bits_of_rules, port_bits, with_bit, with_bits}
 
 -- the bits of a wire from one on, so many
 abbrev pub bits_from : ℕ → ℕ → ℕ → List WireBit
@@ -47,3 +51,22 @@ port_next wires i w h is t new all made e =
 pub wire_next : (wire at width : ℕ) → at < width → (t all : Tallied) → with_bits t (bits_from wire at (width - at)) ≡ all
     → with_bits (with_bit t (record { wire = wire; at = at })) (bits_from wire (at + 1) (width - (at + 1))) ≡ all
 wire_next wire at width h t all e = sym (ap (with_bits t) (bits_from-next wire at width h)) ∙ e
+
+-- lists of which each bit stands in both alike, one after another
+pub alike_append : (xs xs' ys ys' : List WireBit) → AreAlike xs xs' → AreAlike ys ys' → AreAlike (xs ++ ys) (xs' ++ ys')
+alike_append xs xs' ys ys' e f b =
+    ap (min 2) (times-append xs ys b)
+    ∙ (let p = e b in let q = f b in let sum : min 2 (times xs b + times ys b) ≡ min 2 (times xs' b + times ys' b) = omega (arith, p, q) in sum)
+    ∙ sym (ap (min 2) (times-append xs' ys' b))
+
+-- what the rules of one process more update
+pub updates_next : (ps : List Process) (i : ℕ) (p : Process) → i < length ps → p ≡ get_or ps i p → (old mid new : Tallied) (bits : List WireBit) → AreAlike bits (bits_of_rules p) → new ≡ with_bits mid bits
+    → HasCounted old (flat_map bits_of_rules (take i ps)) mid → HasCounted old (flat_map bits_of_rules (take (i + 1) ps)) new
+updates_next ps i p h is old mid new bits alike made counted =
+    let more : take (i + 1) ps ≡ take i ps ++ p ∷ [] = ap (λ n. take n ps) (add-one i) ∙ take-suc ps i p h ∙ (λ j. take i ps ++ sym is j ∷ []) in
+    let all : flat_map bits_of_rules (take (i + 1) ps) ≡ flat_map bits_of_rules (take i ps) ++ bits_of_rules p =
+    ap (flat_map bits_of_rules) more ∙ flat_map-append bits_of_rules (take i ps) (p ∷ []) ∙ ap (λ xs. flat_map bits_of_rules (take i ps) ++ xs) (append-nil (bits_of_rules p)) in (
+      counted.0 ++ bits,
+      subst (AreAlike (counted.0 ++ bits)) (sym all) (alike_append counted.0 (flat_map bits_of_rules (take i ps)) bits (bits_of_rules p) counted.1 alike),
+      made ∙ ap (λ t. with_bits t bits) counted.2 ∙ sym (with_bits-append old counted.0 bits),
+    )

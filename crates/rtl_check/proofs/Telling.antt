@@ -9,12 +9,8 @@ use Rattle.rtl_ir.specs.Drivers.{Drive, drive_count}
 use Rattle.rtl_ir.specs.Signals.{same_bit}
 use Rattle.net_index.specs.Numbering.{bit_count, number_of}
 use Rattle.net_index.proofs.Numbers.{number-inj, number_within}
+use Rattle.process_check.specs.Updates.{AreAlike, times}
 use Rattle.rtl_check.specs.Tallies.{Tallied, Tells, raised, untallied, with_bit, with_bits}
-
--- how often a bit stands in a list
-abbrev times : List WireBit → WireBit → ℕ
-times [] b = 0
-times (c ∷ cs) b = cond (same_bit c b) (1 + times cs b) (times cs b)
 
 -- the bits that are driven
 abbrev pub driven : List Drive → List WireBit
@@ -118,12 +114,12 @@ over_one (suc zero) = refl
 over_one (suc (suc n)) = lt-ltb 1 (min 2 (suc (suc n))) (omega arith) ∙ sym (lt-ltb 1 (suc (suc n)) (omega arith))
 
 -- the counts of the bits that are driven tell
-pub tells_driven : (widths : List ℕ) (drives : List Drive) (bits : List WireBit) → driven drives ≡ bits → (t : Tallied) → t ≡ with_bits (untallied widths) bits → Tells t drives
-tells_driven widths drives bits e t made b n at =
-    let same : t.widths ≡ widths = ap (λ (x : Tallied). x.widths) made ∙ widths-with_bits bits (untallied widths) in
+pub tells_driven : (widths : List ℕ) (drives : List Drive) (bits others : List WireBit) → driven drives ≡ bits → AreAlike others bits → (t : Tallied) → t ≡ with_bits (untallied widths) others → Tells t drives
+tells_driven widths drives bits others e alike t made b n at =
+    let same : t.widths ≡ widths = ap (λ (x : Tallied). x.widths) made ∙ widths-with_bits others (untallied widths) in
     let number : number_of widths b ≡ Some n = sym (ap (λ ws. number_of ws b) same) ∙ at in
     ap (λ (x : Tallied). ltb 1 (get_or x.counts n 0)) made
-    ∙ ap (ltb 1) (count_of widths bits b n number)
+    ∙ ap (ltb 1) (count_of widths others b n number ∙ alike b)
     ∙ over_one (times bits b)
     ∙ ap (λ bs. ltb 1 (times bs b)) (sym e)
     ∙ ap (ltb 1) (times-driven drives b)

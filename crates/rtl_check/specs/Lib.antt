@@ -3,9 +3,4 @@ pub mod Words
 pub mod Finds
 pub mod Numbers
 pub mod Tallies
-pub mod Search
 pub mod Places
-pub mod Ends
-pub mod Flaws
-pub mod Reading
-pub mod Readings

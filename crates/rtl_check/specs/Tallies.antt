@@ -11,9 +11,11 @@ use Rattle.rtl_ir.specs.Assigns.{tree_bits}
 use Rattle.rtl_ir.specs.Drivers.{Drive, is_input}
 use Rattle.rtl_ir.specs.Faults.Bits.{has_two}
 use Rattle.rtl_ir.specs.Outputs.{drives_pin}
+use Rattle.rtl_ir.specs.Rules.{updated_bits}
 use Rattle.rtl_ir.specs.Signals.{bits_of_wire, wire_bits}
 use Rattle.rtl_ir.specs.Types.{CellType, Ports, cell_type}
 use Rattle.net_index.specs.Numbering.{bit_count, number_of}
+use Rattle.process_check.specs.Updates.{AreAlike}
 
 -- the widths of the wires, and for each bit, by its number, how often it was counted, up to 2
 pub record Tallied : Type 0 where
@@ -61,6 +63,14 @@ bits_of_link l = wire_bits (take (min (length l.left) (length l.right)) l.left)
 -- the bits that the tree of a process drives
 abbrev pub bits_of_tree : Process → List WireBit
 bits_of_tree p = tree_bits p.root
+
+-- the bits that the rules of a process update
+abbrev pub bits_of_rules : Process → List WireBit
+bits_of_rules p = updated_bits p.syncs
+
+-- these bits are counted, or others of which each stands there as often, as far as it matters
+abbrev pub HasCounted : Tallied → List WireBit → Tallied → Type 0
+HasCounted old bits new = (others : List WireBit) × AreAlike others bits × (new ≡ with_bits old others)
 
 -- the counts tell which bits are driven more than once
 abbrev pub Tells : Tallied → List Drive → Type 0

@@ -1,21 +1,21 @@
 //! The faults of bits: of their drivers.
 
-ghost use Rattle.std.specs.Prelude.{◌≡◌, ◌<◌, List, [], IfOk, OnOk, Some, flat_map, slice_index};
+ghost use Rattle.std.specs.Prelude.{◌≡◌, ◌<◌, List, IfOk, OnOk, Some, flat_map, slice_index};
 ghost use Rattle.std.specs.List.{range_with_len};
-ghost use Rattle.rtl_ir.specs.Drivers.{Drive, drives_of, rule_drives};
+ghost use Rattle.rtl_ir.specs.Drivers.{Drive, drives_of};
 ghost use Rattle.rtl_ir.specs.Faults.Bits.{bit_faults, bits_faults, faults_of_two};
 ghost use Rattle.rtl_ir.specs.Signals.{bits_of_wire};
 ghost use Rattle.rtl_ir.specs.Types as rtl;
 ghost use Rattle.net_index.specs.Numbering.{widths_of};
 ghost use Rattle.net_index.specs.Types.{AreTypes, IsType};
 ghost use Rattle.rtl_check.specs.Finds.{Finds, first_answer};
-ghost use Rattle.rtl_check.specs.Tallies.{Tells, bits_of_cell, bits_of_link, bits_of_pin, bits_of_port, bits_of_tree, port_bits, with_bits};
+ghost use Rattle.rtl_check.specs.Tallies.{HasCounted, Tells, bits_of_cell, bits_of_link, bits_of_pin, bits_of_port, bits_of_rules, bits_of_tree, port_bits, with_bits};
 
 use crate::fault::{CheckFault, WireSpot};
 use crate::tally::Tally;
-use crate::tree_bits::tree_bits;
 use crate::wires::spot;
 use net_index::{CellType, Types, drives_pin};
+use process_check::{tree_bits, updated_bits};
 use rtl_bits::{Copied, Memory, Text};
 use rtl_ir::{Cell, Link, Module, Pin, Process, Role, Wire};
 use rtl_sig::WireBit;
@@ -24,7 +24,6 @@ use std::alloc::Global;
 /// The first fault of the bits of a module, over the types of its design: a driven bit of an input port, or a bit
 /// with two drivers.
 pub(crate) fn check_bits(alloc: Global, types: &Types, body: &Module) -> Result<(), CheckFault>
-    requires lineless { rule_drives 0 body.now.processes ≡ [] }
     ensures first { (ports : rtl.Ports) → AreTypes types.now ports →
         Finds result (bits_faults body.now.id (drives_of ports body.now) 0 body.now.wires) }
 {
@@ -34,6 +33,7 @@ pub(crate) fn check_bits(alloc: Global, types: &Types, body: &Module) -> Result<
     count_cells(&mut tally, types, body.cells.as_slice());
     count_links(&mut tally, body.links.as_slice());
     count_trees(alloc, &mut tally, body.processes.as_slice())?;
+    count_updates(alloc, &mut tally, body.processes.as_slice())?;
     check_wires(&body.id, &tally, wires)
 }
 
@@ -166,6 +166,17 @@ fn count_trees(alloc: Global, tally: &mut Tally, processes: &[Process]) -> Resul
 {
     for process in processes {
         let bits = tree_bits(alloc, &process.root)?;
+        count_bits(tally, bits.as_slice());
+    }
+    Ok(())
+}
+
+/// Counts the bits that the rules of the processes update.
+fn count_updates(alloc: Global, tally: &mut Tally, processes: &[Process]) -> Result<(), Memory>
+    ensures ok { OnOk result (HasCounted tally.old (flat_map bits_of_rules processes.now) tally.new) }
+{
+    for process in processes {
+        let bits = updated_bits(alloc, process.syncs.as_slice())?;
         count_bits(tally, bits.as_slice());
     }
     Ok(())

@@ -1,6 +1,6 @@
 //! The faults of cells: of their types, parameters and pins.
 
-ghost use Rattle.std.specs.Prelude.{◌≡◌, List, [], option_map};
+ghost use Rattle.std.specs.Prelude.{◌≡◌, List, [], OnOk, option_map};
 ghost use Rattle.std.specs.List.{list_any};
 ghost use Rattle.rtl_ir.specs.declared.cell.Cell.{Cell};
 ghost use Rattle.rtl_ir.specs.declared.module.Module.{Module};
@@ -10,13 +10,14 @@ ghost use Rattle.rtl_ir.specs.Faults.Cells as cells;
 ghost use Rattle.rtl_check.specs.Taken.{taken};
 ghost use Rattle.rtl_ir.specs.Types as rtl;
 ghost use Rattle.net_index.specs.Types.{AreTypes, IsTable, IsType};
+ghost use Rattle.event_tests.specs.Fitting.{DoCellsFit};
 ghost use Rattle.rtl_check.specs.Finds.{Finds};
 
 use crate::fault::CheckFault;
-use crate::links::has_constant;
 use crate::wires::spot;
 use cell_types::{CellFault, CellKind};
 use net_index::{CellType, PortNames, Types, cell_shape, drives_pin};
+use process_check::has_constant;
 use rtl_bits::Text;
 use rtl_ir::{Cell, Module, Pin};
 use std::alloc::Global;
@@ -25,6 +26,7 @@ use std::alloc::Global;
 pub(crate) fn check_cells(alloc: Global, types: &Types, body: &Module) -> Result<(), CheckFault>
     ensures first { (ports : rtl.Ports) → AreTypes types.now ports →
         Finds result (cells.cell_faults taken ports body.now [] body.now.cells) }
+    ensures fit { OnOk result ((ports : rtl.Ports) → AreTypes types.now ports → DoCellsFit ports body.now) }
 {
     for cell in body.cells.as_slice() {
         let cell_type = types.find(cell.kind_name.as_slice());

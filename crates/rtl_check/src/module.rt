@@ -24,7 +24,7 @@ pub(crate) fn check_module(alloc: Global, types: &Types, body: &Module) -> Resul
     check_wires(alloc, &body.id, body.wires.as_slice())?;
     check_stores(&body.id, body.memories.as_slice())?;
     check_cells(alloc, types, body)?;
-    check_processes(alloc, body)?;
+    check_processes(alloc, types, body)?;
     check_links(&body.id, body.links.as_slice())?;
     check_bits(alloc, types, body)
 }

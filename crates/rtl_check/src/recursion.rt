@@ -4,15 +4,14 @@ ghost use Rattle.std.specs.Prelude.{◌≡◌, ◌<◌, List, length, IfOk, OnOk
 ghost use Rattle.rtl_ir.specs.declared.module.Module.{Module};
 ghost use Rattle.rtl_ir.specs.Faults.Recursion.{instance_graph, instance_place, instance_places, leads_within, recursion_faults};
 ghost use Rattle.rtl_ir.specs.Ports.{is_library_cell};
-ghost use Rattle.rtl_check.specs.Ends.{AreEnding};
+ghost use Rattle.process_check.specs.Ends.{AreEnding};
 ghost use Rattle.rtl_check.specs.Finds.{Finds};
 ghost use Rattle.rtl_check.specs.Places.{ArePlaces, with_place};
-ghost use Rattle.rtl_check.specs.Search.{IsGraph, rows_of};
+ghost use Rattle.process_check.specs.Search.{IsGraph, rows_of};
 
-use crate::ends::ending_places;
 use crate::fault::CheckFault;
-use crate::search::{Graph, leads_back};
 use cell_types::kind_of;
+use process_check::{Graph, ending_places, is_recursive};
 use rtl_bits::{Copied, Memory};
 use rtl_ir::{Cell, Module};
 use std::alloc::Global;
@@ -33,24 +32,6 @@ pub(crate) fn check_recursion(alloc: Global, modules: &[Module]) -> Result<(), C
         }
     }
     Ok(())
-}
-
-/// Whether a chain leads from the place back to it. From those in `ending` each chain is known to end.
-pub(crate) fn is_recursive(
-    alloc: Global,
-    graph: &[Vec<usize>],
-    ending: &[bool],
-    at: usize,
-) -> Result<bool, Memory>
-    requires graph { IsGraph (rows_of graph.now) }
-    requires ending { AreEnding (rows_of graph.now) ending.now }
-    requires in_range { at < length graph.now }
-    ensures value { IfOk result (λ back. back ≡ leads_within (rows_of graph.now) (length graph.now) at at) }
-{
-    if ending[at] {
-        return Ok(false);
-    }
-    leads_back(alloc, graph, at)
 }
 
 /// For each module the places of those that it has instances of.

@@ -13,27 +13,9 @@ use Rattle.net_index.specs.Builder.{IsInLimits, PassesLimit}
 use Rattle.tech_map.specs.Techmap.{TechmapPassesLimit, beside, techmap_of}
 use Rattle.script_core.specs.declared.outcome.Outcome.TheVariants.{Done, Over}
 use Rattle.script_core.specs.declared.word.Word.{Word}
-use Rattle.script_core.specs.Fold.{is_within, techmap_within, pass_of, after_word, fold_script, MayBeGiven, AfterWord, AreApplicable}
-
--- the limits as a test
-pub within_limits : (b : Building) → is_within b ≡ true → IsInLimits b
-unfolding is_within
-within_limits b e = record { cells = grind (arith, nat_tests); bits = grind (arith, nat_tests); names = grind (arith, nat_tests) }
-
-pub limits_within : (b : Building) → IsInLimits b → is_within b ≡ true
-unfolding is_within
-limits_within b h =
-    let c = h.cells in
-    let w = h.bits in
-    let n = h.names in
-    grind (arith, nat_tests)
-
-pub limits_passed : (b : Building) → PassesLimit b → is_within b ≡ false
-limits_passed b over = by (is_within b) refl
-  where
-    by : (t : Bool) → is_within b ≡ t → is_within b ≡ false
-    by false e = e
-    by true e = absurd (over (within_limits b e))
+use Rattle.proc_steps.specs.Limits.{is_within}
+use Rattle.proc_steps.proofs.Limits.{limits_passed, limits_within}
+use Rattle.script_core.specs.Fold.{techmap_within, pass_of, after_word, fold_script, MayBeGiven, AfterWord, AreApplicable}
 
 -- what `techmap` gives
 pub mapped : (m : Module) (r : Result Module PassFault) → IfOk r (λ after. after ≡ techmap_of m) → OnOk r (IsInLimits (beside m)) → IfOk r (λ after. techmap_within m ≡ Some after)

@@ -1,5 +1,5 @@
 -- A module of an accepted design may be given to the first pass, over its table of ports, whatever its name is.
-use Rattle.std.proofs.Common.{◌≡◌, ◌+◌, ℕ, zero, suc, ◌<◌, List, [], ◌∷◌, length, inl, inr, arith, subst, sym}
+use Rattle.std.proofs.Common.{◌≡◌, ◌+◌, ℕ, zero, suc, ◌<◌, List, [], ◌∷◌, ◌++◌, length, inl, inr, ⊎_elim, arith, subst, sym}
 use Rattle.std.specs.Prelude.{slice_get, IsSomeAnd}
 use Rattle.std.specs.List.{All}
 use Rattle.std.proofs.lemmas.List.Elements.{All-head, All-tail}
@@ -26,7 +26,10 @@ use Rattle.proc_laws.specs.Ready as laws
 use Rattle.proc_laws.specs.Ready.{HasItsBits, PinsHaveBits, UpdatesHaveBits}
 use Rattle.check_laws.proofs.Readable.{sound}
 use Rattle.script_core.specs.Cold.{table_of}
-use Rattle.script_core.specs.Fold.{MayBegin}
+use Rattle.proc_steps.specs.Steps.{MayBegin}
+use Rattle.reset_laws.specs.Trees.{TreesHaveBits}
+use Rattle.rtl_ir.specs.Assigns.{case_assigns, cases_assigns, switches_assigns}
+use Rattle.net_model.proofs.Members.{In-cases}
 use Rattle.script_core.proofs.Faultless.{faultless_under}
 
 each_of : {A : Type 0} (P : A → Type 0) (xs : List A) → All P xs → (x : A) → In x xs → P x
@@ -111,6 +114,33 @@ module _ (ws : List Wire) where
   updates_of : (r : SyncRule) → IsRule ws r → UpdatesHaveBits ws r
   updates_of r h l i b j = bit_of b (each_of (IsBitOf ws) l.left (each_of (IsLink ws) r.updates h.updates l i).left.bits b j)
 
+  -- bits that assigns name
+  left_of : (l : Link) → IsLink ws l → Each (laws.IsBitOf ws) l.left
+  left_of l h b i = bit_of b (each_of (IsBitOf ws) l.left h.left.bits b i)
+
+  lefts_of : (ls : List Link) → All (IsLink ws) ls → Each (λ (l : Link). Each (laws.IsBitOf ws) l.left) ls
+  lefts_of ls h l i = left_of l (each_of (IsLink ws) ls h l i)
+
+  -- what is so of two lists is so of both together
+  each_both : {A : Type 0} (P : A → Type 0) (xs ys : List A) → Each P xs → Each P ys → Each P (xs ++ ys)
+  each_both P xs ys f g x i = ⊎_elim (f x) (g x) (In-cases x xs ys i)
+
+  mutual
+    switches_lefts : (depth : ℕ) (switches : Switches) → AreSwitches ws depth switches → Each (λ (l : Link). Each (laws.IsBitOf ws) l.left) (switches_assigns switches)
+    switches_lefts depth NoSwitch h = λ l i. absurd i
+    switches_lefts depth (OneSwitch signal attributes cases rest) h =
+        each_both (λ (l : Link). Each (laws.IsBitOf ws) l.left) (cases_assigns cases) (switches_assigns rest) (cases_lefts (depth + 1) cases h.3) (switches_lefts depth rest h.4)
+
+    cases_lefts : (depth : ℕ) (cases : Cases) → AreCases ws depth cases → Each (λ (l : Link). Each (laws.IsBitOf ws) l.left) (cases_assigns cases)
+    cases_lefts depth NoCase h = λ l i. absurd i
+    cases_lefts depth (OneCase patterns assigns attributes switches rest) h =
+        each_both (λ (l : Link). Each (laws.IsBitOf ws) l.left) (assigns ++ switches_assigns switches) (cases_assigns rest)
+        (each_both (λ (l : Link). Each (laws.IsBitOf ws) l.left) assigns (switches_assigns switches) (lefts_of assigns h.1) (switches_lefts depth switches h.3)) (cases_lefts depth rest h.4)
+
+  trees_of : (p : Process) → IsProcess ws p → Each (λ (l : Link). Each (laws.IsBitOf ws) l.left) (case_assigns p.root)
+  trees_of p h =
+      each_both (λ (l : Link). Each (laws.IsBitOf ws) l.left) p.root.assigns (switches_assigns p.root.switches) (lefts_of p.root.assigns h.assigns) (switches_lefts 0 p.root.switches h.switches)
+
 readable_within : (m : Module) → IsReadableModule m → IsWithin m
 readable_within m h = record {
   cells = λ c i. cell_in m.wires c (each_of (IsCell m.wires) m.cells h.cells c i);
@@ -124,6 +154,9 @@ readable_bits m h = record {
   updates = λ p i r j. updates_of m.wires r (each_of (IsRule m.wires) p.syncs (each_of (IsProcess m.wires) m.processes h.processes p i).rules r j);
 }
 
+readable_trees : (m : Module) → IsReadableModule m → TreesHaveBits m
+readable_trees m h p i = trees_of m.wires p (each_of (IsProcess m.wires) m.processes h.processes p i)
+
 pub given_first : (d : Design) → IsReadable d → faults_within taken d.modules ≡ [] → (m : Module) → In m d.modules → (name : List ℕ) → MayBegin (table_of d.modules m) (record m { id = name })
 given_first d readable none m i name =
     let good = each_of IsReadableModule d.modules readable.modules m i in
@@ -136,4 +169,5 @@ given_first d readable none m i name =
         within = record { cells = within.cells; links = within.links; processes = within.processes };
       };
       placed = record { pins = bits.pins; updates = bits.updates };
+      trees = readable_trees m good;
     }

@@ -3,13 +3,10 @@ pub mod FoldLemmas
 pub mod Tables
 pub mod Testing
 pub mod Faultless
-pub mod NoLines
 pub mod BuildLemmas
 pub mod Given
 pub mod Reading
-pub mod Alone
 pub mod Beginning
 pub mod Stepping
-pub mod RenamingProc
 pub mod Renaming
 pub mod Refining

@@ -14,7 +14,8 @@ use Rattle.script_core.specs.declared.outcome.Outcome.{Outcome}
 use Rattle.script_core.specs.declared.word.Word.{Word}
 use Rattle.script_core.specs.Built.{body_name, unnamed, IsValueOf, IsAcceptedKey}
 use Rattle.script_core.specs.Cold.{table_of}
-use Rattle.script_core.specs.Fold.{fold_script, MayBegin}
+use Rattle.proc_steps.specs.Steps.{MayBegin}
+use Rattle.script_core.specs.Fold.{fold_script}
 use Rattle.script_core.proofs.BuildLemmas.{module_at, readable_in}
 use Rattle.script_core.proofs.Given.{given_first}
 

@@ -19,11 +19,9 @@ use Rattle.tech_map.specs.Techmap.{taken_kind, with_gates, stand_in, with_all_ga
 use Rattle.script_core.specs.declared.word.Word as words
 use Rattle.script_core.specs.declared.word.Word.TheVariants.{Proc, OptExpr, OptMerge, OptClean, Opt, Fsm, Memory, Techmap}
 use Rattle.script_core.specs.Cold.{named}
-use Rattle.rtl_ir.specs.declared.process.Process.{Process}
-use Rattle.net_model.specs.Proc.Mux.{proc_mux_of}
-use Rattle.net_model.specs.Proc.Start.{proc_tree_of}
-use Rattle.script_core.proofs.RenamingProc.{mux_renamed, processes_renamed}
-use Rattle.script_core.specs.Fold.{is_within, muxed, proc_within, techmap_within, pass_of, after_word, fold_script}
+use Rattle.proc_steps.specs.Limits.{is_within}
+use Rattle.proc_steps.proofs.Renaming.{proc_renamed}
+use Rattle.script_core.specs.Fold.{techmap_within, pass_of, after_word, fold_script}
 
 module _ (id : List ℕ) where
   -- a module under the name, and one that is added to
@@ -70,15 +68,6 @@ module _ (id : List ℕ) where
       by true = refl
       by false = refl
 
-  proc_renamed : (m : Module) (ps : List Process) → proc_within (under m) ps ≡ option_map under (proc_within m ps)
-  proc_renamed m [] = refl
-  proc_renamed m (p ∷ ps) =
-      (λ i. cond ((ap is_within (processes_renamed id (proc_tree_of m).processes (building_of (proc_tree_of m))) ∙ within_kept (muxed m)) i) (Some (mux_renamed id (proc_tree_of m) i)) None) ∙ by (is_within (muxed m))
-    where
-      by : (t : Bool) → cond t (Some (under (proc_mux_of (proc_tree_of m)))) None ≡ option_map under (cond t (Some (proc_mux_of (proc_tree_of m))) None)
-      by true = refl
-      by false = refl
-
   merge_renamed : (m : Module) → merge_of (under m) ≡ under (merge_of m)
   merge_renamed m = by (drives_own m)
     where
@@ -107,7 +96,7 @@ module _ (id : List ℕ) where
   opt_renamed P m = rounds_renamed P 32 m
 
   pass_renamed : (table : PortTable) (word : words.Word) (m : Module) → pass_of table word (under m) ≡ option_map under (pass_of table word m)
-  pass_renamed table Proc m = proc_renamed m m.processes
+  pass_renamed table Proc m = proc_renamed id (table_ports table.modules) m m.processes
   pass_renamed table OptExpr m = refl
   pass_renamed table OptMerge m = ap Some (merge_renamed m)
   pass_renamed table OptClean m = ap Some (clean_renamed (table_ports table.modules) m)

@@ -7,19 +7,8 @@ use Rattle.rtl_ir.specs.declared.module.Module.{Module}
 use Rattle.rtl_ir.specs.declared.ports.PortTable.{PortTable}
 use Rattle.net_index.specs.Builder.{IsInLimits}
 use Rattle.rtl_ir.specs.declared.process.Process.{Process}
-use Rattle.net_model.specs.Proc.Mux.{proc_mux_of}
-use Rattle.net_model.specs.Proc.Start.{proc_tree_of}
-use Rattle.proc_laws.specs.Ready as steps
-use Rattle.proc_laws.specs.Ready.{with_processes, without_processes}
 use Rattle.proc_laws.specs.Step.{IsStep}
-use Rattle.proc_laws.proofs.Taking.{taken_processes, taken_whole}
 use Rattle.proc_laws.proofs.Turns.{IsStep_refl, IsStep_trans}
-use Rattle.proc_tree.proofs.Promised as promised
-use Rattle.proc_tree.proofs.Promised.{are_ruled, have_no_lines, tree_ready}
-use Rattle.mux_laws.proofs.FormingModule.{mux_ready, mux_step}
-use Rattle.script_core.proofs.Alone.{alone, given_on}
-use Rattle.script_core.proofs.NoLines.{no_lines}
-use Rattle.rtl_check.specs.Taken.{taken}
 use Rattle.pass_laws.specs.Pass.{IsPass}
 use Rattle.pass_laws.specs.Ready.{IsReady}
 use Rattle.pass_laws.proofs.Faultless.{plain}
@@ -39,8 +28,11 @@ use Rattle.tech_map.proofs.Standing.{swapped_children, swapped_is, swapped_ports
 use Rattle.script_core.specs.declared.outcome.Outcome.TheVariants.{Done}
 use Rattle.script_core.specs.declared.word.Word.{Word}
 use Rattle.script_core.specs.declared.word.Word.TheVariants.{Proc, OptExpr, OptMerge, OptClean, Opt, Fsm, Memory, Techmap}
-use Rattle.script_core.specs.Fold.{is_within, pass_of, after_word, fold_script, AfterWord, AreApplicable, HasPass, HavePasses, IsStageScript, MayBegin, MayBeGiven, muxed, proc_within}
-use Rattle.script_core.proofs.FoldLemmas.{within_limits}
+use Rattle.script_core.specs.Fold.{pass_of, after_word, fold_script, AfterWord, AreApplicable, HasPass, HavePasses, IsStageScript, MayBeGiven}
+use Rattle.proc_steps.specs.Limits.{is_within}
+use Rattle.proc_steps.specs.Steps.{Gives, MayBegin, proc_result, proc_within}
+use Rattle.proc_steps.proofs.Limits.{within_limits}
+use Rattle.proc_steps.proofs.Giving.{proc_gives, stays}
 
 given_pass : (table : PortTable) (m k n : Module) → IsPass table m k → Some k ≡ Some n → IsPass table m n
 given_pass table m k n p e = let same : k ≡ n = cc in subst (IsPass table m) same p
@@ -62,59 +54,20 @@ techmap_pass table m h limits =
 as_step : (table : PortTable) (m n : Module) → IsPass table m n → IsStep table m n
 as_step table m n h = record { id = h.id; ports = h.ports; instances = h.instances; driven = h.driven; refines = h.refines }
 
--- a step whose answer may be given to each pass
-pub record Gives (table : PortTable) (m n : Module) : Type 0 where
-  pub step : IsStep table m n
-  pub ready : IsReady (table_ports table.modules) n
-
 gives : (table : PortTable) (m n : Module) → IsReady (table_ports table.modules) m → IsPass table m n → Gives table m n
 gives table m n h pass = record { step = as_step table m n pass; ready = pass.ready h }
-
--- `proc` of a module with processes
-module _ (table : PortTable) (m : Module) (h : MayBegin table m) where
-  abbrev P : Ports
-  P = table_ports table.modules
-
-  whole : steps.IsReady (with_processes true) P m
-  whole = taken_whole taken P m h.ready
-
-  ruled_whole : steps.IsReady (with_processes true) P (proc_tree_of m)
-  ruled_whole = tree_ready m (with_processes true) (λ p e. e) P whole
-
-  ruled_alone : steps.IsReady (with_processes false) P (proc_tree_of m)
-  ruled_alone = tree_ready m (with_processes false) (λ p e. e) P (taken_processes taken refl P m h.ready)
-
-  ruling : IsStep table m (proc_tree_of m)
-  ruling = promised.step m (Ok (proc_tree_of m)) refl table h.placed whole
-
-  muxing : IsInLimits (muxed m) → IsStep table (proc_tree_of m) (proc_mux_of (proc_tree_of m))
-  muxing limits = mux_step table (proc_tree_of m) true ruled_whole (are_ruled m) (have_no_lines m (no_lines P m h.ready.faultless)) limits.names
-
-  proc_gives : IsInLimits (muxed m) → Gives table m (proc_mux_of (proc_tree_of m))
-  proc_gives limits = record {
-    step = IsStep_trans table m (proc_tree_of m) (proc_mux_of (proc_tree_of m)) ruling (muxing limits);
-    ready = given_on P (proc_mux_of (proc_tree_of m)) (mux_ready P (proc_tree_of m) false ruled_alone limits.names (λ e. absurd cc));
-  }
-
-  -- a module without processes
-  stays : m.processes ≡ [] → Gives table m m
-  stays none = record { step = IsStep_refl table m; ready = alone P m none (taken_processes taken refl P m h.ready) }
 
 no_process : (table : PortTable) (m n : Module) (p : Process) (ps : List Process) → m.processes ≡ p ∷ ps → IsReady (table_ports table.modules) m → Gives table m n
 no_process table m n p ps e h = let none = (plain (table_ports table.modules) m h.faultless).processes in absurd cc
 
-proc_word : (table : PortTable) (m n : Module) → MayBeGiven table Proc m → proc_within m m.processes ≡ Some n → Gives table m n
+proc_word : (table : PortTable) (m n : Module) → MayBeGiven table Proc m → proc_within (table_ports table.modules) m m.processes ≡ Some n → Gives table m n
 proc_word table m n h e = by m.processes refl h e
   where
-    by : (ps : List Process) → m.processes ≡ ps → MayBeGiven table Proc m → proc_within m ps ≡ Some n → Gives table m n
+    by : (ps : List Process) → m.processes ≡ ps → MayBeGiven table Proc m → proc_within (table_ports table.modules) m ps ≡ Some n → Gives table m n
     by [] f (inr k) g = let same : m ≡ n = cc in subst (Gives table m) same (gives table m m k (IsPass_refl table m))
     by [] f (inl k) g = let same : m ≡ n = cc in subst (Gives table m) same (stays table m k f)
     by (p ∷ ps) f (inr k) g = no_process table m n p ps f k
-    by (p ∷ ps) f (inl k) g = within (is_within (muxed m)) refl g
-      where
-        within : (t : Bool) → is_within (muxed m) ≡ t → cond t (Some (proc_mux_of (proc_tree_of m))) None ≡ Some n → Gives table m n
-        within true e w = let same : proc_mux_of (proc_tree_of m) ≡ n = cc in subst (Gives table m) same (proc_gives table m k (within_limits (muxed m) e))
-        within false e w = absurd cc
+    by (p ∷ ps) f (inl k) g = proc_gives table m n k g
 
 -- a word that has a pass
 pub word_gives : (table : PortTable) (word : Word) (m n : Module) → HasPass word → MayBeGiven table word m → pass_of table word m ≡ Some n → Gives table m n

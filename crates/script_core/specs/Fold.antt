@@ -1,17 +1,11 @@
 -- What a script makes of a module, word by word.
-use Rattle.std.specs.Prelude.{◌≡◌, ◌⊎◌, ◌&&◌, nat_le, Bool, List, [], ◌∷◌, length, Option, Some, None, if◌then◌else◌}
+use Rattle.std.specs.Prelude.{◌≡◌, ◌⊎◌, List, [], ◌∷◌, Option, Some, None, if◌then◌else◌}
 use Rattle.rtl_ir.specs.declared.module.Module.{Module}
 use Rattle.rtl_ir.specs.declared.ports.PortTable.{PortTable}
-use Rattle.rtl_ir.specs.declared.process.Process.{Process}
-use Rattle.rtl_ir.specs.Build.{Building, building_of}
 use Rattle.rtl_ir.specs.Types.{table_ports}
-use Rattle.net_index.specs.Numbering.{bit_count, widths_of}
-use Rattle.net_model.specs.Proc.Mux.{proc_mux_of, processes_step}
-use Rattle.net_model.specs.Proc.Start.{proc_tree_of}
-use Rattle.rtl_check.specs.Taken.{taken}
-use Rattle.proc_laws.specs.Ready as steps
-use Rattle.proc_laws.specs.Ready.{HasItsBits}
 use Rattle.pass_laws.specs.Ready.{IsReady}
+use Rattle.proc_steps.specs.Limits.{is_within}
+use Rattle.proc_steps.specs.Steps.{MayBegin, proc_within}
 use Rattle.opt_expr.specs.Sweep.{expr_of}
 use Rattle.opt_merge.specs.Merge.{merge_of}
 use Rattle.opt_clean.specs.Clean.{clean_of}
@@ -22,28 +16,14 @@ use Rattle.script_core.specs.declared.outcome.Outcome.TheVariants.{Done, Over}
 use Rattle.script_core.specs.declared.word.Word.{Word}
 use Rattle.script_core.specs.declared.word.Word.TheVariants.{Proc, OptExpr, OptMerge, OptClean, Opt, Fsm, Memory, Techmap}
 
--- a module that is added to is within the limits on cells, on bits of wires and on the numbers of fresh names
-unfoldable pub is_within : Building → Bool
-is_within b = nat_le (length b.body.cells) 1048576 && (nat_le (bit_count (widths_of b.body.wires)) 4194304 && nat_le b.next 1000000000)
-
 -- `techmap`: None where the gates, beside the cells that they replace, pass a limit
 abbrev pub techmap_within : Module → Option Module
 techmap_within m = if is_within (beside m) then Some (techmap_of m) else None
 
--- the module after the switch rules and the moved start values, with its multiplexers
-abbrev pub muxed : Module → Building
-muxed m = processes_step (building_of (proc_tree_of m)) (proc_tree_of m).processes
-
--- `proc` of a module with these processes, none of which has a rule with a line: their trees become multiplexers; None where
--- these pass a limit. A module without processes stays as it is
-abbrev pub proc_within : Module → List Process → Option Module
-proc_within m [] = Some m
-proc_within m (p ∷ processes) = if is_within (muxed m) then Some (proc_mux_of (proc_tree_of m)) else None
-
 -- what the pass of a word makes of a module, over the ports of a table; None where that passes a limit. Some passes are not
 -- there yet: no script of this stage has their words
 abbrev pub pass_of : PortTable → Word → Module → Option Module
-pass_of table Proc m = proc_within m m.processes
+pass_of table Proc m = proc_within (table_ports table.modules) m m.processes
 pass_of table OptExpr m = Some (expr_of (table_ports table.modules) m)
 pass_of table OptMerge m = Some (merge_of m)
 pass_of table OptClean m = Some (clean_of (table_ports table.modules) m)
@@ -61,12 +41,6 @@ after_word word rest (Some m) = rest m
 abbrev pub fold_script : List Word → PortTable → Module → Outcome
 fold_script [] table m = Done m
 fold_script (word ∷ words) table m = after_word word (fold_script words table) (pass_of table word m)
-
--- a module may be given to `proc`, over the ports of a table: no fault as far as designs are taken, and each storage bit is
--- one that its wire has
-pub record MayBegin (table : PortTable) (m : Module) : Type 0 where
-  pub ready : steps.IsReady taken (table_ports table.modules) m
-  pub placed : HasItsBits m
 
 -- a module may be given to the pass of a word, over the ports of a table: without processes to each, and to `proc` with them
 abbrev pub MayBeGiven : PortTable → Word → Module → Type 0

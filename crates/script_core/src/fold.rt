@@ -1,7 +1,7 @@
 //! The passes of a script, in order.
 
 ghost use Rattle.std.specs.Prelude.{◌≡◌, Err, IfOk, None, Some};
-ghost use Rattle.script_core.specs.Fold.{AreApplicable, MayBeGiven, fold_script, pass_of, proc_within, techmap_within};
+ghost use Rattle.script_core.specs.Fold.{AreApplicable, MayBeGiven, fold_script, pass_of, techmap_within};
 ghost use Rattle.script_core.specs.declared.word.Word.TheVariants.{Proc, Techmap};
 
 use crate::outcome::Outcome;
@@ -11,17 +11,16 @@ use rtl_bits::Memory;
 use rtl_ir::{Module, PortTable};
 use std::alloc::Global;
 
-/// The module without processes: their trees become multiplexers. `Over` where these would pass a limit.
+/// The module without processes. `Over` where what stands for them would pass a limit.
 fn without_processes(alloc: Global, module: Module, ports: &PortTable) -> Result<Module, PassFault>
     requires ready { MayBeGiven ports.now Proc «module» }
-    ensures exact { IfOk result (λ after. proc_within «module» «module».processes ≡ Some after) }
-    ensures over { result ≡ Err PassFault.Over → proc_within «module» «module».processes ≡ None }
+    ensures exact { IfOk result (λ after. pass_of ports.now Proc «module» ≡ Some after) }
+    ensures over { result ≡ Err PassFault.Over → pass_of ports.now Proc «module» ≡ None }
 {
     if module.processes.as_slice().is_empty() {
         return Ok(module);
     }
-    let ruled = proc_tree::apply(alloc, &module, ports)?;
-    proc_mux::apply(alloc, &ruled, ports)
+    proc_steps::apply(alloc, &module, ports)
 }
 
 /// The module with its cells mapped. `Over` where the gates would pass a limit.

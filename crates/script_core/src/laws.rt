@@ -16,7 +16,8 @@ ghost use Rattle.script_core.specs.declared.outcome.Outcome.TheVariants.{Done};
 ghost use Rattle.script_core.specs.declared.word.Word.{Word};
 ghost use Rattle.script_core.specs.Built.{IsValueOf, unnamed};
 ghost use Rattle.script_core.specs.Cold.{IsNetlist, cold, named, outcome_of, table_of};
-ghost use Rattle.script_core.specs.Fold.{MayBegin, IsStageScript, fold_script};
+ghost use Rattle.proc_steps.specs.Steps.{MayBegin};
+ghost use Rattle.script_core.specs.Fold.{IsStageScript, fold_script};
 ghost use Rattle.script_core.specs.Keys.{key_of};
 
 /// The table of a module has the ports that the design has for each of its instances; so a module of an

@@ -14,10 +14,11 @@ use Rattle.rtl_ir.specs.Flat.Cell.{listed}
 use Rattle.rtl_ir.specs.Flat.Driver.{Driver, Driven}
 use Rattle.rtl_ir.specs.Flat.Place.{Place, place_same}
 use Rattle.rtl_ir.specs.Flat.Tree.{driven_rows, undriven}
+use Rattle.flat_net.specs.declared.leaves.HeldBit.{HeldBit}
 use Rattle.flat_net.specs.declared.net.StoreBit.{StoreBit}
 use Rattle.flat_net.specs.declared.net.Part.{Part}
 use Rattle.flat_net.specs.Parts.{part_rows, parts_rows}
-use Rattle.flat_net.specs.Within.{ArePartsWithin, IsPartWithin, IsStoreWithin}
+use Rattle.flat_net.specs.Within.{ArePartsWithin, IsHeldBitWithin, IsPartWithin, IsStoreWithin}
 use Rattle.flat_net.specs.Points.{place_at, AreApart}
 use Rattle.net_model.specs.Lists.{In}
 use Rattle.net_model.specs.Run.{Time}
@@ -191,6 +192,11 @@ first_single n driver seen new part kept was rows number e is marks =
 pub stores_within : (count : ℕ) (bits : List StoreBit) → AllByRecursion (IsStoreWithin count) bits → AllByRecursion (λ (b : StoreBit). b.number < count) bits
 stores_within count [] h = h
 stores_within count (b ∷ bits) h = (h.0.0, stores_within count bits h.1)
+
+-- the same of all bits that a rule updates
+pub held_within : (count width : ℕ) (bits : List HeldBit) → AllByRecursion (IsHeldBitWithin count width) bits → AllByRecursion (λ (b : HeldBit). b.number < count) bits
+held_within count width [] h = h
+held_within count width (b ∷ bits) h = (h.0.0, held_within count width bits h.1)
 
 -- a part more
 pub first_next : (ps : List Place) (kept : List Part) (more : Option Part) (seen new : List Bool) (part : Part) (rest : List Part) (all : List Driven) → AreApart ps → length ps ≡ length seen → IsPartWithin (length ps) part → IsFirstOf seen new part more → parts_rows ps kept ++ firsts (found false ps seen) (parts_rows ps (part ∷ rest)) ≡ all → parts_rows ps (kept ++ listed more) ++ firsts (found false ps new) (parts_rows ps rest) ≡ all

@@ -65,6 +65,8 @@ module _ (ps : List Place) where
   part_computable (part.Logic c) h = logic_computable c.value h
   part_computable (part.Storage c) h = storage_computable c.value h
   part_computable (part.Tree t) h = refl
+  part_computable (part.Held u) h = refl
+  part_computable (part.Raced r) h = refl
 
   parts_computable : (parts : List Part) → AreWithin (parts_rows ps parts) → are_computable parts ≡ true
   parts_computable [] h = refl

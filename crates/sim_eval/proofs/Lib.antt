@@ -10,3 +10,7 @@ pub mod Simulating
 pub mod Limits
 pub mod Computable
 pub mod Kept
+pub mod Expanding
+pub mod Racing
+pub mod Common
+pub mod SameBits

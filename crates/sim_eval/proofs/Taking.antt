@@ -11,7 +11,6 @@ use Rattle.rtl_bits.specs.Knowledge.{FlatBelow}
 use Rattle.rtl_bits.proofs.Orders.{FlatBelow_trans}
 use Rattle.rtl_ir.specs.Flat.Driver.{Driven}
 use Rattle.rtl_ir.specs.Flat.Place.{Place, place_same}
-use Rattle.flat_net.specs.declared.net.Output.{Output}
 use Rattle.flat_net.specs.Points.{place_at, AreApart}
 use Rattle.net_model.specs.Run.{Time}
 use Rattle.net_model.specs.Settle.{Pointwise}
@@ -21,9 +20,8 @@ use Rattle.net_model.proofs.Drivers.{value_kept, time_refl}
 use Rattle.net_model.proofs.Members.{In-left, In-right, In-cases, In-map, In-mapped, map-append}
 use Rattle.net_model.proofs.Orders.{flat as flat_order}
 use Rattle.net_model.proofs.Places.{place_same-same}
-use Rattle.sim_eval.specs.declared.cell.Worked.{Worked}
-use Rattle.sim_eval.specs.Advance.{AreMet, Advances, AreHeld, Fact, Takes, output_fact, unknowns, AreFewer, AreLeast, AreUnder}
-use Rattle.sim_eval.specs.Numbers.{is_x, gains, put_of, worked_bit}
+use Rattle.sim_eval.specs.Advance.{AreMet, Advances, AreHeld, Fact, Takes, unknowns, AreFewer, AreLeast, AreUnder}
+use Rattle.sim_eval.specs.Numbers.{is_x, gains, put_of}
 use Rattle.sim_eval.specs.Shown.{shown}
 use Rattle.sim_eval.proofs.Tables.{found_at, found_set, shown_unknown}
 
@@ -183,6 +181,24 @@ pub advances_put : (ps : List Place) (t : Time Place) (r : Driven) (old : List B
 advances_put ps t r old n value apart same l e f =
     advances_by ps t (r ∷ []) old (put_of old n value) (gains old n value) (subst (λ z. Takes ps (z ∷ []) old (put_of old n value) (gains old n value)) (λ i. record { place = sym e i; value = sym f i }) (takes_put ps old n value apart same l))
 
+-- the same, of what was put
+pub advances_by_put : (ps : List Place) (t : Time Place) (r : Driven) (old new : List Bit) (changed : Bool) (n : ℕ) (value : Bit) → AreApart ps → length ps ≡ length old → n < length ps → r.place ≡ place_at ps n → value_of r.driver t (shown ps old) ≡ value → new ≡ put_of old n value → changed ≡ gains old n value → Advances ps t (r ∷ []) old new changed
+advances_by_put ps t r old new changed n value apart same l e f put gain =
+    subst (λ z. Advances ps t (r ∷ []) old new z) (sym gain) (subst (λ z. Advances ps t (r ∷ []) old z (gains old n value)) (sym put) (advances_put ps t r old n value apart same l e f))
+
+-- a bit that has a value gains none
+gains_none : (old : List Bit) (n : ℕ) (value : Bit) → is_x (get_or old n X) ≡ false → gains old n value ≡ false
+gains_none old n value e =
+    ap (λ z. nat_lt n (length old) && (z && not (is_x value))) e
+    ∙ elim (nat_lt n (length old)) as (λ t. (t && false) ≡ false) [ true ↦ refl | false ↦ refl ]
+
+-- a row whose bit has a value leads nowhere
+pub advances_known : (ps : List Place) (t : Time Place) (r : Driven) (old : List Bit) (n : ℕ) → AreApart ps → length ps ≡ length old → n < length ps → r.place ≡ place_at ps n → not (is_x (get_or old n X)) ≡ true → Advances ps t (r ∷ []) old old false
+advances_known ps t r old n apart same l e known =
+    let value = value_of r.driver t (shown ps old) in
+    let none : gains old n value ≡ false = gains_none old n value (not_true (is_x (get_or old n X)) known) in
+    advances_by_put ps t r old old false n value apart same l e refl (sym (ap (λ z. if z then set old n value else old) none)) (sym none)
+
 -- something is so of an element of a list where it is so of all
 pub all_at : {A : Type 0} (P : A → Type 0) (xs : List A) (i : ℕ) (d : A) → AllByRecursion P xs → i < length xs → P (get_or xs i d)
 all_at P [] i d h l = absurd (omega arith)
@@ -211,17 +227,22 @@ module _ (ps : List Place) (t : Time Place) {A : Type 0} (xs : List A) (i : ℕ)
       ap (map row) (take_more xs i d l) ∙ map-append row (take i xs) (get_or xs i d ∷ []) in
       subst (λ z. Advances ps t z a c (f || g)) (sym more) (advances_more ps t (map row (take i xs)) (row (get_or xs i d) ∷ []) a b c f g h k)
 
--- a bit of an output more
-pub takes_next : (ps : List Place) (worked : Worked) (outputs : List Output) (i : ℕ) (d : Output) (a b c : List Bit) (f g : Bool) (bit : Bit) → i < length outputs → AreApart ps → length ps ≡ length b → AllByRecursion (λ (o : Output). o.number < length ps) outputs → bit ≡ worked_bit worked (get_or outputs i d).at → c ≡ put_of b (get_or outputs i d).number bit → g ≡ gains b (get_or outputs i d).number bit → Takes ps (map (output_fact ps worked) (take i outputs)) a b f → Takes ps (map (output_fact ps worked) (take (i + 1) outputs)) a c (f || g)
-takes_next ps worked outputs i d a b c f g bit l apart same within is new gain h =
-    let o = get_or outputs i d in
-    let more : map (output_fact ps worked) (take (i + 1) outputs) ≡ map (output_fact ps worked) (take i outputs) ++ output_fact ps worked o ∷ [] =
-    ap (map (output_fact ps worked)) (take_more outputs i d l) ∙ map-append (output_fact ps worked) (take i outputs) (o ∷ []) in
-    let put : Takes ps (output_fact ps worked o ∷ []) b (put_of b o.number bit) (gains b o.number bit) =
-    subst (λ z. Takes ps (record { place = place_at ps o.number; value = z } ∷ []) b (put_of b o.number bit) (gains b o.number bit)) is (takes_put ps b o.number bit apart same (all_at (λ (x : Output). x.number < length ps) outputs i d within l)) in
-    let there : Takes ps (output_fact ps worked o ∷ []) b c g =
-    subst (λ z. Takes ps (output_fact ps worked o ∷ []) b c z) (sym gain) (subst (λ z. Takes ps (output_fact ps worked o ∷ []) b z (gains b o.number bit)) (sym new) put) in
-    subst (λ z. Takes ps z a c (f || g)) (sym more) (takes_more ps (map (output_fact ps worked) (take i outputs)) (output_fact ps worked o ∷ []) a b c f g h there)
+-- a fact more
+takes_next_fact : (ps : List Place) {A : Type 0} (fact : A → Fact) (xs : List A) (i : ℕ) (d : A) (a b c : List Bit) (f g : Bool) → i < length xs → Takes ps (map fact (take i xs)) a b f → Takes ps (fact (get_or xs i d) ∷ []) b c g → Takes ps (map fact (take (i + 1) xs)) a c (f || g)
+takes_next_fact ps fact xs i d a b c f g l h k =
+    let more : map fact (take (i + 1) xs) ≡ map fact (take i xs) ++ fact (get_or xs i d) ∷ [] =
+    ap (map fact) (take_more xs i d l) ∙ map-append fact (take i xs) (get_or xs i d ∷ []) in
+    subst (λ z. Takes ps z a c (f || g)) (sym more) (takes_more ps (map fact (take i xs)) (fact (get_or xs i d) ∷ []) a b c f g h k)
+
+-- an element more, whose bit is given what a fact says
+pub takes_next : (ps : List Place) {A : Type 0} (number : A → ℕ) (value : A → Bit) (xs : List A) (i : ℕ) (d : A) (a b c : List Bit) (f g : Bool) (bit : Bit) → i < length xs → AreApart ps → length ps ≡ length b → AllByRecursion (λ x. number x < length ps) xs → bit ≡ value (get_or xs i d) → c ≡ put_of b (number (get_or xs i d)) bit → g ≡ gains b (number (get_or xs i d)) bit → Takes ps (map (λ x. record { place = place_at ps (number x); value = value x }) (take i xs)) a b f → Takes ps (map (λ x. record { place = place_at ps (number x); value = value x }) (take (i + 1) xs)) a c (f || g)
+takes_next ps number value xs i d a b c f g bit l apart same within is new gain h =
+    let n = number (get_or xs i d) in
+    let put : Takes ps (record { place = place_at ps n; value = value (get_or xs i d) } ∷ []) b (put_of b n bit) (gains b n bit) =
+    subst (λ z. Takes ps (record { place = place_at ps n; value = z } ∷ []) b (put_of b n bit) (gains b n bit)) is (takes_put ps b n bit apart same (all_at (λ x. number x < length ps) xs i d within l)) in
+    let there : Takes ps (record { place = place_at ps n; value = value (get_or xs i d) } ∷ []) b c g =
+    subst (λ z. Takes ps (record { place = place_at ps n; value = value (get_or xs i d) } ∷ []) b c z) (sym gain) (subst (λ z. Takes ps (record { place = place_at ps n; value = value (get_or xs i d) } ∷ []) b z (gains b n bit)) (sym new) put) in
+    takes_next_fact ps (λ x. record { place = place_at ps (number x); value = value x }) xs i d a b c f g l h there
 
 -- what is so of an answer is so of it by what follows
 pub if_ok_more : {A E : Type 0} (r : Result A E) (P Q : A → Type 0) → ((a : A) → P a → Q a) → IfOk r P → IfOk r Q

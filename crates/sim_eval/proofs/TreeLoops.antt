@@ -9,11 +9,12 @@ use Rattle.rtl_bits.specs.declared.bit.Bit.{Bit}
 use Rattle.rtl_bits.specs.declared.bit.Bit.TheVariants.{S0, S1, X, Z, M, Dash}
 use Rattle.rtl_bits.specs.Tables.{and_of, merge_of}
 use Rattle.flat_net.specs.declared.choices.Assign.{Assign}
+use Rattle.flat_net.specs.declared.leaves.Source.{Source}
 use Rattle.flat_net.specs.declared.net.Point.{Point}
 use Rattle.flat_net.specs.Choices.{BranchView, ChoiceView, branches_of, choices_of}
+use Rattle.flat_net.specs.Picks.{source_of}
 use Rattle.net_model.specs.Picked.{chosen_of}
-use Rattle.sim_eval.specs.Numbers.{number_read, number_word}
-use Rattle.sim_eval.specs.Trees.{assigned_value, bit_of, branch_match, branch_value, branches_value, choices_value, merged_with, number_pattern_match, number_place_match}
+use Rattle.sim_eval.specs.Trees.{assigned_value, bit_of, branch_match, branch_value, branches_value, choices_value, compared, merged_with, number_pattern_match, number_place_match}
 use Rattle.flat_net.proofs.TreeBits.{drop_here}
 
 front : {A : Type 0} (items : List A) (k : ℕ) (x : A) → k < length items → x ≡ get_or items k x → drop k items ≡ x ∷ drop (k + 1) items
@@ -90,68 +91,68 @@ set_not bits n v past at lt = by (nat_eq n at) refl
     by true e = let same : n ≡ at = eqb-true n at e in absurd (omega arith)
     by false e = refl
 
-module _ (values : List Bit) (at : ℕ) where
-  pub assign_next : (assigns : List Assign) (k : ℕ) (a : Assign) → k < length assigns → a ≡ get_or assigns k a → (old new all : Bit) → new ≡ (if nat_eq a.at at then number_read values a.from else old)
-      → assigned_value values at (drop k assigns) old ≡ all → assigned_value values at (drop (k + 1) assigns) new ≡ all
+module _ (values : List Bit) (reset : Bit) (given : Source → Bit) (at : ℕ) where
+  pub assign_next : (assigns : List Assign) (k : ℕ) (a : Assign) → k < length assigns → a ≡ get_or assigns k a → (old new all : Bit) → new ≡ (if nat_eq a.at at then given (source_of a) else old)
+      → assigned_value values reset given at (drop k assigns) old ≡ all → assigned_value values reset given at (drop (k + 1) assigns) new ≡ all
   assign_next assigns k a lt is old new all put before =
-      ap (assigned_value values at (drop (k + 1) assigns)) put ∙ ap (λ xs. assigned_value values at xs old) (sym (front assigns k a lt is)) ∙ before
+      ap (assigned_value values reset given at (drop (k + 1) assigns)) put ∙ ap (λ xs. assigned_value values reset given at xs old) (sym (front assigns k a lt is)) ∙ before
 
-  pub assign_end : (assigns : List Assign) (k : ℕ) → length assigns ≤ k → (old all : Bit) → assigned_value values at (drop k assigns) old ≡ all → old ≡ all
-  assign_end assigns k past old all before = ap (λ xs. assigned_value values at xs old) (sym (drop_all k assigns past)) ∙ before
+  pub assign_end : (assigns : List Assign) (k : ℕ) → length assigns ≤ k → (old all : Bit) → assigned_value values reset given at (drop k assigns) old ≡ all → old ≡ all
+  assign_end assigns k past old all before = ap (λ xs. assigned_value values reset given at xs old) (sym (drop_all k assigns past)) ∙ before
 
   -- choices
 
-  pub choice_next : (items : List ChoiceView) (k : ℕ) (c : ChoiceView) → k < length items → c ≡ get_or items k c → (old new all : Bit) → new ≡ branches_value values at (number_word values c.signal) c.branches old old
-      → choices_value values at (choices_of (drop k items)) old ≡ all → choices_value values at (choices_of (drop (k + 1) items)) new ≡ all
+  pub choice_next : (items : List ChoiceView) (k : ℕ) (c : ChoiceView) → k < length items → c ≡ get_or items k c → (old new all : Bit) → new ≡ branches_value values reset given at (compared values reset c.signal c.test) c.branches old old
+      → choices_value values reset given at (choices_of (drop k items)) old ≡ all → choices_value values reset given at (choices_of (drop (k + 1) items)) new ≡ all
   choice_next items k c lt is old new all put before =
-      ap (choices_value values at (choices_of (drop (k + 1) items))) put ∙ ap (λ xs. choices_value values at (choices_of xs) old) (sym (front items k c lt is)) ∙ before
+      ap (choices_value values reset given at (choices_of (drop (k + 1) items))) put ∙ ap (λ xs. choices_value values reset given at (choices_of xs) old) (sym (front items k c lt is)) ∙ before
 
-  pub choice_end : (items : List ChoiceView) (k : ℕ) → length items ≤ k → (old all : Bit) → choices_value values at (choices_of (drop k items)) old ≡ all → old ≡ all
-  choice_end items k past old all before = ap (λ xs. choices_value values at (choices_of xs) old) (sym (drop_all k items past)) ∙ before
+  pub choice_end : (items : List ChoiceView) (k : ℕ) → length items ≤ k → (old all : Bit) → choices_value values reset given at (choices_of (drop k items)) old ≡ all → old ≡ all
+  choice_end items k past old all before = ap (λ xs. choices_value values reset given at (choices_of xs) old) (sym (drop_all k items past)) ∙ before
 
   -- branches
 
   module _ (signal : List Bit) (items : List BranchView) (k : ℕ) (b : BranchView) (lt : k < length items) (is : b ≡ get_or items k b) (e all : Bit) where
-    here : branches_value values at signal (branches_of (drop k items)) e e ≡ chosen_of (branch_match values signal b.patterns) (branch_value values at b e) (branches_value values at signal (branches_of (drop (k + 1) items)) e e)
-    here = ap (λ xs. branches_value values at signal (branches_of xs) e e) (front items k b lt is)
+    here : branches_value values reset given at signal (branches_of (drop k items)) e e ≡ chosen_of (branch_match values signal b.patterns) (branch_value values reset given at b e) (branches_value values reset given at signal (branches_of (drop (k + 1) items)) e e)
+    here = ap (λ xs. branches_value values reset given at signal (branches_of xs) e e) (front items k b lt is)
 
     -- a branch that does not match
-    pub branch_passed : branch_match values signal b.patterns ≡ S0 → (merged : Option (List Bit)) → merged_with merged at (branches_value values at signal (branches_of (drop k items)) e e) ≡ all
-        → merged_with merged at (branches_value values at signal (branches_of (drop (k + 1) items)) e e) ≡ all
+    pub branch_passed : branch_match values signal b.patterns ≡ S0 → (merged : Option (List Bit)) → merged_with merged at (branches_value values reset given at signal (branches_of (drop k items)) e e) ≡ all
+        → merged_with merged at (branches_value values reset given at signal (branches_of (drop (k + 1) items)) e e) ≡ all
     branch_passed not merged before =
-        ap (λ t. merged_with merged at (chosen_of t (branch_value values at b e) (branches_value values at signal (branches_of (drop (k + 1) items)) e e))) (sym not)
+        ap (λ t. merged_with merged at (chosen_of t (branch_value values reset given at b e) (branches_value values reset given at signal (branches_of (drop (k + 1) items)) e e))) (sym not)
         ∙ ap (merged_with merged at) (sym here) ∙ before
 
     -- a branch that matches
-    pub branch_taken : branch_match values signal b.patterns ≡ S1 → (merged : Option (List Bit)) (new : Bit) → new ≡ branch_value values at b e → merged_with merged at (branches_value values at signal (branches_of (drop k items)) e e) ≡ all
+    pub branch_taken : branch_match values signal b.patterns ≡ S1 → (merged : Option (List Bit)) (new : Bit) → new ≡ branch_value values reset given at b e → merged_with merged at (branches_value values reset given at signal (branches_of (drop k items)) e e) ≡ all
         → merged_with merged at new ≡ all
     branch_taken sure merged new put before =
         ap (merged_with merged at) put
-        ∙ ap (λ t. merged_with merged at (chosen_of t (branch_value values at b e) (branches_value values at signal (branches_of (drop (k + 1) items)) e e))) (sym sure)
+        ∙ ap (λ t. merged_with merged at (chosen_of t (branch_value values reset given at b e) (branches_value values reset given at signal (branches_of (drop (k + 1) items)) e e))) (sym sure)
         ∙ ap (merged_with merged at) (sym here) ∙ before
 
     -- a branch that may match
-    pub branch_open : (branch_match values signal b.patterns ≡ S0 → ⊥) → (branch_match values signal b.patterns ≡ S1 → ⊥) → (merged more : Option (List Bit)) (other : Bit) → other ≡ branch_value values at b e
-        → ((v : Bit) → merged_with more at v ≡ merged_with merged at (merge_of other v)) → merged_with merged at (branches_value values at signal (branches_of (drop k items)) e e) ≡ all
-        → merged_with more at (branches_value values at signal (branches_of (drop (k + 1) items)) e e) ≡ all
+    pub branch_open : (branch_match values signal b.patterns ≡ S0 → ⊥) → (branch_match values signal b.patterns ≡ S1 → ⊥) → (merged more : Option (List Bit)) (other : Bit) → other ≡ branch_value values reset given at b e
+        → ((v : Bit) → merged_with more at v ≡ merged_with merged at (merge_of other v)) → merged_with merged at (branches_value values reset given at signal (branches_of (drop k items)) e e) ≡ all
+        → merged_with more at (branches_value values reset given at signal (branches_of (drop (k + 1) items)) e e) ≡ all
     branch_open not0 not1 merged more other is_other put before =
-        put (branches_value values at signal (branches_of (drop (k + 1) items)) e e)
+        put (branches_value values reset given at signal (branches_of (drop (k + 1) items)) e e)
         ∙ ap (merged_with merged at) (by (branch_match values signal b.patterns) not0 not1)
         ∙ ap (merged_with merged at) (sym here) ∙ before
       where
         by : (t : Bit) → (t ≡ S0 → ⊥) → (t ≡ S1 → ⊥)
-            → merge_of other (branches_value values at signal (branches_of (drop (k + 1) items)) e e) ≡ chosen_of t (branch_value values at b e) (branches_value values at signal (branches_of (drop (k + 1) items)) e e)
+            → merge_of other (branches_value values reset given at signal (branches_of (drop (k + 1) items)) e e) ≡ chosen_of t (branch_value values reset given at b e) (branches_value values reset given at signal (branches_of (drop (k + 1) items)) e e)
         by S0 n0 n1 = absurd (n0 refl)
         by S1 n0 n1 = absurd (n1 refl)
-        by X n0 n1 = ap (λ z. merge_of z (branches_value values at signal (branches_of (drop (k + 1) items)) e e)) is_other
-        by Z n0 n1 = ap (λ z. merge_of z (branches_value values at signal (branches_of (drop (k + 1) items)) e e)) is_other
-        by M n0 n1 = ap (λ z. merge_of z (branches_value values at signal (branches_of (drop (k + 1) items)) e e)) is_other
-        by Dash n0 n1 = ap (λ z. merge_of z (branches_value values at signal (branches_of (drop (k + 1) items)) e e)) is_other
+        by X n0 n1 = ap (λ z. merge_of z (branches_value values reset given at signal (branches_of (drop (k + 1) items)) e e)) is_other
+        by Z n0 n1 = ap (λ z. merge_of z (branches_value values reset given at signal (branches_of (drop (k + 1) items)) e e)) is_other
+        by M n0 n1 = ap (λ z. merge_of z (branches_value values reset given at signal (branches_of (drop (k + 1) items)) e e)) is_other
+        by Dash n0 n1 = ap (λ z. merge_of z (branches_value values reset given at signal (branches_of (drop (k + 1) items)) e e)) is_other
 
   -- no branch is left
-  pub branch_end : (signal : List Bit) (items : List BranchView) (k : ℕ) → length items ≤ k → (merged : Option (List Bit)) (e all : Bit) → merged_with merged at (branches_value values at signal (branches_of (drop k items)) e e) ≡ all → merged_with merged at e ≡ all
+  pub branch_end : (signal : List Bit) (items : List BranchView) (k : ℕ) → length items ≤ k → (merged : Option (List Bit)) (e all : Bit) → merged_with merged at (branches_value values reset given at signal (branches_of (drop k items)) e e) ≡ all → merged_with merged at e ≡ all
   branch_end signal items k past merged e all before =
-      ap (λ xs. merged_with merged at (branches_value values at signal (branches_of xs) e e)) (sym (drop_all k items past)) ∙ before
+      ap (λ xs. merged_with merged at (branches_value values reset given at signal (branches_of xs) e e)) (sym (drop_all k items past)) ∙ before
 
 -- patterns
 

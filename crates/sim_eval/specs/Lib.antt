@@ -5,5 +5,8 @@ pub mod First
 pub mod Moment
 pub mod Numbers
 pub mod Trees
+pub mod Walk
+pub mod Leaves
+pub mod Race
 pub mod Advance
 pub mod Limits

@@ -75,6 +75,8 @@ is_part_computable (part.Joined j) = true
 is_part_computable (part.Logic c) = is_computable c.value
 is_part_computable (part.Storage c) = keeps_bits c.value
 is_part_computable (part.Tree t) = true
+is_part_computable (part.Held h) = true
+is_part_computable (part.Raced r) = true
 
 -- the same of several parts
 abbrev pub are_computable : List Part → Bool

@@ -1,15 +1,21 @@
 -- What tree bits have, by the values of the numbered bits.
-use Rattle.std.specs.Prelude.{ℕ, nat_eq, List, [], ◌∷◌, Option, Some, None, slice_index_or, if◌then◌else◌}
+use Rattle.std.specs.Prelude.{ℕ, Bool, nat_eq, List, [], ◌∷◌, Option, Some, None, slice_index_or, if◌then◌else◌}
 use Rattle.rtl_bits.specs.declared.bit.Bit.{Bit}
 use Rattle.rtl_bits.specs.declared.bit.Bit.TheVariants.{S0, S1, X}
 use Rattle.rtl_bits.specs.Knowledge.{is_known}
 use Rattle.rtl_bits.specs.Tables.{and_of, merge_of, or_of}
 use Rattle.flat_net.specs.declared.choices.Assign.{Assign}
+use Rattle.flat_net.specs.declared.leaves.Source.{Source}
 use Rattle.flat_net.specs.declared.net.Point.{Point}
 use Rattle.flat_net.specs.declared.net.Point.TheVariants.{Constant, At}
 use Rattle.flat_net.specs.Choices.{Choices, NoChoice, OneChoice, Branches, NoBranch, OneBranch, BranchView}
-use Rattle.net_model.specs.Picked.{chosen_of, equal_of}
-use Rattle.sim_eval.specs.Numbers.{number_read, number_word}
+use Rattle.flat_net.specs.Picks.{source_of}
+use Rattle.net_model.specs.Picked.{chosen_of, equal_of, tested_of}
+use Rattle.sim_eval.specs.Numbers.{number_word}
+
+-- what a tree bit is before all assigns
+abbrev pub unassigned : Source
+unassigned = record { from = Constant X; tree = None }
 
 module _ (values : List Bit) where
   -- whether a bit of a signal matches a place of a pattern; an unknown constant there matches anything
@@ -33,20 +39,27 @@ module _ (values : List Bit) where
   branch_match signal [] = S1
   branch_match signal (p ∷ patterns) = number_case_match signal (p ∷ patterns)
 
-  module _ (at : ℕ) where
+  -- what a choice compares its patterns with: its signal, or its test of a reset with this value
+  abbrev pub compared : Bit → List Point → Option Bool → List Bit
+  compared reset signal None = number_word values signal
+  compared reset signal (Some inverse) = tested_of inverse reset ∷ []
+
+  -- where a reset has this value, and sources have these
+  module _ (reset : Bit) (given : Source → Bit) (at : ℕ) where
     -- what assigns make of an earlier value of the tree bit at a place
     abbrev pub assigned_value : List Assign → Bit → Bit
     assigned_value [] earlier = earlier
-    assigned_value (a ∷ assigns) earlier = assigned_value assigns (if nat_eq a.at at then number_read values a.from else earlier)
+    assigned_value (a ∷ assigns) earlier = assigned_value assigns (if nat_eq a.at at then given (source_of a) else earlier)
 
     abbrev mutual
       -- what choices make of an earlier value
       pub choices_value : Choices → Bit → Bit
       choices_value NoChoice earlier = earlier
-      choices_value (OneChoice signal branches rest) earlier =
-          choices_value rest (branches_value (number_word values signal) branches earlier earlier)
+      choices_value (OneChoice signal test branches rest) earlier =
+          choices_value rest (branches_value (compared reset signal test) branches earlier earlier)
 
-      -- what the branches of a choice of a signal make of an earlier value, where this is the value that no branch takes
+      -- what the branches of a choice make of an earlier value, where this is compared with their patterns, and this is the
+      -- value that no branch takes
       pub branches_value : List Bit → Branches → Bit → Bit → Bit
       branches_value signal NoBranch earlier last = last
       branches_value signal (OneBranch patterns assigns choices rest) earlier last =
@@ -57,9 +70,9 @@ module _ (values : List Bit) where
     abbrev pub branch_value : BranchView → Bit → Bit
     branch_value b earlier = choices_value b.choices (assigned_value b.assigns earlier)
 
-    -- the value of the tree bit at the place, by the root of the tree
+    -- the value of the tree bit at the place, by the root of the tree: x stands before all assigns
     abbrev pub tree_value : BranchView → Bit
-    tree_value root = branch_value root X
+    tree_value root = branch_value root (given unassigned)
 
 -- the bit at a place, x past the end
 abbrev pub bit_of : List Bit → ℕ → Bit

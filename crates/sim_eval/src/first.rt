@@ -4,6 +4,7 @@ ghost use Rattle.std.specs.Prelude.{◌≡◌, ◌++◌, ℕ, false, not, true, 
 ghost use Rattle.rtl_ir.specs.Flat.Cell.{listed};
 ghost use Rattle.rtl_ir.specs.Flat.Place.{Place};
 ghost use Rattle.flat_net.specs.declared.net.Output.{Output};
+ghost use Rattle.flat_net.specs.declared.leaves.HeldBit.{HeldBit};
 ghost use Rattle.flat_net.specs.declared.net.StoreBit.{StoreBit};
 ghost use Rattle.flat_net.specs.Parts.{parts_rows};
 ghost use Rattle.flat_net.specs.Points.{AreApart};
@@ -11,7 +12,7 @@ ghost use Rattle.flat_net.specs.Within.{ArePartsWithin};
 ghost use Rattle.sim_eval.specs.First.{IsFirstOf, firsts, marked, unmarked};
 ghost use Rattle.sim_eval.specs.Shown.{found};
 
-use flat_net::{Output, Part, StoreBit};
+use flat_net::{HeldBit, Output, Part, StoreBit};
 use rtl_bits::{Memory, Seq};
 use std::alloc::Global;
 
@@ -61,6 +62,20 @@ fn first_bits(alloc: Global, bits: &[StoreBit], seen: &mut [bool]) -> Result<Seq
     Ok(kept)
 }
 
+/// The bits that a rule updates whose numbers have no mark. They get one.
+fn first_held(alloc: Global, bits: &[HeldBit], seen: &mut [bool]) -> Result<Seq<HeldBit>, Memory>
+    ensures value { IfOk result (λ kept. kept ≡ unmarked (λ (b : HeldBit). b.number) seen.old bits.now) }
+    ensures seen { OnOk result (seen.new ≡ marked (λ (b : HeldBit). b.number) seen.old bits.now) }
+{
+    let mut kept = Seq::make(alloc);
+    for bit in bits {
+        if mark(seen, bit.number) {
+            kept.push(*bit)?;
+        }
+    }
+    Ok(kept)
+}
+
 /// The part without the bits whose numbers have a mark. The others get one.
 fn first_of_part(alloc: Global, part: Part, seen: &mut [bool]) -> Result<Option<Part>, Memory>
     ensures first { IfOk result (IsFirstOf seen.old seen.new part) }
@@ -79,6 +94,14 @@ fn first_of_part(alloc: Global, part: Part, seen: &mut [bool]) -> Result<Option<
         Part::Tree(mut tree) => {
             tree.outputs = first_outputs(alloc, tree.outputs.as_slice(), seen)?;
             Ok(Some(Part::Tree(tree)))
+        }
+        Part::Held(mut held) => {
+            held.bits = first_held(alloc, held.bits.as_slice(), seen)?;
+            Ok(Some(Part::Held(held)))
+        }
+        Part::Raced(mut raced) => {
+            raced.bits = first_held(alloc, raced.bits.as_slice(), seen)?;
+            Ok(Some(Part::Raced(raced)))
         }
     }
 }

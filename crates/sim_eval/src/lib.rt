@@ -2,14 +2,19 @@
 #![tactic(auto)]
 
 mod cell;
+mod expand;
 mod first;
+mod held;
 pub mod laws;
 mod matching;
 mod moment;
+mod race;
+mod raced;
 mod sim;
 mod store;
 mod sweep;
 mod tree;
 mod values;
+mod walk;
 
 pub use sim::Sim;

@@ -12,7 +12,9 @@ ghost use Rattle.sim_eval.specs.Moment.{HasBefore, IsBoard, time_of};
 ghost use Rattle.sim_eval.specs.Numbers.{given_of};
 
 use crate::cell::update_logic;
+use crate::held::update_held;
 use crate::moment::Moment;
+use crate::raced::update_raced;
 use crate::store::update_storage;
 use crate::tree::update_tree;
 use crate::values::{bit_at, passed, put, read};
@@ -78,6 +80,8 @@ fn update(alloc: Global, moment: &Moment, part: &Part, now: &mut [Bit]) -> Resul
         Part::Logic(cell) => update_logic(alloc, cell, now),
         Part::Storage(cell) => Ok(update_storage(moment, cell, now)),
         Part::Tree(tree) => update_tree(alloc, tree, now),
+        Part::Held(held) => update_held(alloc, moment, held, now),
+        Part::Raced(raced) => update_raced(alloc, moment, raced, now),
     }
 }
 

@@ -1,10 +1,10 @@
 //! The values of bits by number.
 
-ghost use Rattle.std.specs.Prelude.{◌≡◌, ◌<◌, IfOk, IsTrue, length, map, slice_index_or};
+ghost use Rattle.std.specs.Prelude.{◌≡◌, ◌<◌, IfOk, IsTrue, length, map, not, slice_index_or};
 ghost use Rattle.flat_net.specs.declared.net.Point.{Point};
 ghost use Rattle.net_model.specs.Valuation.{passed_of};
 ghost use Rattle.sim_eval.specs.Advance.{AreFewer};
-ghost use Rattle.sim_eval.specs.Numbers.{gains, number_read, put_of};
+ghost use Rattle.sim_eval.specs.Numbers.{gains, is_x, number_read, put_of};
 
 use flat_net::Point;
 use rtl_bits::{Bit, Bits, Memory, Seq};
@@ -22,6 +22,13 @@ pub(crate) fn bit_in(bits: &[Bit], at: usize) -> Bit
     ensures value { result ≡ slice_index_or bits.now at Bit.X }
 {
     if at < bits.len() { bits[at] } else { Bit::X }
+}
+
+/// Whether the bit of a number has a value.
+pub(crate) fn has_value(bits: &[Bit], at: u32) -> bool
+    ensures value { result ≡ not (is_x (slice_index_or bits.now at Bit.X)) }
+{
+    bit_at(bits, at) != Bit::X
 }
 
 /// What a point has.

@@ -1,4 +1,4 @@
-//! Designs with processes in which no rule has a line.
+//! Designs with processes.
 
 use super::{answers, call};
 use crate::program::Status;
@@ -17,6 +17,19 @@ const ALL_CASES: &[u8] =
 
 const CONSTANT: &[u8] =
     b"module \\m\n  wire input 1 \\s\n  wire output 2 \\y\n  connect \\y 1'1\nend\n";
+
+const UNTESTED_EDGES: &[u8] =
+    b"module \\m\n  wire input 1 \\clk\n  wire input 2 \\rst\n  wire input 3 \\d\n  wire output 4 \\q\n  process $p\n    sync posedge \\clk\n      update \\q \\d\n    sync posedge \\rst\n      update \\q \\d\n  end\nend\n";
+
+const NO_RESET: &[u8] = b"error 14 \\m $p\n";
+
+#[test]
+fn two_edges_without_a_reset(rt: HostRuntime) -> Result<(), Fail> {
+    for (row, input, output) in [("no switch tests an edge", UNTESTED_EDGES, NO_RESET)] {
+        answers(&rt, rt.alloc(), row, input, output, Status::Refused)?;
+    }
+    Ok(())
+}
 
 #[test]
 fn trees_become_multiplexers(rt: HostRuntime) -> Result<(), Fail> {

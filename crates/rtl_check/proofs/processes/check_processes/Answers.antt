@@ -1,18 +1,20 @@
-use Rattle.std.proofs.Common.{◌<◌, ◌∙◌, ap, get_or, length, subst, take, refl}
+use Rattle.std.proofs.Common.{◌<◌, ◌∙◌, ap, get_or, length, subst, take}
 use Rattle.std.proofs.lemmas.Result.{err_from_is_err_and}
-use Rattle.rtl_check.proofs.ProcessLemmas.{lineless_next, process_at, process_next}
+use Rattle.rtl_check.proofs.ProcessLemmas.{process_at, process_next}
 use Rattle.rtl_check.proofs.processes.check_processes.Goals as goal
 
-pub returns-in_err-check_process-clause-first : goal.returns-in_err-check_process-clause-first
-returns-in_err-check_process-clause-first c = λ ports.
-    let p = err_from_is_err_and c.from_residual.result c.from_residual.ensures.1 in
-    let i = c.loop-process.process-index in
-    let are = c.as_slice-process-items.ensures.value in
-    let lt = subst (λ ps. i < length ps) are c.loop-process-test.true in
-    let is = c.process-item.is ∙ ap (λ ps. get_or ps i c.process-item.result) are in
-    rw (p.1, p.2)
-    (process_at ports c.args.body.now c.args.body.now.processes i c.process-item.result lt is _ (c.loop-process.invariant.faults ports) c.in_err-check_process.field-0.0
-    (c.in_err-check_process.ensures.first ports c.args.body.now refl (take i c.args.body.now.processes)))
+pub returns-in_err-check_process : goal.returns-in_err-check_process
+returns-in_err-check_process c = record {
+  first = λ ports types fit.
+      let p = err_from_is_err_and c.from_residual.result c.from_residual.ensures.1 in
+      let i = c.loop-process.process-index in
+      let are = c.as_slice-process-items.ensures.value in
+      let lt = subst (λ ps. i < length ps) are c.loop-process-test.true in
+      let is = c.process-item.is ∙ ap (λ ps. get_or ps i c.process-item.result) are in
+      rw (p.1, p.2)
+      (process_at ports c.args.body.now c.args.body.now.processes i c.process-item.result lt is _ (c.loop-process.invariant.faults ports types fit) c.in_err-check_process.field-0.0
+      (c.in_err-check_process.ensures.first ports types (c.loop-process.invariant.asked ports types) fit (take i c.args.body.now.processes)));
+}
 
 pub loop-process-preserved : goal.loop-process-preserved
 loop-process-preserved c =
@@ -21,8 +23,8 @@ loop-process-preserved c =
     let lt = subst (λ ps. i < length ps) are c.loop-process-test.true in
     let is = c.process-item.is ∙ ap (λ ps. get_or ps i c.process-item.result) are in
     record {
-      lineless = lineless_next c.args.body.now.processes i c.process-item.result lt is c.in_ok-check_process.ensures.lineless ∙ c.loop-process.invariant.lineless;
-      faults = λ ports.
-          process_next ports c.args.body.now c.args.body.now.processes i c.process-item.result lt is _ (c.loop-process.invariant.faults ports)
-          (c.in_ok-check_process.ensures.first ports c.args.body.now refl (take i c.args.body.now.processes));
+      asked = λ ports types. c.in_ok-check_process.ensures.asked ports types (c.loop-process.invariant.asked ports types);
+      faults = λ ports types fit.
+          process_next ports c.args.body.now c.args.body.now.processes i c.process-item.result lt is _ (c.loop-process.invariant.faults ports types fit)
+          (c.in_ok-check_process.ensures.first ports types (c.loop-process.invariant.asked ports types) fit (take i c.args.body.now.processes));
     }

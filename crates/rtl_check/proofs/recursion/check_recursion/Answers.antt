@@ -1,6 +1,6 @@
 use Rattle.std.proofs.Common.{◌∙◌, ap, sym, Some}
 use Rattle.rtl_check.specs.declared.fault.CheckFault.TheVariants as check
-use Rattle.rtl_check.specs.Search.{rows_of}
+use Rattle.process_check.specs.Search.{rows_of}
 use Rattle.rtl_check.proofs.Recursions.{graph_is, id_is, recursive_is, recursion_here, recursion_next}
 use Rattle.rtl_check.proofs.recursion.check_recursion.Goals as goal
 

@@ -2,7 +2,7 @@
 use Rattle.std.proofs.Common.{◌≡◌, ◌++◌, drop, map}
 use Rattle.rtl_ir.specs.declared.module.Module.{Module}
 use Rattle.rtl_ir.specs.Faults.Recursion.{instance_places}
-use Rattle.rtl_check.specs.Search.{rows_of}
+use Rattle.process_check.specs.Search.{rows_of}
 use Rattle.rtl_check.proofs.recursion.graph_of.Given as goal
 
 abbrev pub invariant-loop-module : goal.invariant-loop-module

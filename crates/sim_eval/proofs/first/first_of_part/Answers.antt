@@ -1,14 +1,15 @@
 use Rattle.std.proofs.Common.{◌≡◌, ◌<◌, ◌∙◌, ℕ, ap, map, refl, subst, sym}
 use Rattle.std.specs.List.{AllByRecursion}
 use Rattle.rtl_ir.specs.Flat.Driver.{Given, Joined, Worked, Stored, Decided}
+use Rattle.flat_net.specs.declared.leaves.HeldBit.{HeldBit}
 use Rattle.flat_net.specs.declared.net.Output.{Output}
 use Rattle.flat_net.specs.declared.net.StoreBit.{StoreBit}
-use Rattle.flat_net.specs.Parts.{inputs_of, output_row, part_rows, store_row}
+use Rattle.flat_net.specs.Parts.{held_row, inputs_of, output_row, part_rows, raced_row, store_row}
 use Rattle.flat_net.specs.Picks.{tree_pick, tree_row}
 use Rattle.flat_net.specs.Points.{place_at, pins_of, point_of}
-use Rattle.flat_net.specs.Within.{IsLogicWithin, IsOutputWithin, IsPartWithin, IsStoreWithin, IsTreeWithin}
+use Rattle.flat_net.specs.Within.{IsHeldBitWithin, IsHeldWithin, IsLogicWithin, IsOutputWithin, IsPartWithin, IsRacedWithin, IsStoreWithin, IsTreeWithin}
 use Rattle.sim_eval.specs.First.{IsFirstOf, marked, unmarked}
-use Rattle.sim_eval.proofs.Firsts.{first_items, first_single, stores_within, within_unmarked}
+use Rattle.sim_eval.proofs.Firsts.{first_items, first_single, held_within, stores_within, within_unmarked}
 use Rattle.sim_eval.proofs.Trees.{numbers_within}
 use Rattle.sim_eval.proofs.first.first_of_part.Goals as goal
 
@@ -83,5 +84,49 @@ returns-in_ok-tree-in-Tree c =
           let there : IsTreeWithin count (record tree { outputs = outs }) =
           record { root = k.root; outputs = subst (AllByRecursion (IsOutputWithin count tree.width)) (sym is) (within_unmarked number (IsOutputWithin count tree.width) seen tree.outputs k.outputs) } in
           subst (λ z. IsTreeWithin count (record z { outputs = outs })) (sym c.deref_mut-in-Tree.ensures.value) there)
+          is marks;
+    }
+
+pub returns-in_ok-held-in-Held : goal.returns-in_ok-held-in-Held
+returns-in_ok-held-in-Held c =
+    let seen = c.args.seen.now in
+    let held = c.in-Held.held.value in
+    let outs = c.in_ok-held-in-Held.field-0 in
+    let number : HeldBit → ℕ = λ b. b.number in
+    let were : c.as_slice-in-Held.result.now ≡ held.bits = c.as_slice-in-Held.ensures.value ∙ ap (λ z. z.bits) c.deref-in-Held.ensures in
+    let is : outs ≡ unmarked number seen held.bits = c.in_ok-held-in-Held.ensures.value ∙ ap (unmarked number seen) were in
+    let marks : c.first_held.new.seen ≡ marked number seen held.bits = c.in_ok-held-in-Held.ensures.seen ∙ ap (marked number seen) were in
+    record {
+      first = first_items number (λ ps (b : HeldBit). (held_row ps held.tree b).driver) seen c.first_held.new.seen c.args.part _ held.bits outs
+          (λ ps. ap (part_rows ps) c.in-Held.is)
+          (λ ps. ap (λ z. map (held_row ps z.tree) outs) c.deref_mut-in-Held.ensures.value)
+          (λ count h. let k : IsHeldWithin count held = subst (IsPartWithin count) c.in-Held.is h in held_within count held.tree.width held.bits k.bits)
+          (λ count h.
+          let k : IsHeldWithin count held = subst (IsPartWithin count) c.in-Held.is h in
+          let there : IsHeldWithin count (record held { bits = outs }) =
+          record { tree = k.tree; bits = subst (AllByRecursion (IsHeldBitWithin count held.tree.width)) (sym is) (within_unmarked number (IsHeldBitWithin count held.tree.width) seen held.bits k.bits) } in
+          subst (λ z. IsHeldWithin count (record z { bits = outs })) (sym c.deref_mut-in-Held.ensures.value) there)
+          is marks;
+    }
+
+pub returns-in_ok-raced-in-Raced : goal.returns-in_ok-raced-in-Raced
+returns-in_ok-raced-in-Raced c =
+    let seen = c.args.seen.now in
+    let raced = c.in-Raced.raced.value in
+    let outs = c.in_ok-raced-in-Raced.field-0 in
+    let number : HeldBit → ℕ = λ b. b.number in
+    let were : c.as_slice-in-Raced.result.now ≡ raced.bits = c.as_slice-in-Raced.ensures.value ∙ ap (λ z. z.bits) c.deref-in-Raced.ensures in
+    let is : outs ≡ unmarked number seen raced.bits = c.in_ok-raced-in-Raced.ensures.value ∙ ap (unmarked number seen) were in
+    let marks : c.first_held-in-Raced.new.seen ≡ marked number seen raced.bits = c.in_ok-raced-in-Raced.ensures.seen ∙ ap (marked number seen) were in
+    record {
+      first = first_items number (λ ps (b : HeldBit). (raced_row ps raced b).driver) seen c.first_held-in-Raced.new.seen c.args.part _ raced.bits outs
+          (λ ps. ap (part_rows ps) c.in-Raced.is)
+          (λ ps. ap (λ z. map (raced_row ps z) outs) c.deref_mut-in-Raced.ensures.value)
+          (λ count h. let k : IsRacedWithin count raced = subst (IsPartWithin count) c.in-Raced.is h in held_within count raced.tree.width raced.bits k.bits)
+          (λ count h.
+          let k : IsRacedWithin count raced = subst (IsPartWithin count) c.in-Raced.is h in
+          let there : IsRacedWithin count (record raced { bits = outs }) =
+          record { tree = k.tree; clock = k.clock; reset = k.reset; bits = subst (AllByRecursion (IsHeldBitWithin count raced.tree.width)) (sym is) (within_unmarked number (IsHeldBitWithin count raced.tree.width) seen raced.bits k.bits) } in
+          subst (λ z. IsRacedWithin count (record z { bits = outs })) (sym c.deref_mut-in-Raced.ensures.value) there)
           is marks;
     }

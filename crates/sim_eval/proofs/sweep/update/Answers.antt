@@ -1,7 +1,7 @@
 use Rattle.std.proofs.Common.{length, map, subst, sym}
-use Rattle.flat_net.specs.Parts.{inputs_of, output_row, part_rows}
+use Rattle.flat_net.specs.Parts.{held_row, inputs_of, output_row, part_rows, raced_row}
 use Rattle.flat_net.specs.Picks.{tree_row}
-use Rattle.flat_net.specs.Within.{IsLogicWithin, IsPartWithin, IsTreeWithin}
+use Rattle.flat_net.specs.Within.{IsHeldWithin, IsLogicWithin, IsPartWithin, IsRacedWithin, IsTreeWithin}
 use Rattle.sim_eval.specs.Advance.{Advances}
 use Rattle.sim_eval.specs.Moment.{time_of}
 use Rattle.sim_eval.proofs.Taking.{if_ok_more}
@@ -28,3 +28,25 @@ returns-in-Tree-clause-advances c =
     (subst (λ z. Advances ps t (map (tree_row ps z.root) z.outputs) old new changed) c.deref-in-Tree.ensures
     (k ps board.apart board.now (subst (IsTreeWithin (length ps)) (sym c.deref-in-Tree.ensures) (subst (IsPartWithin (length ps)) c.in-Tree.is within)) t)))
     c.update_tree.ensures.advances
+
+pub returns-in-Held-clause-advances : goal.returns-in-Held-clause-advances
+returns-in-Held-clause-advances c =
+    let old = c.args.now.now in
+    let new = c.update_held.new.now in
+    if_ok_more c.update_held.result _ _ (λ changed k ps board within.
+    let t = time_of ps c.args.moment.now in
+    subst (λ z. Advances ps t (part_rows ps z) old new changed) (sym c.in-Held.is)
+    (subst (λ z. Advances ps t (map (held_row ps z.tree) z.bits) old new changed) c.deref-in-Held.ensures
+    (k ps board (subst (IsHeldWithin (length ps)) (sym c.deref-in-Held.ensures) (subst (IsPartWithin (length ps)) c.in-Held.is within)))))
+    c.update_held.ensures.advances
+
+pub returns-in-Raced-clause-advances : goal.returns-in-Raced-clause-advances
+returns-in-Raced-clause-advances c =
+    let old = c.args.now.now in
+    let new = c.update_raced.new.now in
+    if_ok_more c.update_raced.result _ _ (λ changed k ps board within.
+    let t = time_of ps c.args.moment.now in
+    subst (λ z. Advances ps t (part_rows ps z) old new changed) (sym c.in-Raced.is)
+    (subst (λ z. Advances ps t (map (raced_row ps z) z.bits) old new changed) c.deref-in-Raced.ensures
+    (k ps board (subst (IsRacedWithin (length ps)) (sym c.deref-in-Raced.ensures) (subst (IsPartWithin (length ps)) c.in-Raced.is within)))))
+    c.update_raced.ensures.advances

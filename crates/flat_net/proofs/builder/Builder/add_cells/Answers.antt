@@ -1,7 +1,6 @@
-use Rattle.std.proofs.Common.{[], refl}
+use Rattle.std.proofs.Common.{refl}
 use Rattle.rtl_ir.specs.declared.cell.Cell.{Cell}
 use Rattle.rtl_ir.specs.Flat.Cell.{cell_kind, cell_rows, cells_rows}
-use Rattle.rtl_ir.specs.Flat.Start.{start_of}
 use Rattle.rtl_ir.specs.Flat.Tree.{design_ports}
 use Rattle.flat_net.proofs.Kept.{within-Keeps}
 use Rattle.flat_net.proofs.Reading.{Extends-then}
@@ -14,15 +13,15 @@ add_cell-requires c = record { in_range = within-Keeps _ _ _ c.loop-cell.invaria
 pub loop-cell-preserved : goal.loop-cell-preserved
 loop-cell-preserved c = record {
   grows = Extends-then _ _ _ c.loop-cell.invariant.grows c.in_ok-add_cell.ensures.grows;
-  rows = λ p path d table are.
+  rows = λ p path d table start is.
       let wires = c.args.wires.now in
-      let here = λ (x : Cell). cell_rows (start_of wires []) (design_ports d) p wires x (cell_kind x) in
-      Leads-item (cells_rows (start_of wires []) (design_ports d) p wires) here (λ x xs. refl) refl c.args.cells.now _ _ _ _ c.loop-cell.cell-index c.cell-item.result c.loop-cell-test.true c.cell-item.is
-      (c.loop-cell.invariant.rows p path d table are) (c.in_ok-add_cell.ensures.rows p (c.loop-cell.invariant.grows.paths _ _ path) d table are);
+      let here = λ (x : Cell). cell_rows start (design_ports d) p wires x (cell_kind x) in
+      Leads-item (cells_rows start (design_ports d) p wires) here (λ x xs. refl) refl c.args.cells.now _ _ _ _ c.loop-cell.cell-index c.cell-item.result c.loop-cell-test.true c.cell-item.is
+      (c.loop-cell.invariant.rows p path d table start is) (c.in_ok-add_cell.ensures.rows p (c.loop-cell.invariant.grows.paths _ _ path) d table start is);
 }
 
 pub returns-clause-rows : goal.returns-clause-rows
-returns-clause-rows c = λ p path d table are.
+returns-clause-rows c = λ p path d table start is.
     let wires = c.args.wires.now in
-    let here = λ (x : Cell). cell_rows (start_of wires []) (design_ports d) p wires x (cell_kind x) in
-    Leads-last (cells_rows (start_of wires []) (design_ports d) p wires) here (λ x xs. refl) refl c.args.cells.now _ _ _ c.loop-cell.cell-index c.loop-cell-test.false (c.loop-cell.invariant.rows p path d table are)
+    let here = λ (x : Cell). cell_rows start (design_ports d) p wires x (cell_kind x) in
+    Leads-last (cells_rows start (design_ports d) p wires) here (λ x xs. refl) refl c.args.cells.now _ _ _ c.loop-cell.cell-index c.loop-cell-test.false (c.loop-cell.invariant.rows p path d table start is)

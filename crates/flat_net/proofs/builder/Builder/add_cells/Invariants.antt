@@ -1,12 +1,13 @@
 -- The rows so far are those of the cells so far.
-use Rattle.std.proofs.Common.{◌≡◌, [], Some, slice_get, drop}
+use Rattle.std.proofs.Common.{◌≡◌, Some, slice_get, drop}
+use Rattle.rtl_bits.specs.declared.bit.Bit.{Bit}
+use Rattle.rtl_sig.specs.declared.sig.SigBit.{SigBit}
 use Rattle.rtl_ir.specs.declared.module.Design.{Design}
 use Rattle.rtl_ir.specs.Flat.Cell.{cells_rows}
 use Rattle.rtl_ir.specs.Flat.Place.{Path}
-use Rattle.rtl_ir.specs.Flat.Start.{start_of}
 use Rattle.rtl_ir.specs.Flat.Tree.{design_ports}
-use Rattle.flat_net.specs.Cells.{starts_of}
 use Rattle.flat_net.specs.Known.{Extends}
+use Rattle.flat_net.specs.Starts.{IsStart}
 use Rattle.flat_net.specs.Tables.{IsTable}
 use Rattle.flat_net.proofs.Adding.{Leads}
 use Rattle.flat_net.proofs.builder.Builder.add_cells.Given as goal
@@ -14,6 +15,6 @@ use Rattle.flat_net.proofs.builder.Builder.add_cells.Given as goal
 abbrev pub invariant-loop-cell : goal.invariant-loop-cell
 invariant-loop-cell l = record {
   grows : Extends l.fn.self.places l.self.places;
-  rows : (p : Path) → slice_get l.fn.self.places.paths l.path ≡ Some p → (d : Design) → IsTable l.table d.modules → l.starts ≡ starts_of l.wires
-      → Leads l.fn.self l.self (cells_rows (start_of l.wires []) (design_ports d) p l.wires l.cells) (cells_rows (start_of l.wires []) (design_ports d) p l.wires (drop l.cell-index l.cells));
+  rows : (p : Path) → slice_get l.fn.self.places.paths l.path ≡ Some p → (d : Design) → IsTable l.table d.modules → (start : SigBit → Bit) → IsStart l.starts start
+      → Leads l.fn.self l.self (cells_rows start (design_ports d) p l.wires l.cells) (cells_rows start (design_ports d) p l.wires (drop l.cell-index l.cells));
 }

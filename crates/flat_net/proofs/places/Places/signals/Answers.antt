@@ -1,7 +1,7 @@
 use Rattle.std.proofs.Common.{◌∙◌, subst}
 use Rattle.rtl_ir.specs.Flat.Point.{points}
 use Rattle.flat_net.specs.Reads.{ArePoints}
-use Rattle.flat_net.proofs.Branching.{AreSignals-next}
+use Rattle.flat_net.proofs.Assigning.{AreSignals-next}
 use Rattle.flat_net.proofs.Kept.{within-Keeps}
 use Rattle.flat_net.proofs.Reading.{Extends-then}
 use Rattle.flat_net.proofs.places.Places.signals.Goals as goal

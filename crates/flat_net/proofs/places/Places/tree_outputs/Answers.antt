@@ -1,5 +1,5 @@
 use Rattle.std.proofs.Common.{arith}
-use Rattle.flat_net.proofs.Branching.{AreOutputs-next}
+use Rattle.flat_net.proofs.Rooting.{AreOutputs-next}
 use Rattle.flat_net.proofs.Kept.{within-Keeps}
 use Rattle.flat_net.proofs.Reading.{Extends-then}
 use Rattle.flat_net.proofs.places.Places.tree_outputs.Goals as goal

@@ -1,0 +1,23 @@
+-- The rows so far are those of the places so far.
+use Rattle.std.proofs.Common.{◌≡◌, List, Some, drop, map, slice_get}
+use Rattle.rtl_bits.specs.declared.bit.Bit.{Bit}
+use Rattle.rtl_sig.specs.declared.sig.SigBit.{SigBit}
+use Rattle.rtl_ir.specs.Flat.Place.{Path}
+use Rattle.rtl_ir.specs.Flat.Process.{Trigger, loaded_row}
+use Rattle.rtl_ir.specs.Follow.{Join, source_at}
+use Rattle.flat_net.specs.Known.{Extends}
+use Rattle.flat_net.specs.Lines.{join_of}
+use Rattle.flat_net.specs.Registers.{IsControl}
+use Rattle.flat_net.specs.Rules.{AreSources}
+use Rattle.flat_net.specs.Starts.{IsStart}
+use Rattle.flat_net.proofs.Adding.{Leads}
+use Rattle.flat_net.proofs.builder.Builder.add_loads.Given as goal
+
+abbrev pub invariant-loop-line : goal.invariant-loop-line
+invariant-loop-line l = record {
+  grows : Extends l.fn.self.places l.self.places;
+  rows : (p : Path) → slice_get l.fn.self.places.paths l.path ≡ Some p → (start : SigBit → Bit) → IsStart l.starts start
+      → (e t : Trigger) → IsControl l.fn.self.places.places p l.wires l.clock e → IsControl l.fn.self.places.places p l.wires l.load t → (levels : List Join) → AreSources l.loads levels
+      → Leads l.fn.self l.self (map (λ (j : Join). loaded_row start p l.wires e t (source_at levels j.bit) j) (map join_of l.lines))
+      (map (λ (j : Join). loaded_row start p l.wires e t (source_at levels j.bit) j) (map join_of (drop l.line-index l.lines)));
+}

@@ -1,0 +1,14 @@
+-- The others so far, and those of the places that are left, are all.
+use Rattle.std.proofs.Common.{◌≡◌, ◌++◌, List, drop, map}
+use Rattle.std.specs.Prelude.{filter, not}
+use Rattle.std.specs.Option.{is_some}
+use Rattle.rtl_ir.specs.Follow.{Join, source_at}
+use Rattle.flat_net.specs.Lines.{join_of}
+use Rattle.flat_net.specs.Rules.{AreSources}
+use Rattle.flat_net.proofs.rules.others_of.Given as goal
+
+abbrev pub invariant-loop-line : goal.invariant-loop-line
+invariant-loop-line l =
+    (js : List Join) → AreSources l.sources js
+    → map join_of l.others.items ++ filter (λ (j : Join). not (is_some (source_at js j.bit))) (map join_of (drop l.line-index l.lines))
+    ≡ filter (λ (j : Join). not (is_some (source_at js j.bit))) (map join_of l.lines)

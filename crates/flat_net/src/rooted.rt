@@ -1,0 +1,31 @@
+//! The trees of processes, as they are read.
+
+ghost use Rattle.std.specs.Prelude.{◌≡◌, IfOk, reverse};
+ghost use Rattle.rtl_ir.specs.Assigns.{tree_bits};
+ghost use Rattle.rtl_ir.specs.SwitchRules.{root_by_rules};
+
+use crate::tree_bits::TreeBits;
+use rtl_bits::Memory;
+use rtl_ir::Case;
+use std::alloc::Global;
+use tree_rules::ruled;
+
+/// The tree of a process: its root with the switches read by the rules, and its tree bits.
+#[derive(Drop)]
+pub(crate) struct Rooted {
+    pub(crate) root: Case,
+    pub(crate) bits: TreeBits,
+}
+
+impl Rooted {
+    /// The tree of a process with this root.
+    pub(crate) fn of(alloc: Global, root: &Case) -> Result<Rooted, Memory>
+        ensures root { IfOk result (λ tree. tree.root ≡ root_by_rules root.now) }
+        ensures bits { IfOk result (λ tree. reverse tree.bits ≡ tree_bits root.now) }
+    {
+        Ok(Rooted {
+            root: ruled(alloc, root)?,
+            bits: TreeBits::of(alloc, root)?,
+        })
+    }
+}

@@ -1,0 +1,268 @@
+//! The parts of rules that are storage cells.
+
+ghost use Rattle.std.specs.Prelude.{◌≡◌, ◌<◌, ◌∷◌, [], ◌++◌, List, Some, not, IfOk, OnOk, filter, length, map, option_map, slice_get};
+ghost use Rattle.std.specs.HashMap.{get_by};
+ghost use Rattle.std.specs.Option.{is_some};
+ghost use Rattle.rtl_bits.specs.declared.bit.Bit.{Bit};
+ghost use Rattle.rtl_sig.specs.declared.sig.SigBit.{SigBit};
+ghost use Rattle.rtl_sig.specs.declared.sig.WireBit.{WireBit};
+ghost use Rattle.rtl_ir.specs.Flat.Place.{Path};
+ghost use Rattle.rtl_ir.specs.Flat.Process as rtl;
+ghost use Rattle.rtl_ir.specs.Flat.Process.{edge_row, edge_trigger, global_rows, level_row, level_trigger, loaded_row, loaded_rows};
+ghost use Rattle.rtl_ir.specs.Follow.{Join, source_at};
+ghost use Rattle.rtl_ir.specs.Signals.{same_bit};
+ghost use Rattle.flat_net.specs.Adds.{Adds};
+ghost use Rattle.flat_net.specs.Known.{Extends};
+ghost use Rattle.flat_net.specs.Lines.{join_of};
+ghost use Rattle.flat_net.specs.Registers.{IsControl, trigger_of};
+ghost use Rattle.flat_net.specs.Pairs.{pairing_of};
+ghost use Rattle.flat_net.specs.Rules.{AreSources};
+ghost use Rattle.flat_net.specs.Starts.{IsStart};
+
+use crate::builder::Builder;
+use crate::lines::Line;
+use crate::registers::{
+    Control, Trigger, bare_register, edge_register, level_register, loaded_register,
+};
+use crate::starts::Starts;
+use cell_types::{Level, StorageKind};
+use rtl_bits::Memory;
+use rtl_ir::{Event, Wire};
+use rtl_sig::{SigBit, WireBit};
+use std::alloc::Global;
+use std::collections::HashMap;
+
+/// What the first of some places gives to each bit.
+type Sources = HashMap<WireBit, SigBit>;
+
+/// The edge of an event, where it is one.
+pub(crate) fn edge_trigger(event: &Event) -> Option<Trigger<'_>>
+    ensures value { option_map trigger_of result ≡ edge_trigger event.now }
+{
+    match event {
+        Event::Posedge(signal) => Some(Trigger {
+            signal: signal.as_slice(),
+            level: Level::High,
+        }),
+        Event::Negedge(signal) => Some(Trigger {
+            signal: signal.as_slice(),
+            level: Level::Low,
+        }),
+        _ => None,
+    }
+}
+
+/// The level of an event, where it is one.
+pub(crate) fn level_trigger(event: &Event) -> Option<Trigger<'_>>
+    ensures value { option_map trigger_of result ≡ level_trigger event.now }
+{
+    match event {
+        Event::High(signal) => Some(Trigger {
+            signal: signal.as_slice(),
+            level: Level::High,
+        }),
+        Event::Low(signal) => Some(Trigger {
+            signal: signal.as_slice(),
+            level: Level::Low,
+        }),
+        _ => None,
+    }
+}
+
+/// How two rules stand together: the first is an edge and the second a level, or the other way round, or both are edges.
+#[derive(Clone, Copy)]
+pub(crate) enum Paired<'a> {
+    First(Trigger<'a>, Trigger<'a>),
+    Second(Trigger<'a>, Trigger<'a>),
+    Edges,
+}
+
+/// How two rules stand together, by the edges and levels that they are.
+pub(crate) fn pairing<'a>(
+    edge_a: Option<Trigger<'a>>,
+    edge_b: Option<Trigger<'a>>,
+    level_a: Option<Trigger<'a>>,
+    level_b: Option<Trigger<'a>>,
+) -> Paired<'a>
+    ensures value { result ≡ pairing_of edge_a.entry edge_b.entry level_a.entry level_b.entry }
+{
+    match (edge_a, edge_b, level_a, level_b) {
+        (Some(edge), _, _, Some(level)) => Paired::First(edge, level),
+        (_, Some(edge), Some(level), _) => Paired::Second(edge, level),
+        _ => Paired::Edges,
+    }
+}
+
+impl Builder {
+    /// A rule at each step.
+    pub(crate) fn add_steps(
+        &mut self,
+        alloc: Global,
+        path: u32,
+        wires: &[Wire],
+        starts: &Starts,
+        lines: &[Line],
+    ) -> Result<(), Memory>
+        requires in_range { path < length self.old.places.paths }
+        ensures grows { OnOk result (Extends self.old.places self.new.places) }
+        ensures rows { (p : Path) → slice_get self.old.places.paths path ≡ Some p → (start : SigBit → Bit) → IsStart starts.now start →
+            OnOk result (Adds self.old self.new (global_rows start p wires.now (map join_of lines.now))) }
+    {
+        let register = bare_register(StorageKind::Ff);
+        self.add_registers(alloc, path, wires, starts, &register, lines)
+    }
+
+    /// A rule at an edge.
+    pub(crate) fn add_edge(
+        &mut self,
+        alloc: Global,
+        path: u32,
+        wires: &[Wire],
+        starts: &Starts,
+        edge: Trigger,
+        lines: &[Line],
+    ) -> Result<(), Memory>
+        requires in_range { path < length self.old.places.paths }
+        ensures grows { OnOk result (Extends self.old.places self.new.places) }
+        ensures rows { (p : Path) → slice_get self.old.places.paths path ≡ Some p → (start : SigBit → Bit) → IsStart starts.now start →
+            OnOk result (Adds self.old self.new (map (edge_row start p wires.now (trigger_of edge.entry)) (map join_of lines.now))) }
+    {
+        let clock = self.places.control(path, wires, edge)?;
+        let register = edge_register(clock);
+        self.add_registers(alloc, path, wires, starts, &register, lines)
+    }
+
+    /// A rule at a level.
+    pub(crate) fn add_level(
+        &mut self,
+        alloc: Global,
+        path: u32,
+        wires: &[Wire],
+        starts: &Starts,
+        level: Trigger,
+        lines: &[Line],
+    ) -> Result<(), Memory>
+        requires in_range { path < length self.old.places.paths }
+        ensures grows { OnOk result (Extends self.old.places self.new.places) }
+        ensures rows { (p : Path) → slice_get self.old.places.paths path ≡ Some p → (start : SigBit → Bit) → IsStart starts.now start →
+            OnOk result (Adds self.old self.new (map (level_row start p wires.now (trigger_of level.entry)) (map join_of lines.now))) }
+    {
+        let enable = self.places.control(path, wires, level)?;
+        let register = level_register(enable);
+        self.add_registers(alloc, path, wires, starts, &register, lines)
+    }
+
+    /// A rule at an edge beside one at a level: a bit that both update loads while the level is there.
+    pub(crate) fn add_loaded(
+        &mut self,
+        alloc: Global,
+        path: u32,
+        wires: &[Wire],
+        starts: &Starts,
+        edge: Trigger,
+        edges: &[Line],
+        level: Trigger,
+        levels: &[Line],
+    ) -> Result<(), Memory>
+        requires in_range { path < length self.old.places.paths }
+        ensures grows { OnOk result (Extends self.old.places self.new.places) }
+        ensures rows { (p : Path) → slice_get self.old.places.paths path ≡ Some p → (start : SigBit → Bit) → IsStart starts.now start →
+            OnOk result (Adds self.old self.new (loaded_rows start p wires.now (trigger_of edge.entry) (map join_of edges.now) (trigger_of level.entry) (map join_of levels.now))) }
+    {
+        let clock = self.places.control(path, wires, edge)?;
+        let load = self.places.control(path, wires, level)?;
+        let loads = sources_of(alloc, levels)?;
+        self.add_loads(alloc, path, wires, starts, clock, load, &loads, edges)?;
+        let others = others_of(alloc, &sources_of(alloc, edges)?, levels)?;
+        self.add_level(alloc, path, wires, starts, level, others.as_slice())
+    }
+
+    /// The places of a rule at an edge, where bits may load.
+    fn add_loads(
+        &mut self,
+        alloc: Global,
+        path: u32,
+        wires: &[Wire],
+        starts: &Starts,
+        clock: Control,
+        load: Control,
+        loads: &Sources,
+        lines: &[Line],
+    ) -> Result<(), Memory>
+        requires in_range { path < length self.old.places.paths }
+        ensures grows { OnOk result (Extends self.old.places self.new.places) }
+        ensures rows { (p : Path) → slice_get self.old.places.paths path ≡ Some p → (start : SigBit → Bit) → IsStart starts.now start →
+            (e l : rtl.Trigger) → IsControl self.old.places.places p wires.now clock e → IsControl self.old.places.places p wires.now load l →
+            (levels : List Join) → AreSources loads.now levels →
+            OnOk result (Adds self.old self.new (map (λ (j : Join). loaded_row start p wires.now e l (source_at levels j.bit) j) (map join_of lines.now))) }
+    {
+        for line in lines {
+            let from = source_of(loads, line.bit);
+            self.add_load(alloc, path, wires, starts, clock, load, from, *line)?;
+        }
+        Ok(())
+    }
+
+    /// A place of a rule at an edge, which loads what the other rule gives to the bit.
+    fn add_load(
+        &mut self,
+        alloc: Global,
+        path: u32,
+        wires: &[Wire],
+        starts: &Starts,
+        clock: Control,
+        load: Control,
+        from: Option<SigBit>,
+        line: Line,
+    ) -> Result<(), Memory>
+        requires in_range { path < length self.old.places.paths }
+        ensures grows { OnOk result (Extends self.old.places self.new.places) }
+        ensures rows { (p : Path) → slice_get self.old.places.paths path ≡ Some p → (start : SigBit → Bit) → IsStart starts.now start →
+            (e l : rtl.Trigger) → IsControl self.old.places.places p wires.now clock e → IsControl self.old.places.places p wires.now load l →
+            OnOk result (Adds self.old self.new (loaded_row start p wires.now e l from (join_of line) ∷ [])) }
+    {
+        match from {
+            Some(bit) => {
+                let ad = self.places.point(path, wires, bit)?;
+                let register = loaded_register(clock, load, ad);
+                self.add_registers(alloc, path, wires, starts, &register, &[line])
+            }
+            None => {
+                let register = edge_register(clock);
+                self.add_registers(alloc, path, wires, starts, &register, &[line])
+            }
+        }
+    }
+}
+
+/// What the first of the places gives to each bit.
+fn sources_of(alloc: Global, lines: &[Line]) -> Result<Sources, Memory>
+    ensures value { IfOk result (λ sources. AreSources sources (map join_of lines.now)) }
+{
+    let mut sources = HashMap::new(alloc);
+    for at in (0..lines.len()).rev() {
+        sources.insert(lines[at].bit, lines[at].source)?;
+    }
+    Ok(sources)
+}
+
+/// What the first place of the bit gives to it, where there is one.
+fn source_of(sources: &Sources, bit: WireBit) -> Option<SigBit>
+    ensures value { (js : List Join) → AreSources sources.now js → result ≡ source_at js bit }
+{
+    sources.get(&bit).copied()
+}
+
+/// The places of the bits that no source is known of.
+fn others_of(alloc: Global, sources: &Sources, lines: &[Line]) -> Result<Vec<Line>, Memory>
+    ensures value { (js : List Join) → AreSources sources.now js →
+        IfOk result (λ others. map join_of others.items ≡ filter (λ (j : Join). not (is_some (source_at js j.bit))) (map join_of lines.now)) }
+{
+    let mut others = Vec::new(alloc);
+    for line in lines {
+        if !sources.contains_key(&line.bit) {
+            others.push(*line)?;
+        }
+    }
+    Ok(others)
+}

@@ -1,0 +1,23 @@
+use Rattle.std.proofs.Common.{◌≡◌, ◌++◌, refl, ◌∙◌, ap}
+use Rattle.net_model.specs.Proc.Reset.{reset_rule, with_level, with_reset}
+use Rattle.event_tests.specs.Edge.{edge_as}
+use Rattle.proc_reset.specs.Places.{leaves_at}
+use Rattle.proc_reset.proofs.Choosing.{answer_is}
+use Rattle.proc_reset.proofs.Leveled.{leveled}
+use Rattle.proc_reset.proofs.process.by_leaves.Goals as goal
+
+pub returns : goal.returns
+returns c = record {
+  value = λ ports active is bits active_is leaves.
+      let p = c.args.process.now in
+      let m = c.args.outer.now.«module».now in
+      let others = c.args.others.now.before.now ++ c.args.others.now.after.now in
+      let reset = edge_as c.args.reset in
+      let lines = c.args.lines.now in
+      let rule = reset_rule (leaves_at active c.args.bits.now) reset lines in
+      answer_is c.process_with.result _ (with_level ports m others p reset lines)
+      (leveled ports m others p reset lines c.args.bits.now bits active active_is rule refl
+      c.in_ok-syncs.syncs (c.in_ok-syncs.ensures.value active c.args.bits.now leaves ∙ ap (λ rs. with_reset reset.bit rule rs) c.as_slice.ensures.value)
+      _ refl c.in_ok-root.root (c.in_ok-root.ensures.value ports active is leaves) p.name refl p.attributes refl)
+      c.process_with.ensures.value;
+}

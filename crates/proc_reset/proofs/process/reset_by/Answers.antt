@@ -1,0 +1,24 @@
+use Rattle.std.proofs.Common.{◌≡◌, ◌++◌, option_map, sym, ◌∙◌, ap}
+use Rattle.rtl_ir.specs.Faults.TwoEdges.{edge_bit}
+use Rattle.net_model.specs.Proc.Reset.{reset_by}
+use Rattle.event_tests.specs.Edge.{edge_as}
+use Rattle.proc_reset.proofs.Choosing.{answer_is}
+use Rattle.proc_reset.proofs.process.reset_by.Goals as goal
+
+pub returns-in-Some : goal.returns-in-Some
+returns-in-Some c = record {
+  value = λ ports is.
+      let m = c.args.outer.now.«module».now in
+      let others = c.args.others.now.before.now ++ c.args.others.now.after.now in
+      let edge = sym (ap (option_map edge_as) c.in-Some.is) ∙ c.edge_bit.ensures.value in
+      answer_is c.by_second.result _ _ (λ i. reset_by ports m others c.args.process.now c.args.first.now.updates (edge i) (edge_bit c.args.second.now.event)) (c.by_second.ensures.value ports is);
+}
+
+pub returns-in-None : goal.returns-in-None
+returns-in-None c = record {
+  value = λ ports is.
+      let m = c.args.outer.now.«module».now in
+      let others = c.args.others.now.before.now ++ c.args.others.now.after.now in
+      let edge = sym (ap (option_map edge_as) c.in-None.is) ∙ c.edge_bit.ensures.value in
+      answer_is c.copy.result _ _ (λ i. reset_by ports m others c.args.process.now c.args.first.now.updates (edge i) (edge_bit c.args.second.now.event)) c.copy.ensures.value;
+}

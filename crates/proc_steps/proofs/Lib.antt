@@ -1,0 +1,13 @@
+pub mod RenamingMux
+pub mod RenamingLatch
+pub mod RenamingReset
+pub mod RenamingSync
+pub mod Renaming
+pub mod Limits
+pub mod Alone
+pub mod Taken
+pub mod Writes
+pub mod Trees
+pub mod Leveling
+pub mod Giving
+pub mod Answering

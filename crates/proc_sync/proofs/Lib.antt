@@ -1,0 +1,9 @@
+mod Fits
+mod Turning
+mod Growing
+mod Exact
+mod Marking
+mod Counting
+mod Following
+mod Stepping
+pub mod Promised

@@ -1,0 +1,13 @@
+pub mod Joins
+pub mod Sources
+pub mod Runs
+pub mod Control
+pub mod Cells
+pub mod Forms
+pub mod Rules
+pub mod Events
+pub mod Counts
+pub mod Lines
+pub mod Writer
+pub mod Writes
+pub mod Limits

@@ -1,0 +1,12 @@
+pub mod Fronts
+pub mod Searches
+pub mod Endings
+pub mod Among
+pub mod FlawLemmas
+pub mod ReadingLemmas
+pub mod Selves
+pub mod GraphEdges
+pub mod RuleLemmas
+pub mod Updating
+pub mod Settled
+pub mod Leveling

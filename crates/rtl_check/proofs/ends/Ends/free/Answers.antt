@@ -1,5 +1,0 @@
-use Rattle.rtl_check.proofs.Endings.{below_more}
-use Rattle.rtl_check.proofs.ends.Ends.free.Goals as goal
-
-pub returns-in_ok-push-in-1-clause-waiting : goal.returns-in_ok-push-in-1-clause-waiting
-returns-in_ok-push-in-1-clause-waiting c = below_more c.args.self.now.waiting.items c.push.new.self.items c.args.place c.in_ok-push-in-1.ensures.items

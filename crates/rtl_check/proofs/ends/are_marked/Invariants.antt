@@ -1,7 +1,0 @@
--- The places so far are marked.
-use Rattle.std.proofs.Common.{drop}
-use Rattle.rtl_check.specs.Ends.{AreMarked}
-use Rattle.rtl_check.proofs.ends.are_marked.Given as goal
-
-abbrev pub invariant-loop-place : goal.invariant-loop-place
-invariant-loop-place l = AreMarked l.marks (drop l.place-index l.places) → AreMarked l.marks l.places

@@ -1,6 +1,0 @@
-use Rattle.std.proofs.Common.{◌∙◌}
-use Rattle.rtl_check.proofs.FlawLemmas.{constant_is}
-use Rattle.rtl_check.proofs.flaws.gives_to_constant.Goals as goal
-
-pub returns : goal.returns
-returns c = record { value = c.has.ensures.value ∙ constant_is c.args.process.now }

@@ -1,8 +1,0 @@
--- None so far has it.
-use Rattle.std.proofs.Common.{◌≡◌, drop}
-use Rattle.std.specs.List.{list_any}
-use Rattle.rtl_check.specs.Flaws.{line_has}
-use Rattle.rtl_check.proofs.flaws.lines_have.Given as goal
-
-abbrev pub invariant-loop-line : goal.invariant-loop-line
-invariant-loop-line l = list_any (line_has l.flaw) (drop l.line-index l.lines) ≡ list_any (line_has l.flaw) l.lines

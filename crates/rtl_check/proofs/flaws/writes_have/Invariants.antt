@@ -1,8 +1,0 @@
--- None so far has it.
-use Rattle.std.proofs.Common.{◌≡◌, drop}
-use Rattle.std.specs.List.{list_any}
-use Rattle.rtl_check.specs.Flaws.{write_has}
-use Rattle.rtl_check.proofs.flaws.writes_have.Given as goal
-
-abbrev pub invariant-loop-line : goal.invariant-loop-line
-invariant-loop-line l = list_any (write_has l.flaw) (drop l.line-index l.lines) ≡ list_any (write_has l.flaw) l.lines

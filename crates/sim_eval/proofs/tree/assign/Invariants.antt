@@ -1,8 +1,0 @@
--- What the assigns left make of the bits is what all make of them.
-use Rattle.std.proofs.Common.{◌≡◌, ◌<◌, ℕ, drop, length}
-use Rattle.sim_eval.specs.Trees.{assigned_value, bit_of}
-use Rattle.sim_eval.proofs.tree.assign.Given as goal
-
-abbrev pub invariant-loop-assign : goal.invariant-loop-assign
-invariant-loop-assign l =
-    (at : ℕ) → at < length l.fn.bits → assigned_value l.values at (drop l.assign-index l.assigns) (bit_of l.bits at) ≡ assigned_value l.values at l.assigns (bit_of l.fn.bits at)
