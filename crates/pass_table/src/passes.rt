@@ -1,9 +1,9 @@
-//! Scripts over the design of a text: `proc` and one more word, or `proc opt techmap opt`.
+//! A script of `proc` and one more word over the design of a text.
 
-ghost use Rattle.std.specs.Prelude.{◌≡◌, ◌<◌, [], ◌∷◌, IfOk, IfSome, length, true};
+ghost use Rattle.std.specs.Prelude.{◌≡◌, ◌<◌, [], ◌∷◌, IfOk, length, true};
 ghost use Rattle.rtl_trip.specs.Readable.{IsReadable};
 ghost use Rattle.script_core.specs.Fold.{HasPass, IsStageScript};
-ghost use Rattle.script_core.specs.declared.word.Word.TheVariants.{Opt, Proc, Techmap};
+ghost use Rattle.script_core.specs.declared.word.Word.TheVariants.{Proc};
 
 use rtl_bits::{Copied, Memory, Seq, Steps};
 use rtl_check::{Checked, check};
@@ -47,46 +47,12 @@ fn has_pass(word: Word) -> bool
 }
 
 /// The script of `proc` and the word.
-fn with_word(alloc: Global, word: Word) -> Result<Script, Memory>
+fn script_of(alloc: Global, word: Word) -> Result<Script, Memory>
     ensures words { IfOk result (λ script. script ≡ Proc ∷ word ∷ []) }
 {
     let mut script = Script::make(alloc)?;
     script.push(word)?;
     Ok(script)
-}
-
-/// The script `proc opt techmap opt`.
-fn down_to_gates(alloc: Global) -> Result<Script, Memory>
-    ensures words { IfOk result (λ script. script ≡ Proc ∷ Opt ∷ Techmap ∷ Opt ∷ []) }
-{
-    let mut script = Script::make(alloc)?;
-    script.push(Word::Opt)?;
-    script.push(Word::Techmap)?;
-    script.push(Word::Opt)?;
-    Ok(script)
-}
-
-/// The script of `proc` and the word of this name, where it has a pass.
-fn script_of_word(alloc: Global, name: &[u8]) -> Result<Option<Script>, Memory>
-    ensures stage { IfOk result (λ named. IfSome named IsStageScript) }
-{
-    match word_of(name) {
-        Some(word) if has_pass(word) => Ok(Some(with_word(alloc, word)?)),
-        _ => Ok(None),
-    }
-}
-
-/// The words that lead down to gates, behind `proc`.
-const DOWN_TO_GATES: &str = "opt techmap opt";
-
-/// The script of this name.
-fn script_of(alloc: Global, name: &[u8]) -> Result<Option<Script>, Memory>
-    ensures stage { IfOk result (λ named. IfSome named IsStageScript) }
-{
-    if name == DOWN_TO_GATES.as_bytes() {
-        return Ok(Some(down_to_gates(alloc)?));
-    }
-    script_of_word(alloc, name)
 }
 
 /// The module at this place after the script, under its own name; none where a limit would be passed.
@@ -128,25 +94,29 @@ fn design_after(alloc: Global, design: &Checked, script: &Script) -> Result<Opti
     Ok(Some(Design { modules }))
 }
 
-/// The design after the script, where the design has no fault.
-fn checked_after(alloc: Global, design: Design, script: &Script) -> Result<Option<Design>, Memory>
+/// The design after `proc` and the word, where the design has no fault.
+fn checked_after(alloc: Global, design: Design, word: Word) -> Result<Option<Design>, Memory>
     requires readable { IsReadable design }
-    requires stage { IsStageScript script.now }
+    requires there { HasPass word }
 {
+    let script = script_of(alloc, word)?;
     match check(alloc, design) {
-        Ok(checked) => design_after(alloc, &checked, script),
+        Ok(checked) => design_after(alloc, &checked, &script),
         Err(_) => Ok(None),
     }
 }
 
-/// The design of the text after the script of this name, where all of them are what they should be.
+/// The design of the text after `proc` and the word of this name, where all of them are what they should be.
 #[tactic(auto, using(rtl_trip::proofs::Kept::readable))]
 pub fn netlist_of(alloc: Global, text: &[u8], name: &[u8]) -> Result<Option<Design>, Memory> {
-    let Some(script) = script_of(alloc, name)? else {
+    let Some(word) = word_of(name) else {
         return Ok(None);
     };
+    if !has_pass(word) {
+        return Ok(None);
+    }
     match read(alloc, text) {
-        Ok(design) => checked_after(alloc, design, &script),
+        Ok(design) => checked_after(alloc, design, word),
         Err(ReadFault::Memory) => Err(Memory),
         Err(_) => Ok(None),
     }

@@ -1,4 +1,4 @@
-//! The rows of the table: a name, the name of a script, a text, and the text that is wanted.
+//! The rows of the table: a name, a word, a text, and the text that is wanted.
 
 use crate::passes::netlist_of;
 use rtl_bits::Memory;
@@ -10,9 +10,9 @@ const BETWEEN_ROWS: u8 = 254;
 
 const BETWEEN_FIELDS: u8 = 255;
 
-/// Whether the text after the script is the one that is wanted.
-fn holds(alloc: Global, name: &[u8], text: &[u8], wanted: &[u8]) -> Result<bool, Memory> {
-    match netlist_of(alloc, text, name)? {
+/// Whether the text after the word is the one that is wanted.
+fn holds(alloc: Global, word: &[u8], text: &[u8], wanted: &[u8]) -> Result<bool, Memory> {
+    match netlist_of(alloc, text, word)? {
         Some(netlist) => Ok(write(alloc, &netlist)?.as_slice() == wanted),
         None => Ok(false),
     }
@@ -21,10 +21,10 @@ fn holds(alloc: Global, name: &[u8], text: &[u8], wanted: &[u8]) -> Result<bool,
 /// Whether the row holds.
 fn row_holds(alloc: Global, row: &[u8]) -> Result<bool, Memory> {
     let fields: Vec<&[u8]> = row.split(|byte| *byte == BETWEEN_FIELDS).collect(alloc)?;
-    let [_, name, text, wanted] = fields.as_slice() else {
+    let [_, word, text, wanted] = fields.as_slice() else {
         return Ok(false);
     };
-    holds(alloc, name, text, wanted)
+    holds(alloc, word, text, wanted)
 }
 
 /// What the rows come to.

@@ -1,5 +1,6 @@
 //! The top call over memory.
 
+mod cell_text;
 mod faults;
 mod limits;
 mod processes;
@@ -79,6 +80,21 @@ fn run_rows(rt: &impl Abort, alloc: Global, table: &[u8]) -> Result<(u32, u32), 
         }
     }
     Ok((rows, accepted))
+}
+
+#[test]
+fn first_texts_of_cells_have_their_netlists(rt: HostRuntime) -> Result<(), Fail> {
+    assert_eq!(rt; run_rows(&rt, rt.alloc(), cell_text::FIRST_ROWS)?, (73, 73));
+    Ok(())
+}
+
+#[test]
+fn second_texts_of_cells_have_their_netlists(rt: HostRuntime) -> Result<(), Fail> {
+    assert_eq!(rt;
+        run_rows(&rt, rt.alloc(), cell_text::SECOND_ROWS)?,
+        (67, 67)
+    );
+    Ok(())
 }
 
 #[test]
