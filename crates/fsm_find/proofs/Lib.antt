@@ -1,10 +1,7 @@
-pub mod Keys
-pub mod Updating
-pub mod Forking
+pub mod Noting
 pub mod Trees
 pub mod Finding
 pub mod Visiting
-pub mod Parts
 pub mod Ordering
 pub mod Wholes
 pub mod TreeFound
@@ -12,3 +9,8 @@ pub mod Placing
 pub mod Ordered
 pub mod Marking
 pub mod Comparing
+pub mod Stating
+pub mod Machining
+pub mod Placed
+pub mod Searching
+pub mod Counting

@@ -70,3 +70,9 @@ pub meets_step : (f : SigBit → SigBit) (signal : List SigBit) (at : ℕ) (s en
     → meets_any (wire_bits (map f (drop at signal))) bits ≡ (t || meets_any (wire_bits (map f (drop (at + 1) signal))) bits)
 meets_step f signal at s end t h e bits is marked =
     meets_next f signal at s h e bits ∙ ap (λ u. u || meets_any (wire_bits (map f (drop (at + 1) signal))) bits) (sym (marked ∙ ap (λ q. meets_any (wire_bits (q ∷ [])) bits) is))
+
+-- bits are marked, and with those that are left they are all
+pub record Marked (left all : List WireBit) (marks : (done : List WireBit) → Type 0) : Type 0 where
+  pub done : List WireBit
+  pub all_are : done ++ left ≡ all
+  pub are : marks done

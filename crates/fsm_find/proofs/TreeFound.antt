@@ -59,12 +59,12 @@ get_done [] at e = absurd (cc)
 get_done (x ∷ xs) zero e = cc
 get_done (x ∷ xs) (suc at) e = get_done xs at e
 
-done_get : (done : List Bool) (at : ℕ) → is_done done at ≡ true → slice_get done at ≡ Some true
+pub done_get : (done : List Bool) (at : ℕ) → is_done done at ≡ true → slice_get done at ≡ Some true
 done_get [] at e = absurd (cc)
 done_get (x ∷ xs) zero e = ap Some e
 done_get (x ∷ xs) (suc at) e = done_get xs at e
 
-in_filter : {A : Type 0} (test : A → Bool) (xs : List A) (x : A) → In x (filter test xs) → In x xs × (test x ≡ true)
+pub in_filter : {A : Type 0} (test : A → Bool) (xs : List A) (x : A) → In x (filter test xs) → In x xs × (test x ≡ true)
 in_filter test [] x i = absurd i
 in_filter test (y ∷ xs) x i = by (test y) refl (λ h. in_filter test xs x h) i
   where

@@ -12,7 +12,7 @@ use Rattle.net_model.specs.Lists.{In}
 use Rattle.net_model.proofs.Members.{In-cases, In-left, In-right, map-map}
 use Rattle.fsm_find.specs.declared.view.Step.{Step}
 use Rattle.fsm_find.specs.declared.view.Step.TheVariants.{Leaf, Fork, Stray}
-use Rattle.fsm_find.specs.Forks.{fork_at}
+use Rattle.fsm_find.specs.WholeDrivers.{fork_at}
 use Rattle.fsm_find.specs.Trees.{Includes, IsPart, fork_tree}
 use Rattle.fsm_find.specs.View.{arms_in, fork_step, step_of}
 

@@ -1,7 +1,9 @@
 pub mod Attributes
-pub mod Forks
+pub mod WholeDrivers
 pub mod View
 pub mod Trees
 pub mod Order
 pub mod Found
 pub mod Readers
+pub mod Starts
+pub mod Finder

@@ -1,5 +1,5 @@
 -- Who reads the state and the tree.
-use Rattle.std.specs.Prelude.{◌≡◌, ℕ, Bool, true, List, None, Some, if◌then◌else◌, ◌||◌, ◌&&◌, not}
+use Rattle.std.specs.Prelude.{◌≡◌, ℕ, ◌++◌, Bool, true, List, None, Some, if◌then◌else◌, ◌||◌, ◌&&◌, not}
 use Rattle.rtl_sig.specs.declared.sig.SigBit.{SigBit}
 use Rattle.rtl_sig.specs.declared.sig.WireBit.{WireBit}
 use Rattle.rtl_ir.specs.declared.cell.Cell.{Cell}
@@ -9,7 +9,7 @@ use Rattle.rtl_ir.specs.Signals.{has_bit, wire_bits}
 use Rattle.rtl_ir.specs.Types.{Ports}
 use Rattle.net_index.specs.declared.index_table.BitTable.{BitTable}
 use Rattle.net_index.specs.IndexTable.{at_bit}
-use Rattle.net_model.specs.Fsm.Find.{compares, reads_well, followed_bits, has_place, is_output_pin, may_read, meets_any}
+use Rattle.net_model.specs.Fsm.Find.{cells_read_well, compares, followed_bits, has_place, is_output_pin, may_read, meets_any, ports_read_well, reads_well, tree_outputs}
 use Rattle.fsm_find.specs.Order.{is_done}
 
 -- these bits are marked, and no others
@@ -29,3 +29,9 @@ pin_reads_well ports m forks flop bits at c pin =
 abbrev pub cell_reads_well : Ports → Module → List ℕ → ℕ → List SigBit → List WireBit → ℕ → Cell → Bool
 cell_reads_well ports m forks flop state outputs at c =
     reads_well ports m forks flop outputs at c && (compares m state c || reads_well ports m forks flop (wire_bits state) at c)
+
+-- the state and the tree of these forks are read by no pin but those that may, and by no output port
+abbrev pub are_read_well : Ports → Module → List ℕ → ℕ → List SigBit → Bool
+are_read_well ports m forks flop state =
+    cells_read_well ports m forks flop state (tree_outputs m forks) 0 m.cells
+    && ports_read_well m (wire_bits state ++ tree_outputs m forks) 0 m.wires

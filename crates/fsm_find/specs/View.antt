@@ -10,12 +10,13 @@ use Rattle.net_model.specs.Fsm.Find.{arms_of, is_leaf}
 use Rattle.fsm_find.specs.declared.view.View.{View}
 use Rattle.fsm_find.specs.declared.view.Step.{Step}
 use Rattle.fsm_find.specs.declared.view.Step.TheVariants.{Leaf, Fork, Stray}
-use Rattle.fsm_find.specs.Forks.{fork_at, fork_in}
+use Rattle.fsm_parts.specs.SignalTable.{place_in}
+use Rattle.fsm_find.specs.WholeDrivers.{fork_at}
 
 -- what is known is of this module over these ports
 pub record IsView (view : View) (ports : Ports) (m : Module) : Type 0 where
-  pub index : IsIndex view.index ports m
-  pub forks : (signal : List SigBit) → fork_in view.forks signal ≡ fork_at m.cells signal
+  pub index : IsIndex view.index.now ports m
+  pub forks : (signal : List SigBit) → place_in view.forks.now signal ≡ fork_at m.cells signal
 
 -- what a place of a fork that may be there means
 abbrev pub fork_step : Option ℕ → Step

@@ -13,9 +13,9 @@ ghost use Rattle.rtl_ir.specs.Parameters.{given_params};
 ghost use Rattle.net_model.specs.Fsm.Find.{reset_value};
 ghost use Rattle.fsm_find.specs.Attributes.{init_bits};
 
-use crate::kinds::cell_kind;
 use crate::values::attribute_bits;
 use cell_types::{CellKind, Shape, StorageKind};
+use fsm_parts::cell_kind;
 use net_index::cell_shape;
 use rtl_bits::{Bit, Bits, Copied, Memory};
 use rtl_ir::{Cell, Wire};

@@ -9,8 +9,8 @@ ghost use Rattle.net_model.specs.Lists.{In};
 ghost use Rattle.fsm_find.specs.Trees.{HasNoTree, IsForkUnder, IsReach, IsUnder, IsWhole, Learns, Meets, Opens, Visits};
 ghost use Rattle.fsm_find.specs.View.{IsView, arms_in};
 
-use crate::signals::{constants, is_state_constant};
 use crate::view::{Step, View};
+use fsm_parts::{arms, constants, is_state_constant};
 use rtl_bits::{Bits, Memory};
 use rtl_ir::{Cell, Module};
 use rtl_sig::{SigBit, SigSpec};
@@ -125,7 +125,7 @@ impl Reach {
         if at >= cells.len() {
             return Err(Memory);
         }
-        let arms = view.arms(&cells[at])?;
+        let arms = arms(view.alloc, view.index, &cells[at])?;
         let mut below = Vec::new(view.alloc);
         if !self.visit_all(view, arms.as_slice(), &mut below)? {
             return Ok(false);

@@ -15,12 +15,12 @@ ghost use Rattle.fsm_find.specs.Order.{is_done};
 ghost use Rattle.fsm_find.specs.Readers.{AreMarks, ArePlaces, cell_reads_well, pin_reads_well};
 ghost use Rattle.fsm_find.specs.View.{IsView};
 
-use crate::cells::at_pin;
-use crate::kinds::{cell_kind, is_compare};
 use crate::params::are_signed;
-use crate::signals::{followed, is_state_constant, same_signal, whole_wire};
 use crate::view::View;
 use cell_types::{CellKind, PinName};
+use fsm_parts::{
+    at_pin, cell_kind, followed, is_compare, is_state_constant, same_signal, whole_wire,
+};
 use net_index::{BitTable, Types, drives_pin};
 use rtl_bits::{Memory, Seq};
 use rtl_ir::{Cell, Pin, Role, Wire};
@@ -125,8 +125,8 @@ fn compares_state(view: &View, kind: CellKind, cell: &Cell) -> Result<bool, Memo
     ensures value { IfOk result (λ yes. (ports : Ports) (m : Module) → IsView view.now ports m → yes ≡
         (compares_with m view.now.state cell.now (at_pin cell.now A) (at_pin cell.now B) || compares_with m view.now.state cell.now (at_pin cell.now B) (at_pin cell.now A))) }
 {
-    let a = followed(view.alloc, &view.index, at_pin(cell, PinName::A))?;
-    let b = followed(view.alloc, &view.index, at_pin(cell, PinName::B))?;
+    let a = followed(view.alloc, view.index, at_pin(cell, PinName::A))?;
+    let b = followed(view.alloc, view.index, at_pin(cell, PinName::B))?;
     let signed = are_signed(view.alloc, kind, cell)?;
     let yes = is_compared(view.state.as_slice(), a.as_slice(), b.as_slice(), signed);
     Ok(yes)
@@ -284,7 +284,7 @@ fn is_output(role: Role) -> bool
 }
 
 /// A place as a number of 32 bits; a greater one is taken for want of memory.
-fn place_number(at: usize) -> Result<u32, Memory>
+pub(crate) fn place_number(at: usize) -> Result<u32, Memory>
     ensures value { IfOk result (λ number. number ≡ at) }
 {
     match u32::try_from(at) {

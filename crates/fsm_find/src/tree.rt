@@ -6,12 +6,11 @@ ghost use Rattle.net_model.specs.Fsm.Find.{tree_of};
 ghost use Rattle.fsm_find.specs.Found.{IsTreeFound};
 ghost use Rattle.fsm_find.specs.View.{IsView};
 
-use crate::cells::at_pin;
 use crate::order::is_acyclic;
 use crate::reach::{Reach, reached};
-use crate::signals::followed;
 use crate::view::View;
 use cell_types::PinName;
+use fsm_parts::{at_pin, followed};
 use rtl_bits::Memory;
 use rtl_ir::{Cell, Module};
 
@@ -20,7 +19,7 @@ pub(crate) fn tree(view: &View, module: &Module, flop: &Cell) -> Result<Option<R
     ensures value { IfOk result (λ reach. (ports : Ports) → IsView view.now ports «module».now →
         MatchOption reach (tree_of «module».now view.now.state flop.now ≡ None) (IsTreeFound «module».now view.now.state flop.now)) }
 {
-    let root = followed(view.alloc, &view.index, at_pin(flop, PinName::D))?;
+    let root = followed(view.alloc, view.index, at_pin(flop, PinName::D))?;
     match reached(view, module, root.as_slice())? {
         None => Ok(None),
         Some(reach) => {

@@ -1,0 +1,4 @@
+pub mod Keys
+pub mod Updating
+pub mod Parts
+pub mod Firsts
