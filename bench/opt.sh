@@ -1,6 +1,6 @@
 #!/bin/sh
-# Time and memory of `proc opt techmap opt`, the whole program, beside the same passes of Yosys where that is installed:
-# over a text of modules of `$and` and `$xor` cells, and over one module of gates.
+# Time and memory of `proc opt memory opt techmap opt`, the whole program, beside the passes of Yosys for such texts where that
+# is installed: over a text of modules of `$and` and `$xor` cells, and over one module of gates.
 # usage: bench/opt.sh [BYTES [GATES]]      60,000,000 bytes and 100,000 gates without numbers
 set -eu
 bytes=${1:-60000000}

@@ -49,7 +49,7 @@ type_fits scope m earlier c (Library kind) h =
     let supported = fault_if (is_memory_kind kind && not scope.memories) (UnsupportedCell here) in
     let shaped = shape_fault here (misfit kind c) in
     let outputs = output_faults here (Library kind) c.pins in
-    let three = nothing_before (supported ++ shaped ++ outputs) (memory_faults m earlier c kind) h in
+    let three = nothing_before (supported ++ shaped ++ outputs) (memory_faults scope.clocks m earlier c kind) h in
     let two = nothing_before (supported ++ shaped) outputs three in
     no_misfit here (misfit kind c) (no_memory kind (given_params c.params) (pin_widths c.pins)) (nothing_behind supported shaped two)
 type_fits scope m earlier c (Instance ports) h = tt

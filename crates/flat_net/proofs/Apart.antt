@@ -1,7 +1,8 @@
 -- No path and no bit has two numbers.
-use Rattle.std.proofs.Common.{◌≡◌, ℕ, zero, suc, ◌+◌, ◌<◌, Bool, true, false, List, [], ◌∷◌, length, Some, None, slice_get, refl, sym, ◌∙◌, ap, subst, arith, map, eqb, true≢false, option_map}
+use Rattle.std.proofs.Common.{◌≡◌, ℕ, zero, suc, ◌+◌, ◌<◌, Bool, true, false, List, [], ◌∷◌, length, Option, Some, None, slice_get, refl, sym, ◌∙◌, ap, subst, arith, map, eqb, true≢false, option_map}
 use Rattle.std.proofs.lemmas.List.{length-map}
 use Rattle.std.specs.List.{AllByRecursion, IsDistinct}
+use Rattle.std.specs.Option.{option_eq}
 use Rattle.std.specs.Str.{bytes_eq}
 use Rattle.std.proofs.lemmas.Slice.Eq.{bytes_eq-Decides}
 use Rattle.std.proofs.lemmas.Bool.{eq-eqb}
@@ -10,7 +11,7 @@ use Rattle.rtl_sig.specs.Names.{AreDistinct}
 use Rattle.rtl_ir.specs.Flat.Place.{Path, Place, Spot, OfWire, OfWord, Frame, frame}
 use Rattle.flat_net.specs.declared.places.FrameKey.{FrameKey}
 use Rattle.flat_net.specs.declared.places.SpotKey.{SpotKey}
-use Rattle.flat_net.specs.Keys.{name_at, path_at, path_of, paths_of, place_of, AreFrames, AreSpots, Fits, frame_eq}
+use Rattle.flat_net.specs.Keys.{spot_of, name_at, path_at, path_of, paths_of, place_of, AreFrames, AreSpots, Fits, frame_eq}
 use Rattle.flat_net.specs.Points.{place_at, AreApart}
 use Rattle.flat_net.proofs.Keys.{spot_eq, path-at, Keeps-paths_from}
 
@@ -32,8 +33,12 @@ module _ {K : Type 0} (eq : K → K → Bool) (same : (k : K) → eq k k ≡ tru
 eqb-self : (n : ℕ) → eqb n n ≡ true
 eqb-self n = eq-eqb n n refl
 
+address_same : (a : Option ℕ) → option_eq eqb a a ≡ true
+address_same None = refl
+address_same (Some x) = eqb-self x
+
 spot_same : (k : SpotKey) → spot_eq k k ≡ true
-spot_same k = rw (eqb-self k.path, eqb-self k.name, eqb-self k.at) refl
+spot_same k = rw (eqb-self k.path, eqb-self k.name, address_same k.address, eqb-self k.at) refl
 
 frame_same : (k : FrameKey) → frame_eq k k ≡ true
 frame_same k = rw (eqb-self k.around, eqb-self k.name, eqb-self k.module_name) refl
@@ -53,9 +58,26 @@ abbrev name_in : Spot → List ℕ
 name_in (OfWire name at) = name
 name_in (OfWord name address at) = name
 
+abbrev address_in : Spot → Option ℕ
+address_in (OfWire name at) = None
+address_in (OfWord name address at) = Some address
+
 abbrev at_in : Spot → ℕ
 at_in (OfWire name at) = at
 at_in (OfWord name address at) = at
+
+-- the parts of the spot of a key
+name_is : (name : List ℕ) (address : Option ℕ) (at : ℕ) → name_in (spot_of name address at) ≡ name
+name_is name None at = refl
+name_is name (Some address) at = refl
+
+address_is : (name : List ℕ) (address : Option ℕ) (at : ℕ) → address_in (spot_of name address at) ≡ address
+address_is name None at = refl
+address_is name (Some address) at = refl
+
+at_is : (name : List ℕ) (address : Option ℕ) (at : ℕ) → at_in (spot_of name address at) ≡ at
+at_is name None at = refl
+at_is name (Some address) at = refl
 
 -- the frame at a place
 frame_in : (n p : ℕ) (fs : List FrameKey) (at : ℕ) (k : FrameKey) → AreFrames n p fs → slice_get fs at ≡ Some k → (k.around < p + length fs) × (k.name < n) × (k.module_name < n)
@@ -68,7 +90,7 @@ spot_in n p [] at k h s = absurd (let none : None ≡ Some k = s in cc)
 spot_in n p (f ∷ ss) zero k h s = let is : f ≡ k = cc in subst (λ (k : SpotKey). (k.path < p) × (k.name < n)) is h.0
 spot_in n p (f ∷ ss) (suc at) k h s = spot_in n p ss at k h.1 s
 
-at_least : {A : Type 0} (xs : List A) (at : ℕ) → at < length xs → (x : A) × (slice_get xs at ≡ Some x)
+pub at_least : {A : Type 0} (xs : List A) (at : ℕ) → at < length xs → (x : A) × (slice_get xs at ≡ Some x)
 at_least [] at h = absurd (omega arith)
 at_least (x ∷ xs) zero h = (x, refl)
 at_least (x ∷ xs) (suc at) h = at_least xs at (omega arith)
@@ -118,8 +140,10 @@ module _ (ns : List (List ℕ)) (fs : List FrameKey) (ss : List SpotKey) (h : Fi
       let that : place_at (map (place_of ns (paths_of ns fs)) ss) j ≡ place_of ns (paths_of ns fs) l.0 = place_is j l.0 l.1 in
       let places : place_of ns (paths_of ns fs) k.0 ≡ place_of ns (paths_of ns fs) l.0 = sym this ∙ e ∙ that in
       let path : k.0.path ≡ l.0.path = one_path (path_at (paths_of ns fs) k.0.path) k.0.path l.0.path this_in.0 that_in.0 refl (sym (ap (λ (q : Place). q.path) places)) in
-      let names : name_at ns k.0.name ≡ name_at ns l.0.name = ap (λ (q : Place). name_in q.spot) places in
+      let spots : spot_of (name_at ns k.0.name) k.0.address k.0.at ≡ spot_of (name_at ns l.0.name) l.0.address l.0.at = ap (λ (q : Place). q.spot) places in
+      let names : name_at ns k.0.name ≡ name_at ns l.0.name = sym (name_is _ k.0.address k.0.at) ∙ ap name_in spots ∙ name_is _ l.0.address l.0.at in
       let name : k.0.name ≡ l.0.name = one_name ns h.names_apart _ _ this_in.1 that_in.1 names in
-      let at : k.0.at ≡ l.0.at = ap (λ (q : Place). at_in q.spot) places in
-      let keys : k.0 ≡ l.0 = (λ x. record { path = path x; name = name x; at = at x }) in
+      let address : k.0.address ≡ l.0.address = sym (address_is _ k.0.address k.0.at) ∙ ap address_in spots ∙ address_is _ l.0.address l.0.at in
+      let at : k.0.at ≡ l.0.at = sym (at_is _ k.0.address k.0.at) ∙ ap at_in spots ∙ at_is _ l.0.address l.0.at in
+      let keys : k.0 ≡ l.0 = (λ x. record { path = path x; name = name x; address = address x; at = at x }) in
       one_number spot_eq spot_same ss d i j k.0 k.1 (l.1 ∙ ap Some (sym keys))

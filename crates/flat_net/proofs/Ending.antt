@@ -5,38 +5,24 @@ use Rattle.rtl_ir.specs.declared.module.Design.{Design}
 use Rattle.rtl_ir.specs.declared.module.Module.{Module}
 use Rattle.rtl_ir.specs.declared.wire.Role.TheVariants.{Input, Output}
 use Rattle.rtl_ir.specs.declared.wire.Wire.{Wire}
-use Rattle.rtl_ir.specs.Faults.{faults_within}
 use Rattle.rtl_ir.specs.Flat.Driver.{Driven}
-use Rattle.rtl_ir.specs.Flat.Place.{Place, frame}
-use Rattle.rtl_ir.specs.Flat.Tree.{driven_rows, given_rows, in_tree, output_places, places, role_points, root}
+use Rattle.rtl_ir.specs.Flat.Place.{frame}
+use Rattle.rtl_ir.specs.Flat.Tree.{design_ports, driven_rows, given_rows, in_tree, output_places, places, role_points, root}
 use Rattle.rtl_ir.specs.Ports.{line_of, ports_of}
 use Rattle.flat_net.specs.declared.builder.Builder.{Builder}
 use Rattle.flat_net.specs.declared.ends.Ends.{Ends}
 use Rattle.flat_net.specs.declared.net.Net.{Net}
 use Rattle.flat_net.specs.Adds.{Adds}
 use Rattle.flat_net.specs.Ends.{IsEnds}
-use Rattle.flat_net.specs.Known.{Known, Keeps, Extends, nothing}
+use Rattle.flat_net.specs.Known.{Known, Extends, nothing}
 use Rattle.flat_net.specs.Net.{IsNetOf}
-use Rattle.flat_net.specs.Points.{place_at, AreApart}
+use Rattle.flat_net.specs.Points.{AreApart}
 use Rattle.flat_net.specs.Reads.{AreNumbers, AreParts}
-use Rattle.flat_net.specs.Taken.{taken}
-use Rattle.flat_net.specs.Tables.{all_now, own_rows, ports_in}
+use Rattle.flat_net.specs.Tables.{all_now, ports_in}
+use Rattle.rtl_ir.specs.Flat.Rows.{rows_of}
 use Rattle.flat_net.specs.Within.{ArePartsWithin}
 use Rattle.flat_net.proofs.Adding.{Adds-then, Adds-numbers}
-use Rattle.flat_net.proofs.Faultless.{faultless_tree}
-use Rattle.flat_net.proofs.Kept.{within-Keeps}
-use Rattle.flat_net.proofs.Reading.{place-kept}
-
-pub AreNumbers-kept : (ps qs : List Place) (numbers : List ℕ) (they : List Place) → Keeps ps qs → AreNumbers ps numbers they → AreNumbers qs numbers they
-AreNumbers-kept ps qs numbers they keeps h = record { are = same numbers h.within ∙ h.are; within = inside numbers h.within }
-  where
-    same : (ns : List ℕ) → AllByRecursion (λ n. n < length ps) ns → map (place_at qs) ns ≡ map (place_at ps) ns
-    same [] w = refl
-    same (n ∷ ns) w = (λ i. place-kept ps qs keeps n w.0 i ∷ same ns w.1 i)
-
-    inside : (ns : List ℕ) → AllByRecursion (λ n. n < length ps) ns → AllByRecursion (λ n. n < length qs) ns
-    inside [] w = tt
-    inside (n ∷ ns) w = (within-Keeps ps qs n keeps w.0, inside ns w.1)
+use Rattle.flat_net.proofs.Reading.{AreNumbers-kept}
 
 pub ends_are : (a b c : Known) (ends : Ends) (m : Module) (wires : List Wire) (ports : List (Bor Wire)) (lines : List (Bor Wire)) (name id : List ℕ) → Extends a b → Extends b c
     → slice_get a.paths ends.root ≡ Some (frame name id ∷ []) → name ≡ [] → id ≡ m.id → lines ≡ ports → all_now ports ≡ ports_in wires → wires ≡ m.wires
@@ -47,7 +33,7 @@ ends_are a b c ends m wires ports lines name id f g path e h same found k inputs
     let all : map line_of (all_now lines) ≡ ports_of m.wires = ap (λ ws. map line_of (all_now ws)) same ∙ ap (map line_of) found ∙ ap ports_of k in
     record {
       root_is = g.paths _ _ (f.paths _ _ path) ∙ ap Some here;
-      inputs_are = subst (AreNumbers c.places ends.inputs) (λ i. places (role_points Input (here i) (all i))) (AreNumbers-kept b.places c.places _ _ g.places inputs);
+      inputs_are = subst (AreNumbers c.places ends.inputs) (λ i. places (role_points Input (here i) (all i))) (AreNumbers-kept b.places c.places g.places _ _ inputs);
       outputs_are = subst (AreNumbers c.places ends.outputs) (λ i. places (role_points Output (here i) (all i))) outputs;
     }
 
@@ -55,15 +41,15 @@ ends_are a b c ends m wires ports lines name id f g path e h same found k inputs
 pub all_added : (a g t : Builder) (k : Known) (given tree : List Driven) → Extends a.places k → Adds (record { places = k; parts = a.parts }) g given → Adds g t tree → Adds a t (given ++ tree)
 all_added a g t k given tree e h l = Adds-then a g t given tree (Adds-then a (record { places = k; parts = a.parts }) g [] given (Adds-numbers a _ e refl) h) l
 
-pub is_net : (net : Net) (d : Design) (m : Module) (a b : Builder) (numbers : List ℕ) (at below : ℕ) → faults_within taken d.modules ≡ [] → slice_get d.modules at ≡ Some m → suc below ≡ length d.modules
+pub is_net : (net : Net) (d : Design) (m : Module) (a b : Builder) (numbers : List ℕ) (at below : ℕ) → slice_get d.modules at ≡ Some m → suc below ≡ length d.modules
     → a.places ≡ nothing → a.parts.items ≡ []
-    → Adds a b (given_rows (places (role_points Input (root m) (ports_of m.wires))) 0 ++ in_tree d (own_rows d) (suc below) (root m) m) → AreNumbers b.places.places numbers (output_places m)
+    → Adds a b (given_rows (places (role_points Input (root m) (ports_of m.wires))) 0 ++ in_tree d (rows_of (design_ports d)) (suc below) (root m) m) → AreNumbers b.places.places numbers (output_places m)
     → AreApart b.places.places → length b.places.places ≡ net.count → net.parts ≡ b.parts.items → net.outputs ≡ numbers → IsNetOf net d m b.places.places
-is_net net d m a b numbers at below clean is levels fresh none added outputs apart count parts outs =
+is_net net d m a b numbers at below is levels fresh none added outputs apart count parts outs =
     let start : AreParts a.places.places a.parts.items [] = rw none (record { are = refl; within = tt }) in
     let all = added.parts [] start in
-    let rows : given_rows (places (role_points Input (root m) (ports_of m.wires))) 0 ++ in_tree d (own_rows d) (suc below) (root m) m ≡ driven_rows d m =
-    ap (λ rows. given_rows (places (role_points Input (root m) (ports_of m.wires))) 0 ++ rows) (faultless_tree d clean at m is below levels) in
+    let rows : given_rows (places (role_points Input (root m) (ports_of m.wires))) 0 ++ in_tree d (rows_of (design_ports d)) (suc below) (root m) m ≡ driven_rows d m =
+    ap (λ rows. given_rows (places (role_points Input (root m) (ports_of m.wires))) 0 ++ rows) (ap (λ n. in_tree d (rows_of (design_ports d)) n (root m) m) levels) in
     record {
       apart = apart;
       count = count;

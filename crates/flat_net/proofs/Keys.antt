@@ -1,15 +1,16 @@
 -- What keys stand for stays so with more names and keys.
-use Rattle.std.proofs.Common.{◌≡◌, ℕ, zero, suc, ◌+◌, ◌<◌, ◌≤◌, Bool, true, false, ◌&&◌, List, [], ◌∷◌, ◌++◌, length, Some, None, slice_get, refl, sym, ◌∙◌, ap, subst, arith, map, eqb, length-append, option_map, true≢false}
+use Rattle.std.proofs.Common.{◌≡◌, ℕ, zero, suc, ◌+◌, ◌<◌, ◌≤◌, Bool, true, false, ◌&&◌, List, [], ◌∷◌, ◌++◌, length, Option, Some, None, slice_get, refl, sym, ◌∙◌, ap, subst, arith, map, eqb, length-append, option_map, true≢false}
 use Rattle.std.specs.List.{list_any, IsDistinct}
+use Rattle.std.specs.Option.{option_eq}
 use Rattle.std.proofs.lemmas.List.{map-append}
 use Rattle.std.proofs.lemmas.Option.{get_or_from_slice_get, slice_get-map}
 use Rattle.std.proofs.lemmas.Bool.{eqb-true}
 use Rattle.indexmap.specs.IndexSet.{insert_key}
 use Rattle.rtl_sig.specs.Names.{AreDistinct}
-use Rattle.rtl_ir.specs.Flat.Place.{Path, frame, wire_place}
+use Rattle.rtl_ir.specs.Flat.Place.{Path, frame}
 use Rattle.flat_net.specs.declared.places.FrameKey.{FrameKey}
 use Rattle.flat_net.specs.declared.places.SpotKey.{SpotKey}
-use Rattle.flat_net.specs.Keys.{name_at, path_at, path_of, paths_from, paths_of, place_of, known_of, AreFrames, AreSpots, Fits, frame_eq}
+use Rattle.flat_net.specs.Keys.{name_at, path_at, path_of, paths_from, paths_of, place_of, known_of, spot_of, AreFrames, AreSpots, Fits, frame_eq}
 use Rattle.flat_net.specs.Known.{Known, Keeps, Extends}
 use Rattle.flat_net.proofs.Kept.{Keeps-refl, Keeps-append, get_or-Keeps, length-Keeps}
 
@@ -19,7 +20,14 @@ and_parts false b h = absurd (true≢false (sym h))
 
 -- the test of keys of bits
 abbrev pub spot_eq : SpotKey → SpotKey → Bool
-spot_eq a b = eqb a.path b.path && (eqb a.name b.name && eqb a.at b.at)
+spot_eq a b = eqb a.path b.path && (eqb a.name b.name && (option_eq eqb a.address b.address && eqb a.at b.at))
+
+-- addresses that are taken for one are one
+same_address : (a b : Option ℕ) → option_eq eqb a b ≡ true → a ≡ b
+same_address None None h = refl
+same_address None (Some y) h = absurd (true≢false (sym h))
+same_address (Some x) None h = absurd (true≢false (sym h))
+same_address (Some x) (Some y) h = ap Some (eqb-true x y h)
 
 -- keys that are taken for one are one
 pub same_spot : (a b : SpotKey) → spot_eq a b ≡ true → a ≡ b
@@ -28,8 +36,10 @@ same_spot a b h =
     let r = and_parts _ _ l.1 in
     let path : a.path ≡ b.path = eqb-true _ _ l.0 in
     let name : a.name ≡ b.name = eqb-true _ _ r.0 in
-    let at : a.at ≡ b.at = eqb-true _ _ r.1 in
-    (λ i. record { path = path i; name = name i; at = at i })
+    let rest = and_parts _ _ r.1 in
+    let address : a.address ≡ b.address = same_address _ _ rest.0 in
+    let at : a.at ≡ b.at = eqb-true _ _ rest.1 in
+    (λ i. record { path = path i; name = name i; address = address i; at = at i })
 
 pub same_frame : (a b : FrameKey) → frame_eq a b ≡ true → a ≡ b
 same_frame a b h =
@@ -65,7 +75,7 @@ places-kept ns ms ps qs (s ∷ ss) k l h =
     let name : name_at ms s.name ≡ name_at ns s.name = get_or-Keeps ns ms [] s.name k h.0.1 in
     let path : path_at qs s.path ≡ path_at ps s.path = get_or-Keeps ps qs [] s.path l h.0.0 in
     let rest = places-kept ns ms ps qs ss k l h.1 in
-    (λ i. wire_place (path i) (name i) s.at ∷ rest i)
+    (λ i. record { path = path i; spot = spot_of (name i) s.address s.at } ∷ rest i)
 
 pub length-paths_from : (ns : List (List ℕ)) (ps : List Path) (fs : List FrameKey) → length (paths_from ns ps fs) ≡ length ps + length fs
 length-paths_from ns ps [] = omega arith
@@ -209,12 +219,12 @@ module _ (ns ms : List (List ℕ)) (fs : List FrameKey) (ss ts : List SpotKey) (
       rw put (Fits-spot spot_eq ms fs ss k (Fits-names ns ms fs ss keeps d h) (omega arith) named)
 
   pub spot_stands : (name : List ℕ) (p : Path) (n : ℕ) → slice_get known.paths k.path ≡ Some p → slice_get ms k.name ≡ Some name → slice_get ts n ≡ Some k
-      → slice_get (known_of ms fs ts).places n ≡ Some (wire_place p name k.at)
+      → slice_get (known_of ms fs ts).places n ≡ Some (record { path = p; spot = spot_of name k.address k.at })
   spot_stands name p n path named there =
       let e = spot_extends in
       let around : path_at (paths_of ms fs) k.path ≡ p = get_or_from_slice_get (paths_of ms fs) k.path p [] (e.paths k.path p path) in
       let called : name_at ms k.name ≡ name = get_or_from_slice_get ms k.name name [] named in
-      slice_get-map (place_of ms (paths_of ms fs)) ts n ∙ ap (option_map (place_of ms (paths_of ms fs))) there ∙ (λ i. Some (wire_place (around i) (called i) k.at))
+      slice_get-map (place_of ms (paths_of ms fs)) ts n ∙ ap (option_map (place_of ms (paths_of ms fs))) there ∙ (λ i. Some (record { path = around i; spot = spot_of (called i) k.address k.at }))
 
 -- a number more for a path
 module _ (ns ms : List (List ℕ)) (fs gs : List FrameKey) (ss : List SpotKey) (h : Fits ns fs ss) (keeps : Keeps ns ms) (d : AreDistinct ms) (known : Known) (is : known_of ns fs ss ≡ known) (k : FrameKey) (put : gs ≡ insert_key frame_eq fs k) where

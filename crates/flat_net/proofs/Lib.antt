@@ -21,5 +21,7 @@ pub mod Tabling
 pub mod Moduling
 pub mod Giving
 pub mod Treeing
-pub mod Faultless
+pub mod Wording
+pub mod Lining
+pub mod Fetching
 pub mod Ending

@@ -1,6 +1,6 @@
 -- Numbers that stand for something go on to stand for it.
 use Rattle.std.proofs.Common.{◌≡◌, ℕ, zero, suc, ◌+◌, ◌<◌, List, [], ◌∷◌, ◌++◌, length, get_or, take, Some, slice_get, refl, ◌∙◌, ap, subst, arith, map, if◌then◌else◌}
-use Rattle.std.specs.Prelude.{Bool, Option, None, nat_eq}
+use Rattle.std.specs.Prelude.{Bool, Option, None, flat_map, nat_eq}
 use Rattle.std.specs.Option.{option_map_or}
 use Rattle.rtl_bits.specs.declared.bit.Bit.TheVariants.{X}
 use Rattle.std.specs.List.{AllByRecursion}
@@ -9,8 +9,10 @@ use Rattle.std.proofs.lemmas.List.{map-append, take_more, append-nil}
 use Rattle.std.proofs.lemmas.Option.{slice_get_within, get_or_from_slice_get}
 use Rattle.rtl_sig.specs.declared.sig.SigBit.{SigBit}
 use Rattle.rtl_sig.specs.declared.sig.WireBit.{WireBit}
+use Rattle.rtl_ir.specs.declared.plan.ReadPort.{ReadPort as PlanRead}
+use Rattle.rtl_ir.specs.declared.store.Store.{Store}
 use Rattle.rtl_ir.specs.declared.wire.Wire.{Wire}
-use Rattle.rtl_ir.specs.Flat.Driver.{Driven, Given, Joined, Worked, Stored, Decided, Held as HeldBy, Raced as RacedBy}
+use Rattle.rtl_ir.specs.Flat.Driver.{Driven, Given, Joined, Worked, Stored, Decided, Held as HeldBy, Raced as RacedBy, Remembered as RememberedBy, Fetched as FetchedBy}
 use Rattle.rtl_ir.specs.Flat.Pick.{Pick, Is, where_of}
 use Rattle.rtl_ir.specs.Flat.Place.{Path, Place, wire_place}
 use Rattle.rtl_ir.specs.Flat.Point.{point, points, point_at, wire_points}
@@ -29,14 +31,21 @@ use Rattle.flat_net.specs.declared.choices.Tree.{Tree}
 use Rattle.flat_net.specs.declared.leaves.HeldBit.{HeldBit}
 use Rattle.flat_net.specs.declared.leaves.Raced.{Raced}
 use Rattle.flat_net.specs.declared.leaves.Source.{Source}
+use Rattle.flat_net.specs.declared.memory.Fetched.{Fetched}
+use Rattle.flat_net.specs.declared.memory.ReadPort.{ReadPort}
+use Rattle.flat_net.specs.declared.memory.Remembered.{Remembered}
+use Rattle.flat_net.specs.declared.memory.WordBit.{WordBit}
+use Rattle.flat_net.specs.declared.memory.WritePort.{WritePort}
+use Rattle.flat_net.specs.Memories.{AreBegins, AreColumns, ArePorts, AreReadPorts, Begins, IsReadPort, begins_of}
+use Rattle.flat_net.specs.Words.{Ported, column_of, fetched_row, port_rows, ported_of, ports_at, word_row}
 use Rattle.flat_net.specs.Choices.{Choices, NoChoice, OneChoice, Branches, NoBranch, OneBranch, BranchView}
 use Rattle.flat_net.specs.Picks.{assigned_pick, branch_pick, branches_pick, choices_pick, expanded_pick, leaf_pick, root_pick, source_of, tree_pick, tree_row}
 use Rattle.flat_net.specs.Trees.{AreSignals, IsSource}
 use Rattle.flat_net.specs.Known.{Known, Keeps, Extends}
 use Rattle.flat_net.specs.Parts.{held_row, part_rows, parts_rows, output_row, raced_row, store_row, inputs_of}
 use Rattle.flat_net.specs.Points.{place_at, point_of, points_of, pins_of}
-use Rattle.flat_net.specs.Reads.{IsPoint, ArePoints, AreParts}
-use Rattle.flat_net.specs.Within.{IsPointWithin, ArePointsWithin, ArePinsWithin, IsStoreWithin, IsAssignWithin, IsSourceWithin, AreChoicesWithin, AreBranchesWithin, IsBranchWithin, IsOutputWithin, IsTreeWithin, IsHeldBitWithin, IsRacedWithin, IsPartWithin, ArePartsWithin}
+use Rattle.flat_net.specs.Reads.{AreNumbers, IsPoint, ArePoints, AreParts}
+use Rattle.flat_net.specs.Within.{IsPointWithin, ArePointsWithin, ArePinsWithin, IsStoreWithin, IsAssignWithin, IsSourceWithin, AreChoicesWithin, AreBranchesWithin, IsBranchWithin, IsOutputWithin, IsTreeWithin, IsHeldBitWithin, IsRacedWithin, IsReadPortWithin, IsWritePortWithin, IsPartWithin, ArePartsWithin}
 use Rattle.flat_net.proofs.Kept.{Keeps-refl, get_or-Keeps, within-Keeps}
 
 pub Extends-refl : (k : Known) → Extends k k
@@ -251,6 +260,116 @@ module _ (ps qs : List Place) (keeps : Keeps ps qs) where
   helds-within width [] h = tt
   helds-within width (b ∷ bs) h = ((number-kept b.number h.0.0, source-within width b.source h.0.1), helds-within width bs h.1)
 
+  -- memories
+
+  numbers-kept : (ns : List ℕ) → AllByRecursion (λ n. n < length ps) ns → map (place_at qs) ns ≡ map (place_at ps) ns
+  numbers-kept [] h = refl
+  numbers-kept (n ∷ ns) h = (λ i. place-kept n h.0 i ∷ numbers-kept ns h.1 i)
+
+  numbers-within : (ns : List ℕ) → AllByRecursion (λ n. n < length ps) ns → AllByRecursion (λ n. n < length qs) ns
+  numbers-within [] h = tt
+  numbers-within (n ∷ ns) h = (number-kept n h.0, numbers-within ns h.1)
+
+  pub AreNumbers-kept : (ns : List ℕ) (they : List Place) → AreNumbers ps ns they → AreNumbers qs ns they
+  AreNumbers-kept ns they h = record { are = numbers-kept ns h.within ∙ h.are; within = numbers-within ns h.within }
+
+  ported-kept : (ws : List WritePort) → AllByRecursion (IsWritePortWithin (length ps)) ws → map (ported_of qs) ws ≡ map (ported_of ps) ws
+  ported-kept [] h = refl
+  ported-kept (w ∷ ws) h =
+      let address = points-kept w.address h.0.address in
+      let enable = points-kept w.enable h.0.enable in
+      let new = points-kept w.word h.0.word in
+      let rest = ported-kept ws h.1 in
+      (λ i. record { number = w.number; mask = w.mask; address = address i; enable = enable i; new = new i } ∷ rest i)
+
+  ports-within : (ws : List WritePort) → AllByRecursion (IsWritePortWithin (length ps)) ws → AllByRecursion (IsWritePortWithin (length qs)) ws
+  ports-within [] h = tt
+  ports-within (w ∷ ws) h =
+      (record { address = points-within w.address h.0.address; enable = points-within w.enable h.0.enable; word = points-within w.word h.0.word }, ports-within ws h.1)
+
+  pub ArePorts-kept : (ws : List WritePort) (they : List Ported) → ArePorts ps ws they → ArePorts qs ws they
+  ArePorts-kept ws they h = record { are = ported-kept ws h.within ∙ h.are; within = ports-within ws h.within }
+
+  begins-kept : (bs : List WordBit) → AllByRecursion (λ (b : WordBit). b.number < length ps) bs → map (begins_of qs) bs ≡ map (begins_of ps) bs
+  begins-kept [] h = refl
+  begins-kept (b ∷ bs) h =
+      let place = place-kept b.number h.0 in
+      let rest = begins-kept bs h.1 in
+      (λ i. record { place = place i; start = b.start; address = b.address; at = b.at } ∷ rest i)
+
+  word_bits-within : (bs : List WordBit) → AllByRecursion (λ (b : WordBit). b.number < length ps) bs → AllByRecursion (λ (b : WordBit). b.number < length qs) bs
+  word_bits-within [] h = tt
+  word_bits-within (b ∷ bs) h = (number-kept b.number h.0, word_bits-within bs h.1)
+
+  pub AreBegins-kept : (bs : List WordBit) (they : List Begins) → AreBegins ps bs they → AreBegins qs bs they
+  AreBegins-kept bs they h = record { are = begins-kept bs h.within ∙ h.are; within = word_bits-within bs h.within }
+
+  word_rows-kept : (w : Remembered) (bs : List WordBit) → IsPointWithin (length ps) w.clock → AllByRecursion (IsWritePortWithin (length ps)) w.ports
+      → AllByRecursion (λ (b : WordBit). b.number < length ps) bs → map (word_row qs w) bs ≡ map (word_row ps w) bs
+  word_rows-kept w [] c h k = refl
+  word_rows-kept w (b ∷ bs) c h k =
+      let place = place-kept b.number k.0 in
+      let clock = point-kept w.clock c in
+      let ports = ported-kept w.ports h in
+      let rest = word_rows-kept w bs c h k.1 in
+      (λ i. record { place = place i; driver = RememberedBy b.start (clock i) w.level b.address (ports_at b.at [] (ports i)) (place i) } ∷ rest i)
+
+  column-kept : (cs : List (List ℕ)) (at : ℕ) → AllByRecursion (AllByRecursion (λ n. n < length ps)) cs → column_of qs cs at ≡ column_of ps cs at
+  column-kept [] at h = refl
+  column-kept (ns ∷ cs) zero h = each ns h.0
+    where
+      each : (ns : List ℕ) → AllByRecursion (λ n. n < length ps) ns → map (λ n. rtl.At (place_at qs n)) ns ≡ map (λ n. rtl.At (place_at ps n)) ns
+      each [] h = refl
+      each (n ∷ ns) h = (λ i. rtl.At (place-kept n h.0 i) ∷ each ns h.1 i)
+  column-kept (ns ∷ cs) (suc at) h = column-kept cs at h.1
+
+  columns-kept : (cs : List (List ℕ)) → AllByRecursion (AllByRecursion (λ n. n < length ps)) cs → map (map (place_at qs)) cs ≡ map (map (place_at ps)) cs
+  columns-kept [] h = refl
+  columns-kept (ns ∷ cs) h = (λ i. numbers-kept ns h.0 i ∷ columns-kept cs h.1 i)
+
+  columns-within : (cs : List (List ℕ)) → AllByRecursion (AllByRecursion (λ n. n < length ps)) cs → AllByRecursion (AllByRecursion (λ n. n < length qs)) cs
+  columns-within [] h = tt
+  columns-within (ns ∷ cs) h = (numbers-within ns h.0, columns-within cs h.1)
+
+  pub AreColumns-kept : (p : Path) (s : Store) (cs : List (List ℕ)) (width : ℕ) → AreColumns ps p s cs width → AreColumns qs p s cs width
+  AreColumns-kept p s cs width h = record { are = columns-kept cs h.within ∙ h.are; within = columns-within cs h.within }
+
+  fetched-kept : (f : Fetched) (r : ReadPort) (os : List Output) → AllByRecursion (AllByRecursion (λ n. n < length ps)) f.columns → ArePointsWithin (length ps) r.address
+      → AllByRecursion (λ (o : Output). o.number < length ps) os → map (fetched_row qs f r) os ≡ map (fetched_row ps f r) os
+  fetched-kept f r [] c h k = refl
+  fetched-kept f r (o ∷ os) c h k =
+      let place = place-kept o.number k.0 in
+      let address = points-kept r.address h in
+      let column = column-kept f.columns o.at c in
+      let rest = fetched-kept f r os c h k.1 in
+      (λ i. record { place = place i; driver = FetchedBy (address i) f.first (column i) } ∷ rest i)
+
+  port_rows-kept : (f : Fetched) (rs : List ReadPort) → AllByRecursion (AllByRecursion (λ n. n < length ps)) f.columns → AllByRecursion (IsReadPortWithin (length ps)) rs
+      → flat_map (port_rows qs f) rs ≡ flat_map (port_rows ps f) rs
+  port_rows-kept f [] c h = refl
+  port_rows-kept f (r ∷ rs) c h =
+      let here = fetched-kept f r r.outputs c h.0.address h.0.outputs in
+      let rest = port_rows-kept f rs c h.1 in
+      (λ i. here i ++ rest i)
+
+  read_ports-within : (rs : List ReadPort) → AllByRecursion (IsReadPortWithin (length ps)) rs → AllByRecursion (IsReadPortWithin (length qs)) rs
+  read_ports-within [] h = tt
+  read_ports-within (r ∷ rs) h =
+      (record { address = points-within r.address h.0.address; outputs = outputs-within r.outputs h.0.outputs }, read_ports-within rs h.1)
+
+  IsReadPort-kept : (p : Path) (wires : List Wire) (r : ReadPort) (it : PlanRead) → IsReadPort ps p wires r it → IsReadPort qs p wires r it
+  IsReadPort-kept p wires r it h = record {
+    address = ArePoints-kept r.address (points p wires it.address) h.address;
+    outputs = λ shape inputs. outputs-kept shape inputs inputs refl r.outputs h.within ∙ h.outputs shape inputs;
+    within = outputs-within r.outputs h.within;
+  }
+
+  pub AreReadPorts-kept : (p : Path) (wires : List Wire) (rs : List ReadPort) (they : List PlanRead) → AreReadPorts ps p wires rs they → AreReadPorts qs p wires rs they
+  AreReadPorts-kept p wires [] [] h = tt
+  AreReadPorts-kept p wires [] (it ∷ they) h = absurd h
+  AreReadPorts-kept p wires (r ∷ rs) [] h = absurd h
+  AreReadPorts-kept p wires (r ∷ rs) (it ∷ they) h = (IsReadPort-kept p wires r it h.0, AreReadPorts-kept p wires rs they h.1)
+
   part-kept : (x : Part) → IsPartWithin (length ps) x → part_rows qs x ≡ part_rows ps x
   part-kept (part.Given o) h = let place = place-kept o.number h in (λ i. record { place = place i; driver = Given o.at } ∷ [])
   part-kept (part.Joined j) h =
@@ -267,6 +386,8 @@ module _ (ps qs : List Place) (keeps : Keeps ps qs) where
   part-kept (part.Tree t) h = trees-kept t.value.root t.value.width t.value.outputs h.root h.outputs
   part-kept (part.Held h) w = helds-kept h.value.tree h.value.bits w.tree w.bits
   part-kept (part.Raced r) w = raced-kept r.value r.value.bits w w.bits
+  part-kept (part.Remembered w) h = word_rows-kept w.value w.value.bits h.clock h.ports h.bits
+  part-kept (part.Fetched f) h = port_rows-kept f.value f.value.ports h.columns h.ports
 
   part-within : (x : Part) → IsPartWithin (length ps) x → IsPartWithin (length qs) x
   part-within (part.Given o) h = number-kept o.number h
@@ -286,6 +407,12 @@ module _ (ps qs : List Place) (keeps : Keeps ps qs) where
     reset = point-within r.value.reset w.reset;
     bits = helds-within r.value.tree.width r.value.bits w.bits;
   }
+  part-within (part.Remembered w) h = record {
+    clock = point-within w.value.clock h.clock;
+    ports = ports-within w.value.ports h.ports;
+    bits = word_bits-within w.value.bits h.bits;
+  }
+  part-within (part.Fetched f) h = record { columns = columns-within f.value.columns h.columns; ports = read_ports-within f.value.ports h.ports }
 
   parts-kept : (xs : List Part) → ArePartsWithin (length ps) xs → parts_rows qs xs ≡ parts_rows ps xs
   parts-kept [] h = refl

@@ -10,7 +10,7 @@ use Rattle.rtl_ir.specs.declared.module.Module.{Module}
 use Rattle.rtl_ir.specs.Flat.Cell.{cell_kind, instance_of, instances, listed}
 use Rattle.rtl_ir.specs.Flat.Driver.{Driven}
 use Rattle.rtl_ir.specs.Flat.Place.{Frame, Path, frame}
-use Rattle.rtl_ir.specs.Flat.Tree.{in_instances, in_module, in_tree, named}
+use Rattle.rtl_ir.specs.Flat.Tree.{design_ports, in_instances, in_module, in_tree, named}
 use Rattle.rtl_ir.proofs.PortLemmas.{drop-before}
 use Rattle.flat_net.specs.declared.builder.Builder.{Builder}
 use Rattle.flat_net.specs.declared.modules.Entry.{Entry}
@@ -18,7 +18,8 @@ use Rattle.flat_net.specs.declared.tree.Visit.{Visit}
 use Rattle.flat_net.specs.Adds.{Adds}
 use Rattle.flat_net.specs.Keys.{path_at}
 use Rattle.flat_net.specs.Known.{Keeps, Extends, Known}
-use Rattle.flat_net.specs.Tables.{Stands, own_rows}
+use Rattle.flat_net.specs.Tables.{Stands}
+use Rattle.rtl_ir.specs.Flat.Rows.{rows_of}
 use Rattle.flat_net.specs.Visits.{ArePathed, Opens, pending, visit_rows}
 use Rattle.flat_net.proofs.Adding.{Adds-then, Adds-numbers, Leads, Leads-none, Leads-next, Leads-end}
 use Rattle.flat_net.proofs.Kept.{get_or-Keeps, within-Keeps}
@@ -32,11 +33,11 @@ in_instances-append d inner p (f ∷ fs) gs =
     ∙ sym (append_assoc (in_module inner (f ∷ p) (named d.modules f.module_name)) (in_instances d inner p fs) (in_instances d inner p gs))
 
 -- no level is left
-no_levels : (d : Design) (p : Path) (fs : List Frame) → in_instances d (in_tree d (own_rows d) 0) p fs ≡ []
+no_levels : (d : Design) (p : Path) (fs : List Frame) → in_instances d (in_tree d (rows_of (design_ports d)) 0) p fs ≡ []
 no_levels d p [] = refl
 no_levels d p (f ∷ fs) = by (named d.modules f.module_name) (no_levels d p fs)
   where
-    by : (m : Option Module) → in_instances d (in_tree d (own_rows d) 0) p fs ≡ [] → in_module (in_tree d (own_rows d) 0) (f ∷ p) m ++ in_instances d (in_tree d (own_rows d) 0) p fs ≡ []
+    by : (m : Option Module) → in_instances d (in_tree d (rows_of (design_ports d)) 0) p fs ≡ [] → in_module (in_tree d (rows_of (design_ports d)) 0) (f ∷ p) m ++ in_instances d (in_tree d (rows_of (design_ports d)) 0) p fs ≡ []
     by None h = h
     by (Some m) h = h
 
@@ -50,7 +51,7 @@ pending-kept d ps qs [] k h = refl
 pending-kept d ps qs (v ∷ vs) k h =
     let path : path_at qs v.path ≡ path_at ps v.path = get_or-Keeps ps qs [] v.path k h.0 in
     let rest = pending-kept d ps qs vs k h.1 in
-    (λ i. rest i ++ in_tree d (own_rows d) (suc v.below) (path i) v.body.now)
+    (λ i. rest i ++ in_tree d (rows_of (design_ports d)) (suc v.below) (path i) v.body.now)
 
 pub pathed-kept : (ps qs : List Path) (vs : List Visit) → Keeps ps qs → ArePathed ps vs → ArePathed qs vs
 pathed-kept ps qs [] k h = tt
@@ -70,11 +71,11 @@ pathed-behind ps (v ∷ vs) ws h = pathed-behind ps vs ws h.1
 
 -- what a cell opens
 
-pub Opens-none : (d : Design) (paths : List Path) (old : List Visit) (below : ℕ) (p : Path) (cells : List Cell) → [] ≡ in_instances d (in_tree d (own_rows d) below) p (instances cells) → Opens d paths old old below p cells
+pub Opens-none : (d : Design) (paths : List Path) (old : List Visit) (below : ℕ) (p : Path) (cells : List Cell) → [] ≡ in_instances d (in_tree d (rows_of (design_ports d)) below) p (instances cells) → Opens d paths old old below p cells
 Opens-none d paths old below p cells h = record { added = []; put = sym (append-nil old); rows = h; pathed = tt }
 
 pub Opens-no_level : (d : Design) (paths : List Path) (old : List Visit) (below : ℕ) (p : Path) (cells : List Cell) → below ≡ 0 → Opens d paths old old below p cells
-Opens-no_level d paths old below p cells e = Opens-none d paths old below p cells (sym (ap (λ n. in_instances d (in_tree d (own_rows d) n) p (instances cells)) e ∙ no_levels d p (instances cells)))
+Opens-no_level d paths old below p cells e = Opens-none d paths old below p cells (sym (ap (λ n. in_instances d (in_tree d (rows_of (design_ports d)) n) p (instances cells)) e ∙ no_levels d p (instances cells)))
 
 none_if : (o : Option CellKind) → is_some o ≡ false → o ≡ None
 none_if None h = refl
@@ -95,20 +96,20 @@ instance_frames c e = ap (λ o. listed (instance_of c o) ++ []) e
 pub Opens-library : (d : Design) (paths : List Path) (old : List Visit) (below : ℕ) (p : Path) (c : Cell) (id : List ℕ) (kind : Option CellKind) (some : Bool)
     → id ≡ c.kind_name → kind ≡ kind_of id → some ≡ is_some kind → some ≡ true → Opens d paths old old below p (c ∷ [])
 Opens-library d paths old below p c id kind some e f g h =
-    Opens-none d paths old below p (c ∷ []) (ap (in_instances d (in_tree d (own_rows d) below) p) (sym (library_frames c (sym (ap (λ i. is_some (kind_of i)) e) ∙ sym (ap is_some f) ∙ sym g ∙ h))))
+    Opens-none d paths old below p (c ∷ []) (ap (in_instances d (in_tree d (rows_of (design_ports d)) below) p) (sym (library_frames c (sym (ap (λ i. is_some (kind_of i)) e) ∙ sym (ap is_some f) ∙ sym g ∙ h))))
 
 -- the cell is an instance
 module _ (d : Design) (paths : List Path) (old : List Visit) (below : ℕ) (p : Path) (c : Cell) (id : List ℕ) (kind : Option CellKind) (some : Bool) (e : id ≡ c.kind_name) (f : kind ≡ kind_of id) (g : some ≡ is_some kind) (h : some ≡ false) where
   frames : instances (c ∷ []) ≡ frame c.name c.kind_name ∷ []
   frames = instance_frames c (sym (ap kind_of e) ∙ sym f ∙ none_if kind (sym g ∙ h))
 
-  one : in_instances d (in_tree d (own_rows d) below) p (instances (c ∷ [])) ≡ in_module (in_tree d (own_rows d) below) (frame c.name c.kind_name ∷ p) (named d.modules c.kind_name)
-  one = ap (in_instances d (in_tree d (own_rows d) below) p) frames ∙ append-nil _
+  one : in_instances d (in_tree d (rows_of (design_ports d)) below) p (instances (c ∷ [])) ≡ in_module (in_tree d (rows_of (design_ports d)) below) (frame c.name c.kind_name ∷ p) (named d.modules c.kind_name)
+  one = ap (in_instances d (in_tree d (rows_of (design_ports d)) below) p) frames ∙ append-nil _
 
   pub Opens-missing : Stands None (named d.modules id) → Opens d paths old old below p (c ∷ [])
   Opens-missing s = Opens-none d paths old below p (c ∷ []) (sym (one ∙ by (named d.modules c.kind_name) (subst (λ i. Stands None (named d.modules i)) e s)))
     where
-      by : (m : Option Module) → Stands None m → in_module (in_tree d (own_rows d) below) (frame c.name c.kind_name ∷ p) m ≡ []
+      by : (m : Option Module) → Stands None m → in_module (in_tree d (rows_of (design_ports d)) below) (frame c.name c.kind_name ∷ p) m ≡ []
       by None s = refl
       by (Some m) s = absurd s
 
@@ -117,16 +118,16 @@ module _ (d : Design) (paths : List Path) (old : List Visit) (below : ℕ) (p : 
   Opens-found new v entry name s body levels called there put = record {
     added = v ∷ [];
     put = put;
-    rows = (λ i. in_tree d (own_rows d) (levels i) (path i) (body i)) ∙ sym (one ∙ by (named d.modules c.kind_name) (subst (λ i. Stands (Some entry) (named d.modules i)) e s));
+    rows = (λ i. in_tree d (rows_of (design_ports d)) (levels i) (path i) (body i)) ∙ sym (one ∙ by (named d.modules c.kind_name) (subst (λ i. Stands (Some entry) (named d.modules i)) e s));
     pathed = (slice_get_within paths v.path _ there, tt);
   }
     where
       path : path_at paths v.path ≡ frame c.name c.kind_name ∷ p
       path = get_or_from_slice_get paths v.path _ [] there ∙ (λ i. frame (called i) (e i) ∷ p)
 
-      by : (m : Option Module) → Stands (Some entry) m → in_module (in_tree d (own_rows d) below) (frame c.name c.kind_name ∷ p) m ≡ in_tree d (own_rows d) below (frame c.name c.kind_name ∷ p) entry.body.now
+      by : (m : Option Module) → Stands (Some entry) m → in_module (in_tree d (rows_of (design_ports d)) below) (frame c.name c.kind_name ∷ p) m ≡ in_tree d (rows_of (design_ports d)) below (frame c.name c.kind_name ∷ p) entry.body.now
       by None s = absurd s
-      by (Some m) s = ap (in_tree d (own_rows d) below (frame c.name c.kind_name ∷ p)) (sym s.body)
+      by (Some m) s = ap (in_tree d (rows_of (design_ports d)) below (frame c.name c.kind_name ∷ p)) (sym s.body)
 
 -- the cells, from the last one on
 
@@ -138,8 +139,8 @@ Opens-next d ps qs old mid new below p cells at c some within is keeps h k = rw 
   rows =
       pending-append d qs h.added k.added
       ∙ (λ i. k.rows i ++ (pending-kept d ps qs h.added keeps h.pathed ∙ h.rows) i)
-      ∙ sym (in_instances-append d (in_tree d (own_rows d) below) p (instances (c ∷ [])) (instances (drop at cells)))
-      ∙ ap (λ fs. in_instances d (in_tree d (own_rows d) below) p (fs ++ instances (drop at cells))) (append-nil (listed (instance_of c (cell_kind c))));
+      ∙ sym (in_instances-append d (in_tree d (rows_of (design_ports d)) below) p (instances (c ∷ [])) (instances (drop at cells)))
+      ∙ ap (λ fs. in_instances d (in_tree d (rows_of (design_ports d)) below) p (fs ++ instances (drop at cells))) (append-nil (listed (instance_of c (cell_kind c))));
   pathed = pathed-append qs h.added k.added (pathed-kept ps qs h.added keeps h.pathed) k.pathed;
 })
 
@@ -149,11 +150,11 @@ Opens-all d ps old new below p cells at none h =
     subst (λ n. Opens d ps old new below p (drop n cells)) first h
 
 -- the first module
-pub Leads-first : (d : Design) (a : Builder) (visits : List Visit) (v : Visit) (p : Path) → visits ≡ v ∷ [] → slice_get a.places.paths v.path ≡ Some p → Leads a a (in_tree d (own_rows d) (suc v.below) p v.body.now) (pending d a.places.paths visits)
+pub Leads-first : (d : Design) (a : Builder) (visits : List Visit) (v : Visit) (p : Path) → visits ≡ v ∷ [] → slice_get a.places.paths v.path ≡ Some p → Leads a a (in_tree d (rows_of (design_ports d)) (suc v.below) p v.body.now) (pending d a.places.paths visits)
 Leads-first d a visits v p put path =
-    let all = in_tree d (own_rows d) (suc v.below) p v.body.now in
+    let all = in_tree d (rows_of (design_ports d)) (suc v.below) p v.body.now in
     let here : path_at a.places.paths v.path ≡ p = get_or_from_slice_get a.places.paths v.path p [] path in
-    subst (Leads a a all) ((λ i. in_tree d (own_rows d) (suc v.below) (sym here i) v.body.now) ∙ ap (pending d a.places.paths) (sym put)) (Leads-none a all)
+    subst (Leads a a all) ((λ i. in_tree d (rows_of (design_ports d)) (suc v.below) (sym here i) v.body.now) ∙ ap (pending d a.places.paths) (sym put)) (Leads-none a all)
 
 -- no module is left
 pub Leads-done : (d : Design) (a b : Builder) (all : List Driven) (paths : List Path) (visits : List Visit) → length visits ≡ 0 → Leads a b all (pending d paths visits) → Adds a b all
@@ -176,12 +177,12 @@ module _ (d : Design) (a s t : Builder) (k : Known) (all : List Driven) (visits 
   pub visit_path : slice_get s.places.paths v.path ≡ Some (path_at s.places.paths v.path)
   visit_path = slice_get-get_or s.places.paths v.path [] (last_pathed s.places.paths visits left v popped pathed)
 
-  pub step_leads : Leads a s all (pending d s.places.paths visits) → Adds s t (own_rows d (path_at s.places.paths v.path) v.body.now)
+  pub step_leads : Leads a s all (pending d s.places.paths visits) → Adds s t (rows_of (design_ports d) (path_at s.places.paths v.path) v.body.now)
       → Opens d k.paths left next v.below (path_at s.places.paths v.path) v.body.now.cells → Leads a (record { places = k; parts = t.parts }) all (pending d k.paths next)
   step_leads l h o =
       let p = path_at s.places.paths v.path in
-      let own = own_rows d p v.body.now in
-      let inner = in_instances d (in_tree d (own_rows d) v.below) p (instances v.body.now.cells) in
+      let own = rows_of (design_ports d) p v.body.now in
+      let inner = in_instances d (in_tree d (rows_of (design_ports d)) v.below) p (instances v.body.now.cells) in
       let kept : Keeps s.places.paths k.paths = (λ n x h. e.paths n x (g.paths n x h)) in
       let before : ArePathed s.places.paths left = pathed-before s.places.paths left (v ∷ []) (subst (ArePathed s.places.paths) popped pathed) in
       let whole : pending d s.places.paths visits ≡ own ++ (inner ++ pending d s.places.paths left) =

@@ -1,8 +1,8 @@
 -- What the keys of paths and bits stand for.
-use Rattle.std.specs.Prelude.{◌<◌, ℕ, suc, List, [], ◌∷◌, ◌++◌, length, map, slice_index_or, Bool, ◌&&◌, nat_eq}
+use Rattle.std.specs.Prelude.{◌<◌, ℕ, suc, List, [], ◌∷◌, ◌++◌, length, map, slice_index_or, Bool, ◌&&◌, nat_eq, Option, Some, None}
 use Rattle.std.specs.List.{AllByRecursion, IsDistinct}
 use Rattle.rtl_sig.specs.Names.{AreDistinct}
-use Rattle.rtl_ir.specs.Flat.Place.{Path, Place, frame, wire_place}
+use Rattle.rtl_ir.specs.Flat.Place.{Path, Place, Spot, OfWire, OfWord, frame}
 use Rattle.flat_net.specs.declared.places.FrameKey.{FrameKey}
 use Rattle.flat_net.specs.declared.places.SpotKey.{SpotKey}
 use Rattle.flat_net.specs.Known.{Known}
@@ -28,9 +28,14 @@ paths_from names paths (k ∷ keys) = paths_from names (paths ++ path_of names p
 abbrev pub paths_of : List (List ℕ) → List FrameKey → List Path
 paths_of names keys = paths_from names ([] ∷ []) keys
 
+-- a bit of the wire of a name, or of the word at an address
+abbrev pub spot_of : List ℕ → Option ℕ → ℕ → Spot
+spot_of name None at = OfWire name at
+spot_of name (Some address) at = OfWord name address at
+
 -- the bit of a key
 abbrev pub place_of : List (List ℕ) → List Path → SpotKey → Place
-place_of names paths k = wire_place (path_at paths k.path) (name_at names k.name) k.at
+place_of names paths k = record { path = path_at paths k.path; spot = spot_of (name_at names k.name) k.address k.at }
 
 -- what keys stand for
 abbrev pub known_of : List (List ℕ) → List FrameKey → List SpotKey → Known

@@ -4,6 +4,7 @@ pub mod Points
 pub mod Choices
 pub mod ChoiceCode
 pub mod Picks
+pub mod Words
 pub mod Parts
 pub mod Within
 pub mod Reads
@@ -18,8 +19,9 @@ pub mod Trees
 pub mod Resets
 pub mod Sources
 pub mod Adds
+pub mod Accesses
+pub mod Memories
 pub mod Tables
 pub mod Visits
 pub mod Ends
-pub mod Taken
 pub mod Net

@@ -16,6 +16,7 @@ use Rattle.flat_net.specs.declared.net.StoreBit.{StoreBit}
 use Rattle.rtl_ir.specs.Flat.Pick.{Pick}
 use Rattle.flat_net.specs.Picks.{expanded_pick, tree_row}
 use Rattle.flat_net.specs.Points.{place_at, point_of, points_of, pins_of}
+use Rattle.flat_net.specs.Words.{port_rows, word_row}
 
 -- a bit that the input vector drives
 abbrev pub given_row : List Place → Output → Driven
@@ -69,6 +70,8 @@ part_rows ps (part.Storage c) = map (store_row ps c.value.shape) c.value.bits
 part_rows ps (part.Tree t) = map (tree_row ps t.value.root) t.value.outputs
 part_rows ps (part.Held h) = map (held_row ps h.value.tree) h.value.bits
 part_rows ps (part.Raced r) = map (raced_row ps r.value) r.value.bits
+part_rows ps (part.Remembered w) = map (word_row ps w.value) w.value.bits
+part_rows ps (part.Fetched f) = flat_map (port_rows ps f.value) f.value.ports
 
 -- the rows of several parts, in order
 abbrev pub parts_rows : List Place → List Part → List Driven

@@ -1,20 +1,13 @@
--- The modules of a design by their names, and the rows of one without memories.
-use Rattle.std.specs.Prelude.{◌≡◌, ℕ, List, ◌++◌, map, filter, Option, Some, None}
+-- The modules of a design by their names.
+use Rattle.std.specs.Prelude.{◌≡◌, ℕ, List, map, filter, Option, Some, None}
 use Rattle.std.specs.Str.{bytes_eq}
 use Rattle.std.specs.HashMap.{HashMap, get_by}
 use Rattle.std.specs.declared.hash.FoldHasher.{FoldHasher}
 use Rattle.std.specs.declared.hash.BuildHasherDefault.{BuildHasherDefault}
 use Rattle.std.proofs.Common.{Bor}
-use Rattle.rtl_ir.specs.declared.module.Design.{Design}
 use Rattle.rtl_ir.specs.declared.module.Module.{Module}
 use Rattle.rtl_ir.specs.declared.wire.Wire.{Wire}
-use Rattle.rtl_ir.specs.Flat.Cell.{cells_rows}
-use Rattle.rtl_ir.specs.Flat.Driver.{Driven}
-use Rattle.rtl_ir.specs.Flat.Link.{link_rows}
-use Rattle.rtl_ir.specs.Flat.Place.{Path}
-use Rattle.rtl_ir.specs.Flat.Process.{processes_rows}
-use Rattle.rtl_ir.specs.Flat.Start.{start_of}
-use Rattle.rtl_ir.specs.Flat.Tree.{design_ports, named}
+use Rattle.rtl_ir.specs.Flat.Tree.{named}
 use Rattle.rtl_ir.specs.Ports.{is_port, in_number_order}
 use Rattle.flat_net.specs.declared.modules.Entry.{Entry}
 use Rattle.flat_net.specs.declared.modules.Table.{Table}
@@ -50,10 +43,3 @@ Stands (Some e) None = ⊥
 -- the table has these modules, each by its name
 abbrev pub IsTable : Table → List Module → Type 0
 IsTable table modules = (name : List ℕ) → Stands (at_name table.modules name) (named modules name)
-
--- what the cells, the connections and the processes of a module drive
-abbrev pub own_rows : Design → Path → Module → List Driven
-own_rows d p m =
-    let start = start_of m.wires m.processes in
-    cells_rows start (design_ports d) p m.wires m.cells
-    ++ (link_rows p m.wires m.links ++ processes_rows start p m.wires m m.processes)

@@ -7,6 +7,11 @@ use Rattle.flat_net.specs.declared.leaves.Held.{Held}
 use Rattle.flat_net.specs.declared.leaves.HeldBit.{HeldBit}
 use Rattle.flat_net.specs.declared.leaves.Raced.{Raced}
 use Rattle.flat_net.specs.declared.leaves.Source.{Source}
+use Rattle.flat_net.specs.declared.memory.Fetched.{Fetched}
+use Rattle.flat_net.specs.declared.memory.ReadPort.{ReadPort}
+use Rattle.flat_net.specs.declared.memory.Remembered.{Remembered}
+use Rattle.flat_net.specs.declared.memory.WordBit.{WordBit}
+use Rattle.flat_net.specs.declared.memory.WritePort.{WritePort}
 use Rattle.flat_net.specs.declared.net.Logic.{Logic}
 use Rattle.flat_net.specs.declared.net.Output.{Output}
 use Rattle.flat_net.specs.declared.net.Part.{Part}
@@ -106,6 +111,28 @@ pub record IsRacedWithin (count : ℕ) (r : Raced) : Type 0 where
   pub reset : IsPointWithin count r.reset
   pub bits : AllByRecursion (IsHeldBitWithin count r.tree.width) r.bits
 
+-- the numbers of a write port are below the count
+pub record IsWritePortWithin (count : ℕ) (w : WritePort) : Type 0 where
+  pub address : ArePointsWithin count w.address
+  pub enable : ArePointsWithin count w.enable
+  pub word : ArePointsWithin count w.word
+
+-- the numbers of the words of a memory are below the count
+pub record IsRememberedWithin (count : ℕ) (w : Remembered) : Type 0 where
+  pub clock : IsPointWithin count w.clock
+  pub ports : AllByRecursion (IsWritePortWithin count) w.ports
+  pub bits : AllByRecursion (λ (b : WordBit). b.number < count) w.bits
+
+-- the numbers of a read port are below the count
+pub record IsReadPortWithin (count : ℕ) (r : ReadPort) : Type 0 where
+  pub address : ArePointsWithin count r.address
+  pub outputs : AllByRecursion (λ (o : Output). o.number < count) r.outputs
+
+-- the numbers of the read ports of a memory are below the count
+pub record IsFetchedWithin (count : ℕ) (f : Fetched) : Type 0 where
+  pub columns : AllByRecursion (AllByRecursion (λ number. number < count)) f.columns
+  pub ports : AllByRecursion (IsReadPortWithin count) f.ports
+
 -- the numbers of a part are below the count
 abbrev pub IsPartWithin : ℕ → Part → Type 0
 IsPartWithin count (part.Given o) = o.number < count
@@ -115,6 +142,8 @@ IsPartWithin count (part.Storage c) = AllByRecursion (IsStoreWithin count) c.val
 IsPartWithin count (part.Tree t) = IsTreeWithin count t.value
 IsPartWithin count (part.Held h) = IsHeldWithin count h.value
 IsPartWithin count (part.Raced r) = IsRacedWithin count r.value
+IsPartWithin count (part.Remembered w) = IsRememberedWithin count w.value
+IsPartWithin count (part.Fetched f) = IsFetchedWithin count f.value
 
 -- the same of several parts
 abbrev pub ArePartsWithin : ℕ → List Part → Type 0

@@ -3,13 +3,14 @@
 ghost use Rattle.std.specs.Prelude.{◌≡◌, ◌++◌, suc, Some, [], IfOk, length, slice_get};
 ghost use Rattle.rtl_ir.specs.declared.module.Design.{Design};
 ghost use Rattle.rtl_ir.specs.declared.wire.Role.TheVariants.{Input};
-ghost use Rattle.rtl_ir.specs.Flat.Tree.{given_rows, in_tree, output_places, places, role_points, root};
+ghost use Rattle.rtl_ir.specs.Flat.Tree.{design_ports, given_rows, in_tree, output_places, places, role_points, root};
 ghost use Rattle.rtl_ir.specs.Ports.{ports_of};
 ghost use Rattle.flat_net.specs.Adds.{Adds};
 ghost use Rattle.flat_net.specs.Known.{nothing};
 ghost use Rattle.flat_net.specs.Points.{AreApart};
 ghost use Rattle.flat_net.specs.Reads.{AreNumbers};
-ghost use Rattle.flat_net.specs.Tables.{IsTable, own_rows};
+ghost use Rattle.flat_net.specs.Tables.{IsTable};
+ghost use Rattle.rtl_ir.specs.Flat.Rows.{rows_of};
 
 use crate::modules::Table;
 use crate::net::{Net, Part};
@@ -47,7 +48,7 @@ impl Builder {
     ) -> Result<Seq<u32>, Memory>
         requires outside { slice_get self.old.places.paths 0 ≡ Some [] }
         ensures rows { (d : Design) → IsTable table.now d.modules →
-            IfOk result (λ _. Adds self.old self.new (given_rows (places (role_points Input (root body.now) (ports_of body.now.wires))) 0 ++ in_tree d (own_rows d) (suc below) (root body.now) body.now)) }
+            IfOk result (λ _. Adds self.old self.new (given_rows (places (role_points Input (root body.now) (ports_of body.now.wires))) 0 ++ in_tree d (rows_of (design_ports d)) (suc below) (root body.now) body.now)) }
         ensures outputs { IfOk result (λ outputs. AreNumbers self.new.places.places outputs (output_places body.now)) }
     {
         let ends = self.places.ends(alloc, body)?;

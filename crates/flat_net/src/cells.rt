@@ -17,7 +17,8 @@ ghost use Rattle.flat_net.specs.Adds.{Adds};
 ghost use Rattle.flat_net.specs.Starts.{IsStart};
 ghost use Rattle.flat_net.specs.Known.{Extends};
 ghost use Rattle.flat_net.specs.Reads.{ArePoints};
-ghost use Rattle.flat_net.specs.Tables.{IsTable, all_now, own_rows};
+ghost use Rattle.flat_net.specs.Tables.{IsTable, all_now};
+ghost use Rattle.rtl_ir.specs.Flat.Rows.{rows_of};
 
 use crate::builder::Builder;
 use crate::modules::Table;
@@ -30,7 +31,7 @@ use rtl_ir::{Cell, Module, Pin, Role, Wire};
 use std::alloc::Global;
 
 impl Builder {
-    /// The cells, the connections and the processes of a module in this path.
+    /// The cells, the connections, the processes and the memories of a module in this path.
     pub(crate) fn add_module(
         &mut self,
         alloc: Global,
@@ -41,14 +42,15 @@ impl Builder {
         requires in_range { path < length self.old.places.paths }
         ensures grows { OnOk result (Extends self.old.places self.new.places) }
         ensures rows { (p : Path) → slice_get self.old.places.paths path ≡ Some p → (d : Design) → IsTable table.now d.modules →
-            OnOk result (Adds self.old self.new (own_rows d p body.now)) }
+            OnOk result (Adds self.old self.new (rows_of (design_ports d) p body.now)) }
     {
         let wires = body.wires.as_slice();
         let starts = Starts::of(alloc, wires, body.processes.as_slice())?;
         let cells = body.cells.as_slice();
         self.add_cells(alloc, table, path, wires, &starts, cells)?;
         self.add_links(alloc, path, wires, body.links.as_slice())?;
-        self.add_processes(alloc, path, &starts, body)
+        self.add_processes(alloc, path, &starts, body)?;
+        self.add_memories(alloc, path, body)
     }
 
     /// The cells of a module with these wires and start values in this path.

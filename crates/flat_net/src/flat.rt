@@ -4,8 +4,8 @@ ghost use Rattle.std.specs.Prelude.{◌≡◌, ◌<◌, List, [], IfOk, length, 
 ghost use Rattle.rtl_ir.specs.declared.module.Module.{Module};
 ghost use Rattle.rtl_ir.specs.Faults.{faults_within};
 ghost use Rattle.rtl_ir.specs.Flat.Place.{Place};
+ghost use Rattle.rtl_ir.specs.Scope.{everything};
 ghost use Rattle.flat_net.specs.Net.{IsNetOf};
-ghost use Rattle.flat_net.specs.Taken.{taken};
 
 use crate::builder::Builder;
 use crate::modules::Table;
@@ -18,7 +18,7 @@ use std::alloc::Global;
 /// memory.
 pub fn flatten(alloc: Global, design: &Design, at: u32) -> Result<Net, Memory>
     requires in_range { at < length design.now.modules }
-    requires faultless { faults_within taken design.now.modules ≡ [] }
+    requires faultless { faults_within everything design.now.modules ≡ [] }
     ensures value { (m : Module) → slice_get design.now.modules at ≡ Some m → IfOk result (λ net. (ps : List Place) × IsNetOf net design.now m ps) }
 {
     let modules = design.modules.as_slice();

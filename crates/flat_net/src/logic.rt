@@ -68,7 +68,7 @@ impl Places {
 }
 
 /// The bits of an output. More than 2^32 are taken for want of memory.
-fn outputs(alloc: Global, points: &[Point]) -> Result<Seq<Output>, Memory>
+pub(crate) fn outputs(alloc: Global, points: &[Point]) -> Result<Seq<Output>, Memory>
     ensures value { IfOk result (λ outputs. PutsOutputs 0 [] outputs points.now) }
 {
     let mut outputs = Vec::with_capacity(alloc, points.len())?;

@@ -2,6 +2,7 @@
 
 use crate::choices::Tree;
 use crate::leaves::{Held, Raced};
+use crate::memory::{Fetched, Remembered};
 use cell_types::Shape;
 use rtl_bits::{Bit, Seq};
 
@@ -84,6 +85,10 @@ pub enum Part {
     Held(Box<Held>),
     /// A process with two edges drives the bits that it updates.
     Raced(Box<Raced>),
+    /// The bits of the words of a memory.
+    Remembered(Box<Remembered>),
+    /// The read ports of a memory drive the bits that they give.
+    Fetched(Box<Fetched>),
 }
 
 /// A flat netlist. The bits are numbered from 0 on, and no bit has two numbers.

@@ -1,7 +1,7 @@
 //! The numbers of the bits of a flat netlist.
 
 ghost use Rattle.std.specs.Prelude.{suc, ◌≡◌, ◌<◌, ◌∷◌, Some, IfOk, OnOk, length, slice_get};
-ghost use Rattle.rtl_ir.specs.Flat.Place.{Path, frame, wire_place};
+ghost use Rattle.rtl_ir.specs.Flat.Place.{Path, frame, wire_place, word_place};
 ghost use Rattle.flat_net.specs.Known.{Extends, nothing};
 ghost use Rattle.flat_net.specs.Points.{AreApart};
 
@@ -19,11 +19,13 @@ pub(crate) struct FrameKey {
     pub(crate) module_name: usize,
 }
 
-/// A bit of a wire: the number of its path, the number of the wire's name, and its place in the wire.
+/// A bit of a wire, or of the word of a memory at an address: the number of its path, the number of the name, and its
+/// place.
 #[derive(Clone, Copy, Debug, PartialEq, Eq, Hash)]
 pub(crate) struct SpotKey {
     pub(crate) path: u32,
     pub(crate) name: usize,
+    pub(crate) address: Option<u32>,
     pub(crate) at: u32,
 }
 
@@ -102,7 +104,36 @@ impl Places {
             IfOk result (λ number. slice_get self.new.places number ≡ Some (wire_place p name.now at)) }
     {
         let name = self.names.intern(name)?.index;
-        let (index, _) = self.spots.insert_full(SpotKey { path, name, at })?;
+        let (index, _) = self.spots.insert_full(SpotKey {
+            path,
+            name,
+            address: None,
+            at,
+        })?;
+        number_at(index)
+    }
+
+    /// The number of a bit of the word at an address, of the memory of this name in this path. More than 2^32 bits are
+    /// taken for want of memory.
+    pub(crate) fn word_number(
+        &mut self,
+        path: u32,
+        name: &[u8],
+        address: u32,
+        at: u32,
+    ) -> Result<u32, Memory>
+        requires in_range { path < length self.old.paths }
+        ensures grows { OnOk result (Extends self.old self.new) }
+        ensures value { (p : Path) → slice_get self.old.paths path ≡ Some p →
+            IfOk result (λ number. slice_get self.new.places number ≡ Some (word_place p name.now address at)) }
+    {
+        let name = self.names.intern(name)?.index;
+        let (index, _) = self.spots.insert_full(SpotKey {
+            path,
+            name,
+            address: Some(address),
+            at,
+        })?;
         number_at(index)
     }
 

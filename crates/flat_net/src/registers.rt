@@ -42,8 +42,8 @@ pub(crate) struct Trigger<'a> {
 /// What a register reads of an edge or a level, and that level.
 #[derive(Clone, Copy)]
 pub(crate) struct Control {
-    point: Point,
-    level: Level,
+    pub(crate) point: Point,
+    pub(crate) level: Level,
 }
 
 /// A register that reads nothing but D.

@@ -3,10 +3,11 @@
 ghost use Rattle.std.specs.Prelude.{◌≡◌, ◌<◌, suc, [], ◌∷◌, Some, OnOk, length, slice_get};
 ghost use Rattle.rtl_ir.specs.declared.module.Design.{Design};
 ghost use Rattle.rtl_ir.specs.Flat.Place.{Path};
-ghost use Rattle.rtl_ir.specs.Flat.Tree.{in_tree};
+ghost use Rattle.rtl_ir.specs.Flat.Tree.{design_ports, in_tree};
 ghost use Rattle.flat_net.specs.Adds.{Adds};
 ghost use Rattle.flat_net.specs.Known.{Extends};
-ghost use Rattle.flat_net.specs.Tables.{IsTable, own_rows};
+ghost use Rattle.flat_net.specs.Tables.{IsTable};
+ghost use Rattle.rtl_ir.specs.Flat.Rows.{rows_of};
 ghost use Rattle.flat_net.specs.Visits.{ArePathed, Opens};
 
 use crate::builder::Builder;
@@ -39,7 +40,7 @@ impl Builder {
         requires in_range { path < length self.old.places.paths }
         ensures grows { OnOk result (Extends self.old.places self.new.places) }
         ensures rows { (d : Design) → IsTable table.now d.modules → (p : Path) → slice_get self.old.places.paths path ≡ Some p →
-            OnOk result (Adds self.old self.new (in_tree d (own_rows d) (suc below) p body.now)) }
+            OnOk result (Adds self.old self.new (in_tree d (rows_of (design_ports d)) (suc below) p body.now)) }
     {
         let mut visits = Vec::new(alloc);
         visits.push(Visit { body, path, below })?;

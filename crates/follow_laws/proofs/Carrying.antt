@@ -5,6 +5,7 @@ use Rattle.rtl_bits.specs.declared.bit.Bit.TheVariants.{X}
 use Rattle.rtl_sig.specs.declared.sig.SigBit.{SigBit}
 use Rattle.cell_types.specs.declared.kind.CellKind.{CellKind}
 use Rattle.cell_types.specs.declared.kind.CellKind.TheVariants.{Word, Gate, Storage, StorageGate, Memory}
+use Rattle.cell_types.specs.declared.level.Level.{Level}
 use Rattle.cell_types.specs.declared.pin_name.PinName.{PinName}
 use Rattle.cell_types.specs.declared.pin_name.PinName.TheVariants.{A, B, S, Y, Clk, En, Arst, Srst, Aload, Set, Clr, Ad, D, Q, C, E, R, L}
 use Rattle.cell_types.specs.declared.shape.Shape.{Shape}
@@ -16,7 +17,7 @@ use Rattle.rtl_ir.specs.declared.wire.Role.{Role}
 use Rattle.rtl_ir.specs.declared.wire.Role.TheVariants.{Inner, Input, Output, Inout}
 use Rattle.rtl_ir.specs.declared.wire.Wire.{Wire}
 use Rattle.rtl_ir.specs.Flat.Cell.{Ports, cell_rows, cell_shape, gate_store, instance_rows, kind_rows, outputs, port_joins, stores, word_store}
-use Rattle.rtl_ir.specs.Flat.Driver.{Driver, Driven, StorePoints, Joined, Worked, Stored}
+use Rattle.rtl_ir.specs.Flat.Driver.{Driver, Driven, PortPoints, StorePoints, Fetched, Joined, Remembered, Stored, Worked}
 use Rattle.rtl_ir.specs.Flat.Link.{joins}
 use Rattle.rtl_ir.specs.Flat.Place.{Frame, frame, Path, Place}
 use Rattle.rtl_ir.specs.Flat.Point.{At, Constant, Point, pin_points, point_at, points, wire_points}
@@ -38,6 +39,13 @@ pub record StoresBy (P : Point → Point → Type 0) (a b : StorePoints) : Type 
   pub clr : P a.clr b.clr
   pub d : P a.d b.d
 
+-- what two bits of a word see of a write port stands in a relation, point by point
+pub record PortBy (P : Point → Point → Type 0) (a b : PortPoints) : Type 0 where
+  pub address : InPairs P a.address b.address
+  pub enable : P a.enable b.enable
+  pub new : P a.new b.new
+  pub follows : a.follows ≡ b.follows
+
 -- drivers that read points in one relation stand in another
 pub record Carries (P : Point → Point → Type 0) (Q : Driver → Driver → Type 0) : Type 0 where
   pub same_point : (a : Point) → P a a
@@ -49,6 +57,13 @@ pub record Carries (P : Point → Point → Type 0) (Q : Driver → Driver → T
   pub stored :
       (start : Bit) (shape : Shape) (at : ℕ) (a b : StorePoints) (own : Place) → StoresBy P a b →
       Q (Stored start shape at a own) (Stored start shape at b own)
+  pub remembered :
+      (start : Bit) (a b : Point) (level : Level) (address : ℕ) (low high : List PortPoints) (own : Place) → P a b →
+      InPairs (PortBy P) low high →
+      Q (Remembered start a level address low own) (Remembered start b level address high own)
+  pub fetched :
+      (low high : List Point) (first : ℕ) (words : List Point) → InPairs P low high →
+      Q (Fetched low first words) (Fetched high first words)
 
 module _ (P : Point → Point → Type 0) (related : Driver → Driver → Type 0) (k : Carries P related) where
   -- the rows stand in pairs
@@ -78,7 +93,7 @@ module _ (P : Point → Point → Type 0) (related : Driver → Driver → Type 
   joins_paired (l ∷ lefts) [] (b ∷ high) h = absurd h
   joins_paired (l ∷ lefts) (a ∷ low) [] h = absurd h
 
-  at_paired : (low high : List Point) → InPairs P low high → (at : ℕ) → P (point_at low at) (point_at high at)
+  pub at_paired : (low high : List Point) → InPairs P low high → (at : ℕ) → P (point_at low at) (point_at high at)
   at_paired [] [] h at = k.same_point (Constant X)
   at_paired (a ∷ low) (b ∷ high) h zero = h.0
   at_paired (a ∷ low) (b ∷ high) h (suc at) = at_paired low high h.1 at

@@ -1,31 +1,32 @@
--- A cell has the faults that it has with its inputs followed.
-use Rattle.std.proofs.Common.{◌≡◌, ℕ, Bool, true, false, List, [], ◌∷◌, ◌++◌, refl, ◌∙◌, ap}
+-- A cell without faults has none with its inputs followed.
+use Rattle.std.proofs.Common.{◌≡◌, ℕ, Bool, true, false, List, [], ◌∷◌, ◌++◌, ◌⊎◌, inl, inr, refl, ◌∙◌, ap, subst}
 use Rattle.std.specs.Prelude.{◌&&◌, ◌||◌, ◌==◌, if◌then◌else◌, map, not}
 use Rattle.std.specs.List.{list_any}
 use Rattle.std.specs.Option.{option_map_or}
 use Rattle.cell_types.specs.Fault.{fault_of}
 use Rattle.cell_types.specs.declared.kind.CellKind.{CellKind}
 use Rattle.cell_types.specs.declared.kind.CellKind.TheVariants as Cells
+use Rattle.cell_types.specs.declared.param_name.ParamName.TheVariants.{Portid}
 use Rattle.rtl_sig.specs.declared.sig.SigBit.{SigBit}
 use Rattle.rtl_ir.specs.declared.cell.Cell.{Cell}
 use Rattle.rtl_ir.specs.declared.cell.Pin.{Pin}
 use Rattle.rtl_ir.specs.declared.module.Link.{Link}
 use Rattle.rtl_ir.specs.declared.module.Module.{Module}
 use Rattle.rtl_ir.specs.declared.ports.PortLine.{PortLine}
-use Rattle.rtl_ir.specs.Fault.{BadParameterOrPort, BadPort, Spot, UnsupportedCell, Width, fault_if, spot}
-use Rattle.rtl_ir.specs.Faults.Cells.{faults_by_type, has_constant_output, has_other_width, is_memory_kind, lacks_port, memory_faults, misfit, pin_widths, shape_fault}
+use Rattle.rtl_ir.specs.Faults.Cells.{has_constant_output, has_other_width, lacks_port, misfit, pin_widths}
+use Rattle.rtl_ir.specs.Faults.MemoryCells.{number_at}
 use Rattle.rtl_ir.specs.Follow.{follow}
 use Rattle.rtl_ir.specs.Outputs.{drives_pin}
-use Rattle.rtl_ir.specs.Parameters.{given_params}
+use Rattle.rtl_ir.specs.Parameters.{given_params, signal_at}
 use Rattle.rtl_ir.specs.Rules.{has_item}
-use Rattle.rtl_ir.specs.Scope.{cells_alone}
 use Rattle.rtl_ir.specs.Signals.{has_constant, wire_bits}
 use Rattle.rtl_ir.specs.Types.{CellType, Instance, Library, Ports, Unknown, Unsupported, cell_type, port_named}
 use Rattle.pass_laws.specs.Bits.{pin_bits}
-use Rattle.pass_laws.specs.Replaces.{IsFaultless}
-use Rattle.pass_laws.proofs.Alone.{fits_kind, own_kind}
-use Rattle.follow_laws.specs.Inputs.{followed_at, followed_cell, followed_pin}
-use Rattle.follow_laws.proofs.Signals.{length_followed}
+use Rattle.pass_laws.proofs.Accesses.{AreAccesses, IsAccess, SameNumbers, access_moved, numbers_of, same_more, writes_to}
+use Rattle.pass_laws.proofs.Alone.{IsSound, IsSoundBy}
+use Rattle.follow_laws.specs.Inputs.{MayFollow, followed_at, followed_cell, followed_pin}
+use Rattle.follow_laws.proofs.Signals.{length_followed, signal_followed}
+use Rattle.follow_laws.proofs.Starts.{bad_stays, constants_at}
 
 module _ (type : CellType) (links : List Link) where
   abbrev pins_of : List Pin → List Pin
@@ -82,32 +83,56 @@ misfit_stays : (kind : CellKind) (type : CellType) (links : List Link) (c : Cell
 unfolding misfit
 misfit_stays kind type links c = ap (fault_of kind (given_params c.params)) (widths_stay type links c.pins)
 
-module _ (m : Module) (earlier : List Cell) (links : List Link) (c : Cell) where
+module _ (links : List Link) (c : Cell) where
   abbrev other : CellType → Cell
   other type = record c { pins = map (followed_pin type links) c.pins }
 
-  memory_stays : (kind : CellKind) → is_memory_kind kind ≡ false → memory_faults m earlier (other (Library kind)) kind ≡ memory_faults m earlier c kind
-  memory_stays (Cells.Memory kind) e = absurd (cc)
-  memory_stays kind e = refl
+  -- a cell has no faults but those of memories where it has none with its inputs followed
+  sound_stays : (type : CellType) → IsSoundBy c type → IsSoundBy (other type) type
+  sound_stays (Library kind) s = record {
+    fit = misfit_stays kind (Library kind) links c ∙ s.fit;
+    output = constants_stay (Library kind) links c.pins ∙ s.output;
+  }
+  sound_stays (Instance lines) s = record {
+    known = ap (λ t. has_item c.params || t) (lacks_stay (Instance lines) links lines c.pins) ∙ s.known;
+    widths = other_stays (Instance lines) links lines c.pins ∙ s.widths;
+    output = constants_stay (Instance lines) links c.pins ∙ s.output;
+  }
+  sound_stays Unsupported s = absurd s
+  sound_stays Unknown s = absurd s
 
-  -- the faults of a cell that is none of a memory are those that it has with its inputs followed
-  pub faults_stay : (type : CellType) → ((kind : CellKind) → type ≡ Library kind → is_memory_kind kind ≡ false) → faults_by_type cells_alone m earlier (other type) type ≡ faults_by_type cells_alone m earlier c type
-  faults_stay (Library kind) h =
-      let here : Spot = spot m.id c.name in
-      let fit = misfit_stays kind (Library kind) links c in
-      let constant = constants_stay (Library kind) links c.pins in
-      let memory = memory_stays kind (h kind refl) in
-      λ i. ((fault_if (is_memory_kind kind && true) (UnsupportedCell here) ++ shape_fault here (fit i)) ++ fault_if (constant i) (BadPort here)) ++ memory i
-  faults_stay (Instance lines) h =
-      let here : Spot = spot m.id c.name in
-      let lacks = lacks_stay (Instance lines) links lines c.pins in
-      let wide = other_stays (Instance lines) links lines c.pins in
-      let constant = constants_stay (Instance lines) links c.pins in
-      λ i. (fault_if (has_item c.params || lacks i) (BadParameterOrPort here) ++ fault_if (wide i) (Width here)) ++ fault_if (constant i) (BadPort here)
-  faults_stay Unsupported h = refl
-  faults_stay Unknown h = refl
+  -- nor is it a fault of its memory
+  access_stays : (type : CellType) (m : Module) (earlier : List Cell) → IsAccess m earlier c type → IsAccess m earlier (other type) type
+  access_stays (Library (Cells.Memory kind)) m earlier a =
+      bad_stays c (map (followed_pin (Library (Cells.Memory kind)) links) c.pins) (λ name e. signal_followed (Library (Cells.Memory kind)) links name c.pins ∙ constants_at (Library (Cells.Memory kind)) links name (signal_at c.pins name) e) m earlier kind a
+  access_stays type m earlier a = tt
 
--- a cell without faults is without with its inputs followed
-pub followed_faultless : (ports : Ports) (links : List Link) (c : Cell) → IsFaultless ports c → IsFaultless ports (followed_cell ports links c)
-followed_faultless ports links c fine m earlier =
-    faults_stay m earlier links c (cell_type ports c.kind_name) (λ kind e. (fits_kind ports c kind (own_kind ports c kind e) fine).plain) ∙ fine m earlier
+module _ (ports : Ports) (links : List Link) where
+  -- a cell without faults is without with its inputs followed
+  pub followed_sound : (c : Cell) → IsSound ports c → IsSound ports (followed_cell ports links c)
+  followed_sound c sound = sound_stays links c (cell_type ports c.kind_name) sound
+
+  pub followed_access : (m : Module) (earlier : List Cell) (c : Cell) → IsAccess m earlier c (cell_type ports c.kind_name) → IsAccess m earlier (followed_cell ports links c) (cell_type ports c.kind_name)
+  followed_access m earlier c a = access_stays links c (cell_type ports c.kind_name) m earlier a
+
+  -- it is a write port of the same number
+  same_number : (c d : Cell) → (c ≡ d) ⊎ (followed_cell ports links c ≡ d) → SameNumbers (c ∷ []) (d ∷ [])
+  same_number c d (inl e) name = ap (λ z. numbers_of (z ∷ []) name) e
+  same_number c d (inr e) name = by (writes_to name c) ∙ ap (λ z. numbers_of (z ∷ []) name) e
+    where
+      by : (t : Bool) → map (λ (x : Cell). number_at x Portid) (if t then c ∷ [] else []) ≡ map (λ (x : Cell). number_at x Portid) (if t then followed_cell ports links c ∷ [] else [])
+      by true = refl
+      by false = refl
+
+  -- so cells, each as it is or with its inputs followed, are faults of memories where they were
+  pub accesses_follow : (m : Module) (earlier later : List Cell) → SameNumbers earlier later → (cs ds : List Cell) → MayFollow ports links cs ds → AreAccesses ports m earlier cs → AreAccesses ports m later ds
+  accesses_follow m earlier later same [] [] may a = tt
+  accesses_follow m earlier later same (c ∷ cs) (d ∷ ds) may a =
+      (by may.0 (access_moved m m refl earlier later same c (cell_type ports c.kind_name) a.0), accesses_follow m (earlier ++ c ∷ []) (later ++ d ∷ []) (same_more earlier later (c ∷ []) (d ∷ []) same (same_number c d may.0)) cs ds may.1 a.1)
+    where
+      by : (c ≡ d) ⊎ (followed_cell ports links c ≡ d) → IsAccess m later c (cell_type ports c.kind_name) → IsAccess m later d (cell_type ports d.kind_name)
+      by (inl e) b = subst (λ z. IsAccess m later z (cell_type ports z.kind_name)) e b
+      by (inr e) b =
+          subst (λ z. IsAccess m later z (cell_type ports z.kind_name)) e (followed_access m later c b)
+  accesses_follow m earlier later same [] (d ∷ ds) may a = absurd may
+  accesses_follow m earlier later same (c ∷ cs) [] may a = absurd may

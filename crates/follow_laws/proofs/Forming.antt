@@ -8,11 +8,11 @@ use Rattle.net_model.specs.Swap.{with_cells}
 use Rattle.net_model.specs.Within.{CellIn, Each}
 use Rattle.pass_laws.specs.Bits.{cells_bits, links_bits, pin_bits}
 use Rattle.pass_laws.specs.Ready.{IsReady}
-use Rattle.pass_laws.specs.Replaces.{IsFaultless}
+use Rattle.pass_laws.proofs.Alone.{IsSound}
 use Rattle.pass_laws.proofs.Counting.{count}
-use Rattle.pass_laws.proofs.Forming.{own_cells, own_links, ready_with}
+use Rattle.pass_laws.proofs.Forming.{own_accesses, own_cells, own_links, ready_with}
 use Rattle.follow_laws.specs.Inputs.{MayFollow, followed_cell}
-use Rattle.follow_laws.proofs.Faultless.{bits_stay, followed_faultless}
+use Rattle.follow_laws.proofs.Faultless.{accesses_follow, bits_stay, followed_sound}
 use Rattle.follow_laws.proofs.Signals.{cell_in}
 
 -- what holds of cells and stays where inputs are followed holds of each as it is or followed
@@ -42,7 +42,8 @@ same_bits ports links (c ∷ cs) [] may = absurd may
 
 pub ready : (ports : Ports) (m : Module) (cells : List Cell) → MayFollow ports m.links m.cells cells → IsReady ports m → IsReady ports (with_cells cells m)
 ready ports m cells may h = ready_with ports m h cells m.links (record {
-  cells = each_stays ports m.links (IsFaultless ports) (followed_faultless ports m.links) m.cells cells may (own_cells ports m h);
+  cells = each_stays ports m.links (IsSound ports) (followed_sound ports m.links) m.cells cells may (own_cells ports m h);
+  accesses = accesses_follow ports m.links m [] [] (λ name. refl) m.cells cells may (own_accesses ports m h);
   links = own_links ports m h;
   cells_within = each_stays ports m.links (CellIn (length m.wires)) (cell_in (length m.wires) m.links h.within.links ports) m.cells cells may h.within.cells;
   links_within = h.within.links;

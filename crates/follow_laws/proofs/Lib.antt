@@ -7,6 +7,8 @@ pub mod Signals
 pub mod Faultless
 pub mod Apart
 pub mod Rows
+pub mod Starts
+pub mod Words
 pub mod Standing
 pub mod Forming
 pub mod Passing

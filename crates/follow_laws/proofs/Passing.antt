@@ -12,7 +12,9 @@ use Rattle.follow_laws.specs.Inputs.{MayFollow, followed, followed_cell}
 use Rattle.pass_laws.specs.Pass.{IsPass}
 use Rattle.pass_laws.specs.Ready.{IsReady}
 use Rattle.follow_laws.proofs.Forming.{ready}
+use Rattle.pass_laws.proofs.Accesses.{access_of_each}
 use Rattle.pass_laws.proofs.Faultless.{IsPlain, plain}
+use Rattle.pass_laws.proofs.Forming.{own_accesses}
 use Rattle.follow_laws.proofs.Standing.{driven, instances_stay, refines}
 
 module _ (ports : types.Ports) (links : List Link) where
@@ -33,13 +35,14 @@ module _ (table : PortTable) (m : Module) (fine : IsReady (types.table_ports tab
   pub followed_some : (cells : List Cell) → MayFollow (types.table_ports table.modules) m.links m.cells cells → IsPass table m (with_cells cells m)
   followed_some cells may =
       let has : IsPlain m = plain (types.table_ports table.modules) m fine.faultless in
+      let good = access_of_each (types.table_ports table.modules) m [] m.cells (own_accesses (types.table_ports table.modules) m fine) in
       record {
         id = refl;
         ports = refl;
         instances = instances_stay (types.table_ports table.modules) m.links m.cells cells may;
-        driven = λ over agree h. driven (types.table_ports table.modules) over m cells has.processes has.memories may h;
+        driven = λ over agree h. driven (types.table_ports table.modules) over m cells has.processes good may h;
         ready = ready (types.table_ports table.modules) m cells may;
-        refines = refines (types.table_ports table.modules) (flat.table_ports table) m cells has.processes has.memories may;
+        refines = refines (types.table_ports table.modules) (flat.table_ports table) m cells has.processes good may;
       }
 
   -- one cell of the module with its inputs followed

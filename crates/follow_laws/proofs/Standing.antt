@@ -1,5 +1,5 @@
 -- Cells with followed inputs in the places of cells: the module with them refines the module, and no bit has a second driver.
-use Rattle.std.proofs.Common.{◌≡◌, List, [], ◌∷◌, ◌++◌, ◌⊎◌, inl, inr, ⊎_elim, refl, sym, ◌∙◌, ap, subst}
+use Rattle.std.proofs.Common.{◌≡◌, List, [], ◌∷◌, ◌++◌, ◌⊎◌, inl, inr, refl, sym, ◌∙◌, ap, subst}
 use Rattle.std.specs.Prelude.{map}
 use Rattle.rtl_bits.specs.declared.bit.Bit.{Bit}
 use Rattle.rtl_sig.specs.declared.sig.SigBit.{SigBit}
@@ -8,35 +8,42 @@ use Rattle.rtl_ir.specs.declared.module.Link.{Link}
 use Rattle.rtl_ir.specs.declared.module.Module.{Module}
 use Rattle.rtl_ir.specs.Flat.Cell as flat
 use Rattle.rtl_ir.specs.Flat.Cell.{cell_kind, cells_rows, instance_of, instances, listed}
-use Rattle.rtl_ir.specs.Flat.Driver.{Driven}
+use Rattle.rtl_ir.specs.Flat.Driver.{Driven, Driver}
 use Rattle.rtl_ir.specs.Flat.Link.{link_rows}
 use Rattle.rtl_ir.specs.Flat.Memory.{memories_rows}
 use Rattle.rtl_ir.specs.Flat.Place.{Frame, IsOf, Path, Place}
+use Rattle.rtl_ir.specs.Flat.Point.{Point, point}
 use Rattle.rtl_ir.specs.Flat.Process.{processes_rows}
 use Rattle.rtl_ir.specs.Flat.Rows.{plain_rows, rows_of}
 use Rattle.rtl_ir.specs.Flat.Start.{start_of}
 use Rattle.rtl_ir.specs.Flat.Tree.{design_ports}
+use Rattle.rtl_ir.specs.Follow.{follow}
 use Rattle.rtl_ir.specs.Types as types
+use Rattle.rtl_ir.specs.Types.{cell_type}
 use Rattle.net_model.specs.Lists.{Distinct, In}
-use Rattle.net_model.specs.Refine.{AgreeOn, IsMet, IsWellDriven, RefinesOver, RowsRefine, Solved, SolvedBefore, places_of, with_body}
+use Rattle.net_model.specs.Refine.{AgreeOn, IsWellDriven, RefinesOver, RowsRefine, Solved, SolvedBefore, places_of, with_body}
 use Rattle.net_model.specs.Run.{Time}
 use Rattle.net_model.specs.Swap.{with_cells}
 use Rattle.net_model.specs.Valuation.{Valuation}
 use Rattle.net_model.proofs.Lifted.{lifted}
-use Rattle.net_model.proofs.Members.{In-cases, In-left, In-map, In-mapped, In-right, map-append}
+use Rattle.net_model.proofs.Members.{In-left, In-map, In-mapped, In-right, map-append}
 use Rattle.net_model.proofs.Relating.{Within, solved_within}
-use Rattle.net_model.proofs.Swapping.{before_within, plain_alone}
+use Rattle.net_model.specs.Within.{Each}
+use Rattle.net_model.proofs.Swapping.{before_within}
+use Rattle.pass_laws.proofs.Accesses.{IsAccess}
 use Rattle.pass_laws.proofs.Moving.{split}
-use Rattle.follow_laws.specs.Alike.{DriveAlike, ReadAlike}
+use Rattle.pass_laws.proofs.Rewriting.{rows_are}
+use Rattle.follow_laws.specs.Alike.{DriveAlike, ReadAlike, SameBit}
 use Rattle.follow_laws.specs.Inputs.{MayFollow, followed_cell}
 use Rattle.follow_laws.proofs.Apart.{IsApart}
-use Rattle.follow_laws.proofs.Carrying.{Carries, Rows}
+use Rattle.follow_laws.proofs.Carrying.{Carries, Rows, rows_self}
 use Rattle.follow_laws.proofs.Following.{follow_read}
 use Rattle.follow_laws.proofs.Meeting.{met_by}
-use Rattle.follow_laws.proofs.Pairs.{same_places}
+use Rattle.follow_laws.proofs.Pairs.{pairs_append, same_places}
 use Rattle.follow_laws.proofs.Reading.{carries}
-use Rattle.follow_laws.proofs.Rows.{cells_paired}
+use Rattle.follow_laws.proofs.Rows.{cells_by, cells_paired}
 use Rattle.follow_laws.proofs.Signals.{kind_stays}
+use Rattle.follow_laws.proofs.Words.{memories_paired}
 
 -- the instances stay
 pub instances_stay : (ports : types.Ports) (links : List Link) (cs ds : List Cell) → MayFollow ports links cs ds → instances cs ≡ instances ds
@@ -59,9 +66,11 @@ anything = record {
   joined = λ a b h. tt;
   worked = λ shape low high at h. tt;
   stored = λ start shape at a b own h. tt;
+  remembered = λ start a b level address low high own h ports. tt;
+  fetched = λ low high first words h. tt;
 }
 
-module _ (ports : types.Ports) (over : flat.Ports) (m : Module) (cells : List Cell) (processes : m.processes ≡ []) (memories : m.memories ≡ []) (may : MayFollow ports m.links m.cells cells) where
+module _ (ports : types.Ports) (over : flat.Ports) (m : Module) (cells : List Cell) (processes : m.processes ≡ []) (good : Each (λ c. (before : List Cell) × IsAccess m before c (cell_type ports c.kind_name)) m.cells) (may : MayFollow ports m.links m.cells cells) where
   abbrev after : Module
   after = with_cells cells m
 
@@ -83,12 +92,25 @@ module _ (ports : types.Ports) (over : flat.Ports) (m : Module) (cells : List Ce
       (split (places_of (before_rows p)) (places_of (plain_rows p m)) whole).2 d.place (In-map (λ (row : Driven). row.place) d (before_rows p) i) (subst (λ z. In z (places_of (plain_rows p m))) (sym e) link)
 
   module _ (fine : IsWellDriven over m) where
+    -- the rows stand in pairs
+    paired : (P : Point → Point → Type 0) (related : Driver → Driver → Type 0) (k : Carries P related) (p : Path) → ((s : SigBit) → P (point p m.wires s) (point p m.wires (follow m.links s))) → Rows P related k (rows_of over p m) (rows_of over p after)
+    paired P related k p leads =
+        subst (λ z. Rows P related k z (rows_of over p after)) (sym (rows_are over p m processes)) (subst (Rows P related k (before_rows p ++ (links ++ memories_rows p m.wires m.cells m.processes m.memories))) (sym (rows_are over p after processes)) whole)
+      where
+        links : List Driven
+        links = link_rows p m.wires m.links
+
+        memories : Rows P related k (memories_rows p m.wires m.cells m.processes m.memories) (memories_rows p m.wires cells m.processes m.memories)
+        memories =
+            memories_paired P related k p m.wires m.processes m.cells cells (cells_by P related k ports over start p m.wires m.links leads m m.cells cells may good) m.memories
+
+        whole : Rows P related k (before_rows p ++ (links ++ memories_rows p m.wires m.cells m.processes m.memories)) (after_rows p ++ (links ++ memories_rows p m.wires cells m.processes m.memories))
+        whole =
+            pairs_append (SameBit related) (before_rows p) (after_rows p) (links ++ memories_rows p m.wires m.cells m.processes m.memories) (links ++ memories_rows p m.wires cells m.processes m.memories) (cells_paired P related k ports over start p m.wires m.links leads m.cells cells may (apart fine p)) (pairs_append (SameBit related) links links (memories_rows p m.wires m.cells m.processes m.memories) (memories_rows p m.wires cells m.processes m.memories) (rows_self P related k links) memories)
+
     same_rows : (p : Path) → places_of (rows_of over p m) ≡ places_of (rows_of over p after)
     same_rows p =
-        map-append (λ (row : Driven). row.place) (before_rows p) (plain_rows p m)
-        ∙ ap (λ z. z ++ places_of (plain_rows p m)) (same_places (λ d e. Unit {0}) (before_rows p) (after_rows p) (cells_paired (λ a b. Unit {0}) (λ d e. Unit {0}) anything ports over start p m.wires m.links (λ s. tt) m.cells cells may (apart fine p)))
-        ∙ ap (λ z. places_of (after_rows p) ++ places_of z) (sym (plain_alone m cells processes memories p))
-        ∙ sym (map-append (λ (row : Driven). row.place) (after_rows p) (plain_rows p after))
+        same_places (λ d e. Unit {0}) (rows_of over p m) (rows_of over p after) (paired (λ a b. Unit {0}) (λ d e. Unit {0}) anything p (λ s. tt))
 
     -- no bit has a second driver
     pub driven : IsWellDriven over after
@@ -106,21 +128,17 @@ module _ (ports : types.Ports) (over : flat.Ports) (m : Module) (cells : List Ce
       links_within d i =
           In-right d (after_rows p) (plain_rows p after) (In-left d (link_rows p m.wires m.links) (processes_rows start p m.wires after m.processes ++ memories_rows p m.wires cells m.processes m.memories) i)
 
-      -- the rows of the cells stand in pairs of rows that give the same
-      pub alike : Rows (ReadAlike t w) (DriveAlike t w) (carries t w) (before_rows p) (after_rows p)
+      -- the rows stand in pairs of rows that give the same
+      alike : Rows (ReadAlike t w) (DriveAlike t w) (carries t w) (rows_of over p m) (rows_of over p after)
       alike =
-          cells_paired (ReadAlike t w) (DriveAlike t w) (carries t w) ports over start p m.wires m.links (follow_read p m.wires m.links t w (solved_within (link_rows p m.wires m.links) (rows_of over p after) links_within t w solved) (before_within (link_rows p m.wires m.links) (rows_of over p after) links_within t before)) m.cells cells may (apart fine p)
-
-      -- each row is met
-      met : (d : Driven) → In d (rows_of over p m) → IsMet d t w
-      met d i = ⊎_elim (λ l. met_by t w (before_rows p) (after_rows p) alike (λ e j. solved.met e (In-left e (after_rows p) (plain_rows p after) j)) d l) (λ r. solved.met d (In-right d (after_rows p) (plain_rows p after) (subst (In d) (sym (plain_alone m cells processes memories p)) r))) (In-cases d (before_rows p) (plain_rows p m) i)
+          paired (ReadAlike t w) (DriveAlike t w) (carries t w) p (follow_read p m.wires m.links t w (solved_within (link_rows p m.wires m.links) (rows_of over p after) links_within t w solved) (before_within (link_rows p m.wires m.links) (rows_of over p after) links_within t before))
 
     pub refine : RowsRefine m after over
     refine = record {
       id = refl;
       ports_same = refl;
       children = instances_stay ports m.links m.cells cells may;
-      rows = λ p t w solved before d i. met p t w solved before d i;
+      rows = λ p t w solved before d i. met_by t w (rows_of over p m) (rows_of over p after) (alike p t w solved before) solved.met d i;
     }
 
 agree_refl : (ports : flat.Ports) (frames : List Frame) → AgreeOn ports ports frames
@@ -128,10 +146,10 @@ agree_refl ports [] = tt
 agree_refl ports (f ∷ frames) = (refl, agree_refl ports frames)
 
 -- the module with followed inputs refines the module, whatever the ports of the instances are
-pub refines : (ports : types.Ports) (over : flat.Ports) (m : Module) (cells : List Cell) → m.processes ≡ [] → m.memories ≡ [] → MayFollow ports m.links m.cells cells → RefinesOver m (with_cells cells m) over
-refines ports over m cells processes memories may = record {
+pub refines : (ports : types.Ports) (over : flat.Ports) (m : Module) (cells : List Cell) → m.processes ≡ [] → Each (λ c. (before : List Cell) × IsAccess m before c (cell_type ports c.kind_name)) m.cells → MayFollow ports m.links m.cells cells → RefinesOver m (with_cells cells m) over
+refines ports over m cells processes good may = record {
   holds = λ pre post fine fine' agree.
       let own : flat.Ports = design_ports (with_body pre m post) in
       let here : IsWellDriven own m = fine.modules m (In-right m pre (m ∷ post) (inl refl)) in
-      (lifted m (with_cells cells m) own (refine ports own m cells processes memories may here)).holds pre post fine fine' (agree_refl own (instances m.cells));
+      (lifted m (with_cells cells m) own (refine ports own m cells processes good may here)).holds pre post fine fine' (agree_refl own (instances m.cells));
 }

@@ -1,5 +1,5 @@
 -- The module that the step gives: what is owed of it, and so it is well formed.
-use Rattle.std.proofs.Common.{◌≡◌, ◌≤◌, ℕ, ◌+◌, Bool, true, false, List, [], ◌∷◌, ◌++◌, length, Some, inl, inr, refl, sym, ◌∙◌, ap, subst, arith, length-append, append-nil}
+use Rattle.std.proofs.Common.{◌≡◌, ◌≤◌, ℕ, ◌+◌, false, List, [], ◌∷◌, ◌++◌, length, Some, inl, inr, refl, sym, ◌∙◌, ap, subst, arith, length-append, append-nil}
 use Rattle.std.specs.Prelude.{flat_map, map}
 use Rattle.std.specs.List.{list_any}
 use Rattle.std.specs.Option.{option_map_or}
@@ -11,10 +11,11 @@ use Rattle.rtl_sig.specs.declared.sig.WireBit.{WireBit}
 use Rattle.rtl_ir.specs.Build.{Building, building_of, first_number, made_number}
 use Rattle.rtl_ir.specs.Faults.Cells.{is_memory_kind}
 use Rattle.rtl_ir.specs.Faults.ProcessLimits.{memory_lines, passes_limit, switches_pass}
-use Rattle.rtl_ir.specs.Faults.Processes.{has_bad_line, process_faults}
+use Rattle.rtl_ir.specs.Faults.Processes.{process_faults}
 use Rattle.rtl_ir.specs.Flat.Cell.{Ports as FlatPorts, cell_kind, instance_of, instances, listed}
 use Rattle.rtl_ir.specs.Parameters.{signal_at}
 use Rattle.rtl_ir.specs.Ports.{ports_of}
+use Rattle.rtl_ir.specs.Scope.{with_processes}
 use Rattle.rtl_ir.specs.Signals.{wire_bits}
 use Rattle.rtl_ir.specs.Types.{Ports, cell_type}
 use Rattle.rtl_ir.specs.WritePorts.{EventLine, is_write_cell, is_write_kind}
@@ -42,17 +43,16 @@ use Rattle.proc_laws.proofs.CountingBits.{among}
 use Rattle.proc_laws.proofs.RebuildDriven.{still_driven}
 use Rattle.proc_laws.proofs.RebuildFaults.{still_ready}
 use Rattle.proc_laws.proofs.RebuildProcesses.{IsGoodProcess, each_good}
-use Rattle.proc_laws.specs.Ready.{IsReady, with_processes}
-use Rattle.proc_laws.specs.Rebuilds.{KeepsEnds, Rebuilds, checked_bits, driven_bits, rebuilt}
+use Rattle.proc_laws.specs.Ready.{IsReady}
+use Rattle.proc_laws.specs.Rebuilds.{Rebuilds, checked_bits, driven_bits, rebuilt}
 use Rattle.sync_laws.proofs.GoodRules.{acting_in}
-use Rattle.sync_laws.specs.Kinds.{HaveNoTwoEdges, HaveNoWrites}
-use Rattle.latch_forms.specs.Lines.{LinesHold}
+use Rattle.sync_laws.specs.Kinds.{HaveNoTwoEdges}
 use Rattle.latch_forms.proofs.Growth.{Grows, IsPlain}
 use Rattle.latch_forms.proofs.Kept.{all_once, checked_once, driven_once}
 use Rattle.latch_forms.proofs.Lines.{lines_same}
 use Rattle.latch_forms.proofs.Stepping.{IsLatched, adds_processes, latch_bits}
 use Rattle.latch_forms.proofs.Wider.{left_wider}
-use Rattle.latch_forms.proofs.Writing.{LinesStay, all_good, none_written}
+use Rattle.latch_forms.proofs.Writing.{all_good}
 
 -- plain cells are no instances, and none of them writes a memory
 plain_free : (n : ℕ) (cells : List Cell) → Each (IsPlain n) cells → instances cells ≡ []
@@ -86,14 +86,14 @@ module _ (ports : Ports) (n : ℕ) where
   all_bits [] h = refl
   all_bits (c ∷ cells) h = λ i. plain_bits c (h c (inl refl)) i ++ all_bits cells (λ d j. h d (inr j)) i
 
-module _ (ports : Ports) (m : Module) (memories : Bool) (ready : IsReady (with_processes memories) ports m) where
-  faults : process_faults (with_processes memories) ports m [] m.processes ≡ []
-  faults = (no_faults (with_processes memories) ports m ready.faultless).processes
+module _ (ports : Ports) (m : Module) (ready : IsReady with_processes ports m) where
+  faults : process_faults with_processes ports m [] m.processes ≡ []
+  faults = (no_faults with_processes ports m ready.faultless).processes
 
   -- each process is one that gives latches
   latched : Each (IsLatched (length m.wires)) m.processes
   latched p i =
-      let good = each_good memories ports m [] m.processes faults p i in
+      let good = each_good ports m [] m.processes faults p i in
       let here = ready.within.processes p i in
       record {
         within = record { assigns = here.assigns; switches = here.switches };
@@ -131,7 +131,7 @@ module _ (ports : Ports) (m : Module) (memories : Bool) (ready : IsReady (with_p
       ∙ sym (instances-append m.cells grows.cells)
       ∙ sym (ap (λ (b : Module). instances b.cells) latch_is)
 
-  module _ (few : (latches_step m.processes (building_of m)).next ≤ 1000000000) (edges : HaveNoTwoEdges m) (lines : Each (LinesStay m after) m.processes) where
+  module _ (few : (latches_step m.processes (building_of m)).next ≤ 1000000000) (edges : HaveNoTwoEdges m) where
     -- no fresh wire has the name of a wire of the module
     apart : (name : List ℕ) → In name (names_of m.wires) → In name (names_of grows.wires) → ⊥
     apart name i j =
@@ -151,7 +151,7 @@ module _ (ports : Ports) (m : Module) (memories : Bool) (ready : IsReady (with_p
         omega (arith, cells, grows.drives x, count_more x (cells_bits ports grows.cells) (links_bits grows.links ++ flat_map f changed), count_more x (links_bits grows.links) (flat_map f changed), count_more x (bits_from (length m.wires) grows.wires) (flat_map f m.processes), h x)
 
     stands : (p : Process) → In p m.processes → (before : List EventLine) × IsGoodProcess ports m before p
-    stands p i = each_good memories ports m [] m.processes faults p i
+    stands p i = each_good ports m [] m.processes faults p i
 
     longer : length m.wires ≤ length (m.wires ++ grows.wires)
     longer = omega (arith, length-append m.wires grows.wires)
@@ -163,7 +163,9 @@ module _ (ports : Ports) (m : Module) (memories : Bool) (ready : IsReady (with_p
       plain = plain_free (length last.body.wires) grows.cells grows.plain;
       cells = λ c i. plain_faultless ports (length last.body.wires) c (grows.plain c i);
       links = λ l i. record { width = (grows.lines l i).even; wires = (grows.lines l i).left };
-      processes = all_good memories ports m after [] m.processes refl edges lines faults;
+      processes = all_good ports m after
+          (lines_same m after grows.cells refl refl (λ c j. plain_quiet (length last.body.wires) c (grows.plain c j)))
+          [] m.processes refl edges faults;
       cells_within = λ c i. subst (λ n. CellIn n c) wires_are (grows.plain c i).whole.within;
       links_within = λ l i. subst (λ n. LinkIn n l) wires_are (grows.lines l i).within;
       processes_within = λ q i.
@@ -177,21 +179,6 @@ module _ (ports : Ports) (m : Module) (memories : Bool) (ready : IsReady (with_p
     latch_driven over h =
         subst (IsWellDriven over) (sym latch_is) (still_driven ports m grows.wires grows.cells grows.links changed ready.within rebuilds over h)
 
-    pub latch_ready : (memories ≡ true → KeepsEnds m.links (proc_latch_of m).links) → IsReady (with_processes memories) ports (proc_latch_of m)
-    latch_ready keeps =
-        subst (IsReady (with_processes memories) ports) (sym latch_is)
-        (still_ready ports m grows.wires grows.cells grows.links changed memories ready rebuilds (λ e. subst (KeepsEnds m.links) (ap (λ (b : Module). b.links) latch_is) (keeps e)))
-
-  -- lines that write stay where clocks that follow to one end still do
-  pub ends_stay : KeepsEnds m.links (proc_latch_of m).links → Each (LinesStay m after) m.processes
-  ends_stay keeps p i before e =
-      lines_same m after grows.links grows.cells refl refl refl (λ c j. plain_quiet (length last.body.wires) c (grows.plain c j))
-      (subst (KeepsEnds m.links) (ap (λ (b : Module). b.links) latch_is) keeps) before _ e
-
-  -- or where there are none
-  pub none_stay : HaveNoWrites m → Each (LinesStay m after) m.processes
-  none_stay quiet p i before e = ap (has_bad_line after before) (none_written p (quiet p i))
-
-  pub lines_stay : LinesHold m → Each (LinesStay m after) m.processes
-  lines_stay (inl quiet) = none_stay quiet
-  lines_stay (inr keeps) = ends_stay keeps
+    pub latch_ready : IsReady with_processes ports (proc_latch_of m)
+    latch_ready =
+        subst (IsReady with_processes ports) (sym latch_is) (still_ready ports m grows.wires grows.cells grows.links changed ready rebuilds)

@@ -101,7 +101,7 @@ module _ (f : Process → List WireBit) (x : WireBit) where
       omega (arith, a, b, c, h p (inl refl), all_once ps (λ q i. h q (inr i)))
 
 -- a process that the check accepts is accepted without its rules that always act
-pub still_good : (ports : Ports) (m n : Module) (before after : List EventLine) (q : Process) → count_by is_edge_rule (acting_rules q.syncs) ≤ 1 → has_bad_line n after (write_lines (without_always q)) ≡ false → IsGoodProcess ports m before q → IsGoodProcess ports n after (without_always q)
+pub still_good : (ports : Ports) (m n : Module) (before after : List EventLine) (q : Process) → count_by is_edge_rule (acting_rules q.syncs) ≤ 1 → has_bad_line false n after (write_lines (without_always q)) ≡ false → IsGoodProcess ports m before q → IsGoodProcess ports n after (without_always q)
 still_good ports m n before after q few lines g =
     let wide : WriteLine → Bool = λ (l : WriteLine). passes_limit l.value in
     let odd : WriteLine → Bool = λ (l : WriteLine). not (length l.enable == length l.value) in

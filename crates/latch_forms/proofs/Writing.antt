@@ -7,6 +7,7 @@ use Rattle.std.proofs.lemmas.Grind.{flat_map-append}
 use Rattle.rtl_ir.specs.Faults.Processes.{faults_of_process, has_bad_line, process_faults}
 use Rattle.rtl_ir.specs.Faults.RuleKinds.{is_one_edge, kind_of_event, kinds_of, edges_agree, has_one_bit, may_stand, rules_stand, writes, writes_stand}
 use Rattle.rtl_ir.specs.Rules.{acting_rules, has_item, has_line, is_init}
+use Rattle.rtl_ir.specs.Scope.{with_processes}
 use Rattle.rtl_ir.specs.Types.{Ports}
 use Rattle.rtl_ir.specs.WritePorts.{EventLine, write_lines}
 use Rattle.rtl_ir.specs.declared.module.Module.{Module}
@@ -19,7 +20,6 @@ use Rattle.net_model.specs.Proc.Latch.{is_always, without_always}
 use Rattle.net_model.specs.Within.{Each}
 use Rattle.pass_laws.proofs.Faultless.{none_left, none_right}
 use Rattle.proc_laws.proofs.RebuildProcesses.{IsGoodProcess, good_of, of_good}
-use Rattle.proc_laws.specs.Ready.{with_processes}
 use Rattle.sync_laws.specs.Kinds.{is_edge_rule}
 use Rattle.latch_forms.proofs.Kept.{still_good}
 use Rattle.latch_forms.proofs.Rules.{IsLone, StayAll, always_is, kept, lone_or_all, may_stand_of, not_always, passed, stays}
@@ -98,32 +98,20 @@ all_lines (r ∷ rules) h = by (is_always r.event) refl (all_lines rules (λ x i
 pub lines_kept : (p : Process) → rules_stand p.syncs ≡ true → write_lines (without_always p) ≡ write_lines p
 lines_kept p stand = all_lines p.syncs (always_writes p.syncs stand)
 
--- of a process none of whose rules writes there are none
-pub none_written : (p : Process) → Each (λ (r : SyncRule). writes r ≡ false) p.syncs → write_lines p ≡ []
-none_written p h = each p.syncs h
-  where
-    each : (rules : List SyncRule) → Each (λ (r : SyncRule). writes r ≡ false) rules → flat_map rule_lines rules ≡ []
-    each [] k = refl
-    each (r ∷ rules) k = λ i. no_lines r (k r (inl refl)) i ++ each rules (λ x j. k x (inr j)) i
-
--- the lines of a process that write are no fault of another module where they are none of this one
-abbrev pub LinesStay : Module → Module → Process → Type 0
-LinesStay m n p = (before : List EventLine) → has_bad_line m before (write_lines p) ≡ false → has_bad_line n before (write_lines p) ≡ false
-
--- the check accepts the processes that are left, where it accepts their lines still
-module _ (memories : Bool) (ports : Ports) (m n : Module) where
-  pub all_good : (earlier qs : List Process) → flat_map write_lines (map without_always earlier) ≡ flat_map write_lines earlier → Each (λ (p : Process). count_by is_edge_rule (acting_rules p.syncs) ≤ 1) qs → Each (LinesStay m n) qs → process_faults (with_processes memories) ports m earlier qs ≡ [] → process_faults (with_processes true) ports n (map without_always earlier) (map without_always qs) ≡ []
-  all_good earlier [] same few lines e = refl
-  all_good earlier (q ∷ qs) same few lines e =
-      let good : IsGoodProcess ports m (flat_map write_lines earlier) q = good_of memories ports m earlier q (none_left (faults_of_process (with_processes memories) ports m earlier q) (process_faults (with_processes memories) ports m (earlier ++ q ∷ []) qs) e) in
+-- the check accepts the processes that are left, where lines have the same faults
+module _ (ports : Ports) (m n : Module) (alike : (before ls : List EventLine) → has_bad_line false n before ls ≡ has_bad_line false m before ls) where
+  pub all_good : (earlier qs : List Process) → flat_map write_lines (map without_always earlier) ≡ flat_map write_lines earlier → Each (λ (p : Process). count_by is_edge_rule (acting_rules p.syncs) ≤ 1) qs → process_faults with_processes ports m earlier qs ≡ [] → process_faults with_processes ports n (map without_always earlier) (map without_always qs) ≡ []
+  all_good earlier [] same few e = refl
+  all_good earlier (q ∷ qs) same few e =
+      let good : IsGoodProcess ports m (flat_map write_lines earlier) q = good_of ports m earlier q (none_left (faults_of_process with_processes ports m earlier q) (process_faults with_processes ports m (earlier ++ q ∷ []) qs) e) in
       let stay = lines_kept q good.rules in
-      let fine : has_bad_line n (flat_map write_lines (map without_always earlier)) (write_lines (without_always q)) ≡ false = (λ i. has_bad_line n (same i) (stay i)) ∙ lines q (inl refl) (flat_map write_lines earlier) good.lines in
-      let here = of_good true ports n (map without_always earlier) (without_always q) (still_good ports m n (flat_map write_lines earlier) (flat_map write_lines (map without_always earlier)) q (few q (inl refl)) fine good) in
+      let fine : has_bad_line false n (flat_map write_lines (map without_always earlier)) (write_lines (without_always q)) ≡ false = (λ i. has_bad_line false n (same i) (stay i)) ∙ alike (flat_map write_lines earlier) (write_lines q) ∙ good.lines in
+      let here = of_good ports n (map without_always earlier) (without_always q) (still_good ports m n (flat_map write_lines earlier) (flat_map write_lines (map without_always earlier)) q (few q (inl refl)) fine good) in
       let front : map without_always (earlier ++ q ∷ []) ≡ map without_always earlier ++ without_always q ∷ [] = map-append without_always earlier (q ∷ []) in
       let later : flat_map write_lines (map without_always (earlier ++ q ∷ [])) ≡ flat_map write_lines (earlier ++ q ∷ []) =
       ap (flat_map write_lines) front
       ∙ flat_map-append write_lines (map without_always earlier) (without_always q ∷ [])
       ∙ (λ i. same i ++ (stay i ++ []))
       ∙ sym (flat_map-append write_lines earlier (q ∷ [])) in
-      let rest = all_good (earlier ++ q ∷ []) qs later (λ p i. few p (inr i)) (λ p i. lines p (inr i)) (none_right (faults_of_process (with_processes memories) ports m earlier q) (process_faults (with_processes memories) ports m (earlier ++ q ∷ []) qs) e) in
-      λ i. here i ++ (ap (λ ps. process_faults (with_processes true) ports n ps (map without_always qs)) (sym front) ∙ rest) i
+      let rest = all_good (earlier ++ q ∷ []) qs later (λ p i. few p (inr i)) (none_right (faults_of_process with_processes ports m earlier q) (process_faults with_processes ports m (earlier ++ q ∷ []) qs) e) in
+      λ i. here i ++ (ap (λ ps. process_faults with_processes ports n ps (map without_always qs)) (sym front) ∙ rest) i

@@ -33,6 +33,7 @@ use Rattle.rtl_ir.specs.declared.wire.Wire.{Wire}
 use Rattle.rtl_sig.specs.declared.sig.SigBit.{SigBit}
 use Rattle.rtl_sig.specs.declared.sig.SigBit.TheVariants.{Wire as OnWire}
 use Rattle.rtl_sig.specs.declared.sig.WireBit.{WireBit}
+use Rattle.rtl_ir.specs.Scope.{with_processes}
 use Rattle.net_model.proofs.Growing.{place_more}
 use Rattle.net_model.proofs.Members.{In-left, In-map, In-right}
 use Rattle.net_model.proofs.Ranges.{all_joins_in, each_filter}
@@ -45,7 +46,7 @@ use Rattle.net_model.specs.Within.{ProcessIn, RuleIn, with_wires}
 use Rattle.pass_laws.proofs.Faultless.{no_faults}
 use Rattle.proc_laws.proofs.RebuildBits.{one_place}
 use Rattle.proc_laws.proofs.RebuildProcesses.{each_good}
-use Rattle.proc_laws.specs.Ready.{AreRuled, IsReady, with_processes}
+use Rattle.proc_laws.specs.Ready.{AreRuled, IsReady}
 use Rattle.mux_laws.proofs.TreeBuilt.{after, built_refines, moment, process_among}
 use Rattle.mux_laws.proofs.TreeGrowing.{Grows}
 use Rattle.mux_laws.proofs.TreeLess.{SameAccesses}
@@ -79,7 +80,7 @@ abbrev AreFree : Module → Type 0
 AreFree m =
     (q : Process) → In q m.processes → (r : SyncRule) → acting_rules q.syncs ≡ r ∷ [] → is_always r.event ≡ true → (j : Join) → In j (all_joins r.updates) → has_bit (tree_bits q.root) j.bit ≡ false
 
-module _ (table : types.Ports) (m : Module) (ready : IsReady (with_processes true) table m) (ruled : AreRuled m) (edges : HaveNoTwoEdges m) (free : AreFree m) where
+module _ (table : types.Ports) (m : Module) (ready : IsReady with_processes table m) (ruled : AreRuled m) (edges : HaveNoTwoEdges m) (free : AreFree m) where
   abbrev built : Building
   built = latches_step m.processes (building_of m)
 
@@ -96,7 +97,7 @@ module _ (table : types.Ports) (m : Module) (ready : IsReady (with_processes tru
 
   accepted : (q : Process) → In q m.processes → IsAccepted q
   accepted q i =
-      let good = (each_good true table m [] m.processes (no_faults (with_processes true) table m ready.faultless).processes q i).1 in
+      let good = (each_good table m [] m.processes (no_faults with_processes table m ready.faultless).processes q i).1 in
       record { stand = good.rules; acyclic = subst (λ z. reads_itself z (tree_bits q.root) ≡ false) (ruled q i) good.acyclic }
 
   starts : flat_map process_starts m.processes ≡ flat_map process_starts less
@@ -153,7 +154,7 @@ module _ (table : types.Ports) (m : Module) (ready : IsReady (with_processes tru
         (λ j. s.met d (row_there k.0 k.1 d j))
         (row_case here.start p here.wires (with_wires grown.wires m) then' k.0 (ruled k.0 k.1) (edges k.0 k.1) d k.2)
 
-pub refines : (table : PortTable) (m : Module) → IsReady (with_processes true) (types.table_ports table.modules) m → AreRuled m → HaveNoTwoEdges m → RefinesIn m (proc_latch_of m) table
+pub refines : (table : PortTable) (m : Module) → IsReady with_processes (types.table_ports table.modules) m → AreRuled m → HaveNoTwoEdges m → RefinesIn m (proc_latch_of m) table
 refines table m ready ruled edges = record {
   holds = λ pre post h k agree. let ports : types.Ports = types.table_ports table.modules in
       let free : AreFree m = update_free _ m (h.modules m (In-right m pre (m ∷ post) (inl refl))) in

@@ -1,7 +1,10 @@
 //! Adds to modules up to the limits, and one item more.
 #![tactic(auto)]
 
+mod gates;
+
 use cell_types::{CellKind, GateKind};
+use gates::{WIDE, has_gates};
 use net_index::{Builder, PassFault};
 use rtl_bits::{Bit, Memory, Text};
 use rtl_ir::{Module, Pin};
@@ -164,13 +167,23 @@ fn all_hold(rt: &HostRuntime) -> Option<bool> {
             good = false;
         }
     }
+    for row in &WIDE {
+        if !has_gates(rt.alloc(), row).ok()? {
+            println!(rt; "otherwise: {}", row.name).ok()?;
+            good = false;
+        }
+    }
     Some(good)
 }
 
 /// Runs over the rows, and says what they came to.
 fn main(rt: HostRuntime) -> ExitCode {
     match all_hold(&rt) {
-        Some(true) => match println!(rt; "{} rows of limits, all as they are told", ROWS.len()) {
+        Some(true) => match println!(rt;
+            "{} rows of limits and {} of gates, all as they are told",
+            ROWS.len(),
+            WIDE.len()
+        ) {
             Ok(()) => ExitCode::SUCCESS,
             Err(_) => ExitCode::FAILURE,
         },

@@ -40,7 +40,7 @@ use Rattle.map_laws.specs.Expansion.{IsExpansion, IsWhole, StandsWith, cells_add
 use Rattle.map_laws.specs.Operand.{IsShapeOf, pin_signal}
 use Rattle.gate_nets.proofs.Adding.{low_of}
 use Rattle.gate_nets.proofs.Expanding.{net_expands, net_stands}
-use Rattle.gate_nets.proofs.Nets.{Goods, Logic, Net}
+use Rattle.gate_nets.proofs.Nets.{Goods, Logic, Net, net_pure, net_weaker, nothing}
 use Rattle.gate_nets.proofs.Residues.{Residue, residue_extended}
 use Rattle.gate_nets.proofs.Standing.{reads}
 use Rattle.gate_nets.proofs.Wholes.{names}
@@ -181,6 +181,14 @@ module _ (g : SigBit → Bit) (shape : Shape) (c : Cell) where
         net_divide IsDivided n _ _ (integer_at (pin_signal c A)) (integer_at (pin_signal c B)) (operand IsDivided signed n (map g (pin_signal c A)) dividend_known) (operand IsDivided signed n (map g (pin_signal c B)) divisor_known) not_zero l kind signed
         (λ k. operand_is signed n (map g (pin_signal c A)) fits_a) (λ k. operand_is signed n (map g (pin_signal c B)) fits_b) (operand_of shape c A n) (operand_of shape c B n)
         (λ r. reads_operand l IsDivided g signed n (pin_signal c A) dividend_known h) (λ r. reads_operand l IsDivided g signed n (pin_signal c B) divisor_known k)
+
+-- the net of a kind, whatever is said of bits
+pub net_kind : (shape : Shape) (c : Cell) (kind : CellKind) → Net nothing (Unit {0}) (value_of kind shape c) (λ ys. Unit {0})
+net_kind shape c (Word (Arith Mul)) =
+    net_weaker nothing (net_multiplied (λ s. X) shape c nothing (λ s i. tt) (λ s i. tt)) (λ ys w. tt)
+net_kind shape c (Word (Division kind)) =
+    net_weaker nothing (net_quotient (λ s. X) shape c nothing kind (λ s i. tt) (λ s i. tt)) (λ ys w. tt)
+net_kind shape c kind = net_pure nothing (λ r. tt)
 
 module _ (c : Cell) (b : Building) where
   product_expands : (shape : Shape) → IsWhole (length b.body.wires) (Word (Arith Mul)) c → IsExpansion b (given (multiplied_of shape c) c b) c

@@ -4,3 +4,4 @@ pub mod Products
 pub mod Operands
 pub mod Values
 pub mod Expanded
+pub mod Renaming

@@ -2,3 +2,4 @@ mod Tabling
 mod Starting
 mod Planning
 mod Placing
+mod Asking

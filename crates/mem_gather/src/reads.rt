@@ -24,11 +24,12 @@ fn is_read_kind(kind: Option<CellKind>) -> bool
 }
 
 /// Whether the cell is a read port of the memory of this name.
-#[tactic(auto, unfolding(rtl_ir::specs::Flat::Cell::cell_kind))]
+#[tactic(auto, using(crate::proofs::Asking::asked_first), unfolding(rtl_ir::specs::Flat::Cell::cell_kind))]
 fn is_read_port(name: &[u8], cell: &Cell) -> bool
     ensures value { result ≡ (is_read_kind (cell_kind cell.now) && is_of_memory name.now cell.now) }
 {
-    is_read_kind(kind_of(cell.kind_name.as_slice())) && is_of_memory(name, cell)
+    // Few cells have a memory's name, so it is asked first.
+    is_of_memory(name, cell) && is_read_kind(kind_of(cell.kind_name.as_slice()))
 }
 
 /// The read port of a cell at this place of the list.

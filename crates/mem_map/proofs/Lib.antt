@@ -6,3 +6,4 @@ pub mod RunLengths
 pub mod Passing
 pub mod Trees
 pub mod Wiring
+pub mod Asking

@@ -29,18 +29,18 @@ use std::alloc::Global;
 /// a register with a chain of multiplexers, one for each write port that reaches it, and each read port a tree
 /// of multiplexers; without write ports the words are constants. The memory and its cells go. `Over` comes where
 /// the module with all that is added, its memory beside it, would pass a limit on cells, on bits of wires or
-/// on fresh names. In the Yosys manual, the command `memory_map`.
-pub fn expand(alloc: Global, module: &Module, plan: &MemPlan) -> Result<Module, PassFault>
-    requires in_range { plan.now.store < length «module».now.memories }
-    ensures exact { IfOk result (λ after. after ≡ expanded_memory «module».now plan.now (planned_store «module».now plan.now)) }
-    ensures over { result ≡ Err PassFault.Over → ExpandPassesLimit «module».now plan.now }
-    ensures within { OnOk result (IsInLimits (expanded «module».now plan.now)) }
+/// on fresh names. After an error the module is given up. In the Yosys manual, the command `memory_map`.
+pub fn expand(alloc: Global, module: Module, plan: &MemPlan) -> Result<Module, PassFault>
+    requires in_range { plan.now.store < length «module».memories }
+    ensures exact { IfOk result (λ after. after ≡ expanded_memory «module» plan.now (planned_store «module» plan.now)) }
+    ensures over { result ≡ Err PassFault.Over → ExpandPassesLimit «module» plan.now }
+    ensures within { OnOk result (IsInLimits (expanded «module» plan.now)) }
 {
-    check_limits(module)?;
+    check_limits(&module)?;
     let at = plan.store as usize;
-    let store = &module.memories.as_slice()[at];
-    let builder = Builder::of(alloc, module.copy()?)?;
-    let builder = memory_step(alloc, plan, store, builder)?;
+    let store = module.memories.as_slice()[at].copy()?;
+    let builder = Builder::of(alloc, module)?;
+    let builder = memory_step(alloc, plan, &store, builder)?;
     Ok(without_memory(alloc, at, store.name.as_slice(), builder.finish())?)
 }
 

@@ -53,11 +53,12 @@ fn is_memory_kind(kind: Option<CellKind>) -> bool
 }
 
 /// Whether the cell is none of this memory.
-#[tactic(auto, unfolding(rtl_ir::specs::Flat::Cell::cell_kind))]
+#[tactic(auto, using(crate::proofs::Asking::asked_first), unfolding(rtl_ir::specs::Flat::Cell::cell_kind))]
 fn stays(name: &[u8], cell: &Cell) -> bool
     ensures value { result ≡ not (is_memory_kind (cell_kind cell.now) && is_of_memory name.now cell.now) }
 {
-    !(is_memory_kind(kind_of(cell.kind_name.as_slice())) && is_of_memory(name, cell))
+    // Few cells have a memory's name, so it is asked first.
+    !(is_of_memory(name, cell) && is_memory_kind(kind_of(cell.kind_name.as_slice())))
 }
 
 /// The cells that are none of this memory.

@@ -62,7 +62,7 @@ times_apart f (suc at) (y ∷ xs) s e q =
     omega (arith, here, there, times_apart f at xs s e q)
 
 -- the bits that read ports give, as ports and as rows
-ports_bits : (name : List ℕ) (from : ℕ) (cells : List Cell) → data_bits (read_ports name from cells) ≡ flat_map (λ (c : Cell). wire_bits (signal_at c.pins (pin_text Data))) (reading_cells name cells)
+pub ports_bits : (name : List ℕ) (from : ℕ) (cells : List Cell) → data_bits (read_ports name from cells) ≡ flat_map (λ (c : Cell). wire_bits (signal_at c.pins (pin_text Data))) (reading_cells name cells)
 ports_bits name from [] = refl
 ports_bits name from (c ∷ cells) = by (is_read_kind (cell_kind c) && is_of_memory name c) (ports_bits name (from + 1) cells)
   where
@@ -105,7 +105,7 @@ module _ (n : Module) (s : Store) (place : ℕ) (there : slice_get n.memories pl
       ∙ (λ i. record n { cells = cells_after; wires = wires; links = n.links ++ made.links; processes = []; memories = without_is place n.memories i })
 
   -- no fresh wire has the name of a wire of the module
-  names_apart : (name : List ℕ) → In name (names_of n.wires) → In name (names_of made.wires) → ⊥
+  pub names_apart : (name : List ℕ) → In name (names_of n.wires) → In name (names_of made.wires) → ⊥
   names_apart name i j =
       let low : ℕ = first_number (before n s place) in
       let high : ℕ = (built n s place).next in
@@ -113,7 +113,7 @@ module _ (n : Module) (s : Store) (place : ℕ) (there : slice_get n.memories pl
       let number : made_number name ≡ is.number = fresh_number low high name (omega arith) few is in
       omega (arith, number, is.above, old_number (before n s place) name i)
 
-  fresh_names : Distinct (names_of made.wires)
+  pub fresh_names : Distinct (names_of made.wires)
   fresh_names = rising_distinct (built n s place).next few (first_number (before n s place)) (omega arith) (names_of made.wires) made.names
 
   module _ (over : Ports) (p : Path) where

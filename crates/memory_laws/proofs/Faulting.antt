@@ -1,5 +1,5 @@
 -- The cells and connections of the module in which a memory became words are the module's own, or have no fault.
-use Rattle.std.proofs.Common.{◌≡◌, ℕ, true, Some, ◌⊎◌, inl, inr}
+use Rattle.std.proofs.Common.{◌≡◌, ℕ, Some, ◌⊎◌, inl, inr}
 use Rattle.std.specs.Prelude.{slice_get}
 use Rattle.rtl_ir.specs.Types.{Ports}
 use Rattle.rtl_ir.specs.declared.cell.Cell.{Cell}
@@ -13,7 +13,7 @@ use Rattle.net_model.specs.Mem.Expand.{expanded_memory, memory_step}
 use Rattle.net_model.specs.Mem.Gather.{gathered}
 use Rattle.pass_laws.specs.Replaces.{IsEven, IsFaultless}
 use Rattle.pass_laws.proofs.Alone.{library_faultless}
-use Rattle.proc_laws.specs.Ready.{IsReady, without_processes}
+use Rattle.pass_laws.specs.Ready.{IsReady}
 use Rattle.memory_laws.specs.Named.{HaveOwnNames}
 use Rattle.memory_laws.proofs.Faultless.{in_place}
 use Rattle.memory_laws.proofs.Fitting.{IsFit}
@@ -21,7 +21,7 @@ use Rattle.memory_laws.proofs.FittingPlan.{built_fits}
 use Rattle.memory_laws.proofs.FittingSteps.{AreFit}
 use Rattle.memory_laws.proofs.KeptRows.{stays}
 
-module _ (ports : Ports) (m : Module) (s : Store) (at : ℕ) (ready : IsReady (without_processes true) ports m) (named : HaveOwnNames m) (there : slice_get m.memories at ≡ Some s) where
+module _ (ports : Ports) (m : Module) (s : Store) (at : ℕ) (ready : IsReady ports m) (named : HaveOwnNames m) (there : slice_get m.memories at ≡ Some s) where
   fit : AreFit m.cells m.links (memory_step (gathered m at s) s (building_of m))
   fit = built_fits ports m ready named s (in_place m.memories at s there) at
 

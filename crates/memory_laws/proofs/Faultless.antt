@@ -17,7 +17,7 @@ use Rattle.rtl_ir.specs.Faults.Stores.{is_bad_store, store_faults}
 use Rattle.rtl_ir.specs.Flat.Access.{Access, cell_access, cell_accesses, in_access_order, place_access}
 use Rattle.rtl_ir.specs.Flat.Cell.{cell_kind}
 use Rattle.rtl_ir.specs.Parameters.{memory_name}
-use Rattle.rtl_ir.specs.Scope.{Scope}
+use Rattle.rtl_ir.specs.Scope.{Scope, without_processes}
 use Rattle.rtl_ir.specs.Types.{Library, Ports}
 use Rattle.rtl_ir.specs.WritePorts.{cell_ports, is_of_memory, is_write_cell, is_write_kind}
 use Rattle.rtl_ir.specs.declared.cell.Cell.{Cell}
@@ -30,7 +30,7 @@ use Rattle.net_model.specs.Lists.{Distinct, In}
 use Rattle.net_model.specs.Mem.Gather.{write_port}
 use Rattle.net_model.specs.Within.{Each}
 use Rattle.pass_laws.proofs.Faultless.{all_fine, fits, library_faults, no_cell_faults, no_faults, none_left, none_right}
-use Rattle.proc_laws.specs.Ready.{IsReady, without_processes}
+use Rattle.pass_laws.specs.Ready.{IsReady}
 use Rattle.mux_laws.proofs.MatchBits.{or_false}
 use Rattle.memory_laws.proofs.KeptRows.{without}
 use Rattle.memory_laws.proofs.PortSteps.{AreWide}
@@ -42,9 +42,9 @@ no_fault true f e = absurd (cc)
 no_fault false f e = refl
 
 -- no process is taken, so there is none
-pub no_processes : (memories : Bool) (ports : Ports) (m : Module) (earlier processes : List Process) → process_faults (without_processes memories) ports m earlier processes ≡ [] → processes ≡ []
-no_processes memories ports m earlier [] e = refl
-no_processes memories ports m earlier (p ∷ processes) e = absurd (cc)
+pub no_processes : (ports : Ports) (m : Module) (earlier processes : List Process) → process_faults without_processes ports m earlier processes ≡ [] → processes ≡ []
+no_processes ports m earlier [] e = refl
+no_processes ports m earlier (p ∷ processes) e = absurd (cc)
 
 none_of : {A B : Type 0} (f : A → List B) (xs : List A) → flat_map f xs ≡ [] → (x : A) → In x xs → f x ≡ []
 none_of f [] e x i = absurd i
@@ -151,42 +151,42 @@ not_true : (t : Bool) → not t ≡ false → t ≡ true
 not_true true e = refl
 not_true false e = absurd (cc)
 
-module _ (ports : Ports) (m : Module) (ready : IsReady (without_processes true) ports m) (distinct : Distinct (map (λ (r : Store). r.name) m.memories)) where
+module _ (ports : Ports) (m : Module) (ready : IsReady ports m) (distinct : Distinct (map (λ (r : Store). r.name) m.memories)) where
   pub none_there : m.processes ≡ []
-  none_there = no_processes true ports m [] m.processes (no_faults (without_processes true) ports m ready.faultless).processes
+  none_there = no_processes ports m [] m.processes (no_faults without_processes ports m ready.faultless).processes
 
   module _ (s : Store) (there : In s m.memories) where
     pub few : s.width ≤ 65536
-    few = word_fits (without_processes true) m.id s (none_of (store_faults (without_processes true) m.id) m.memories (no_faults (without_processes true) ports m ready.faultless).stores s there)
+    few = word_fits without_processes m.id s (none_of (store_faults without_processes m.id) m.memories (no_faults without_processes ports m ready.faultless).stores s there)
 
     -- a cell of the memory has its width
-    like : (earlier : List Cell) (c : Cell) → is_of_memory s.name c ≡ true → is_bad_memory_cell m earlier c MemwrV2 ≡ false → number_at c Param.Width ≡ s.width
+    like : (earlier : List Cell) (c : Cell) → is_of_memory s.name c ≡ true → is_bad_memory_cell false m earlier c MemwrV2 ≡ false → number_at c Param.Width ≡ s.width
     like earlier c of good = by (memory_name c.params) of good
       where
-        found : (q : List ℕ) → s.name ≡ q → (o : Option Store) → store_named m.memories q ≡ o → option_map_or (is_bad_in m earlier c MemwrV2) o true ≡ false → number_at c Param.Width ≡ s.width
+        found : (q : List ℕ) → s.name ≡ q → (o : Option Store) → store_named m.memories q ≡ o → option_map_or (is_bad_in false m earlier c MemwrV2) o true ≡ false → number_at c Param.Width ≡ s.width
         found q is None e f = absurd (cc)
         found q is (Some r) e f =
             let k = found_there (λ (z : Store). bytes_eq z.name q) m.memories r e in
             let name : r.name ≡ s.name = (bytes_eq-Decides r.name q).0 k.1 ∙ sym is in
             let same : r ≡ s = one_named m.memories distinct r s k.0 there name in
-            let unlike : is_unlike r c ≡ false = (or_false (is_unlike r c) (is_bad_access m.links (cell_ports m.links r.name earlier) r c MemwrV2) f).0 in
+            let unlike : is_unlike r c ≡ false = (or_false (is_unlike r c) (is_bad_access false m.links (cell_ports m.links r.name earlier) r c MemwrV2) f).0 in
             let width : not (number_at c Param.Width == r.width) ≡ false = (or_false (not (number_at c Param.Width == r.width)) (number_at c Param.Abits == 0) ((or_false _ (nat_lt 32 (number_at c Param.Abits)) unlike).0)).0 in
             eqb-true (number_at c Param.Width) r.width (not_true (number_at c Param.Width == r.width) width) ∙ ap (λ (z : Store). z.width) same
 
-        by : (o : Option (List ℕ)) → option_map_or (bytes_eq s.name) o false ≡ true → option_map_or (is_bad_in m earlier c MemwrV2) (option_and_then (store_named m.memories) o) true ≡ false → number_at c Param.Width ≡ s.width
+        by : (o : Option (List ℕ)) → option_map_or (bytes_eq s.name) o false ≡ true → option_map_or (is_bad_in false m earlier c MemwrV2) (option_and_then (store_named m.memories) o) true ≡ false → number_at c Param.Width ≡ s.width
         by None e f = absurd (cc)
         by (Some q) e f = found q ((bytes_eq-Decides s.name q).0 e) (store_named m.memories q) refl f
 
     cell_wide : (c : Cell) → In c m.cells → is_write_cell c.kind_name ≡ true → is_of_memory s.name c ≡ true → length (cell_access c).enable ≡ s.width
     cell_wide c i writes of =
         let kind : cell_kind c ≡ Some (Memory MemwrV2) = write_kind c writes in
-        let fine = all_fine (without_processes true) ports m [] m.cells (no_faults (without_processes true) ports m ready.faultless).cells c i in
-        let shape = fits (spot m.id c.name) c (Memory MemwrV2) (no_cell_faults (without_processes true) ports m fine.0 c (Memory MemwrV2) kind fine.1).shape in
+        let fine = all_fine without_processes ports m [] m.cells (no_faults without_processes ports m ready.faultless).cells c i in
+        let shape = fits (spot m.id c.name) c (Memory MemwrV2) (no_cell_faults without_processes ports m fine.0 c (Memory MemwrV2) kind fine.1).shape in
         let here : Spot = spot m.id c.name in
         let k : List Fault = fault_if (is_memory_kind (Memory MemwrV2) && not true) (UnsupportedCell here) in
-        let all = sym (library_faults (without_processes true) ports m fine.0 c (Memory MemwrV2) kind) ∙ fine.1 in
-        let last : memory_faults m fine.0 c (Memory MemwrV2) ≡ [] = none_right ((k ++ shape_fault here (misfit (Memory MemwrV2) c)) ++ output_faults here (Library (Memory MemwrV2)) c.pins) (memory_faults m fine.0 c (Memory MemwrV2)) all in
-        let good : is_bad_memory_cell m fine.0 c MemwrV2 ≡ false = no_fault (is_bad_memory_cell m fine.0 c MemwrV2) (BadMemory here) last in
+        let all = sym (library_faults without_processes ports m fine.0 c (Memory MemwrV2) kind) ∙ fine.1 in
+        let last : memory_faults false m fine.0 c (Memory MemwrV2) ≡ [] = none_right ((k ++ shape_fault here (misfit (Memory MemwrV2) c)) ++ output_faults here (Library (Memory MemwrV2)) c.pins) (memory_faults false m fine.0 c (Memory MemwrV2)) all in
+        let good : is_bad_memory_cell false m fine.0 c MemwrV2 ≡ false = no_fault (is_bad_memory_cell false m fine.0 c MemwrV2) (BadMemory here) last in
         pin_fits (Memory MemwrV2) c En shape refl (inr (inl refl)) ∙ like fine.0 c of good
 
     -- each write port has the width of the words

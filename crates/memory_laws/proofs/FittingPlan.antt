@@ -26,6 +26,7 @@ use Rattle.rtl_ir.specs.Flat.Access.{cell_access, cell_accesses}
 use Rattle.rtl_ir.specs.Flat.Cell.{cell_kind}
 use Rattle.rtl_ir.specs.Flat.Memory.{addresses_of, is_read_kind}
 use Rattle.rtl_ir.specs.Parameters.{given_params, memory_name, signal_at}
+use Rattle.rtl_ir.specs.Scope.{without_processes}
 use Rattle.rtl_ir.specs.Signals.{has_constant}
 use Rattle.rtl_ir.specs.Types.{Library, Ports}
 use Rattle.rtl_ir.specs.WritePorts.{cell_ports, is_of_memory}
@@ -41,7 +42,7 @@ use Rattle.net_model.specs.Mem.Expand.{memory_step}
 use Rattle.net_model.specs.Mem.Gather.{gathered, read_port, read_ports, write_port}
 use Rattle.net_model.specs.Within.{Each}
 use Rattle.pass_laws.proofs.Faultless.{all_fine, fits, library_faults, no_cell_faults, no_faults, none_right}
-use Rattle.proc_laws.specs.Ready.{IsReady, without_processes}
+use Rattle.pass_laws.specs.Ready.{IsReady}
 use Rattle.mux_laws.proofs.MatchBits.{or_false}
 use Rattle.memory_laws.proofs.Faultless.{found_there, no_fault, one_named, write_kind}
 use Rattle.memory_laws.proofs.FittingSteps.{AreFit, ReadFits, WriteFits, memory_fits}
@@ -69,7 +70,7 @@ record HasSizes (s : Store) (c : Cell) : Type 0 where
   some : 0 < number_at c Param.Abits
   few : number_at c Param.Abits ≤ 32
 
-module _ (ports : Ports) (m : Module) (ready : IsReady (without_processes true) ports m) (distinct : Distinct (map (λ (r : Store). r.name) m.memories)) (s : Store) (there : In s m.memories) where
+module _ (ports : Ports) (m : Module) (ready : IsReady ports m) (distinct : Distinct (map (λ (r : Store). r.name) m.memories)) (s : Store) (there : In s m.memories) where
   sizes_of : (c : Cell) → is_unlike s c ≡ false → HasSizes s c
   sizes_of c unlike =
       let first = or_false (not (number_at c Param.Width == s.width) || (number_at c Param.Abits == 0)) (nat_lt 32 (number_at c Param.Abits)) unlike in
@@ -86,17 +87,17 @@ module _ (ports : Ports) (m : Module) (ready : IsReady (without_processes true) 
       by (suc n) e = omega arith
 
   -- a cell of the memory is like it
-  like : (kind : MemoryKind) (earlier : List Cell) (c : Cell) → is_of_memory s.name c ≡ true → is_bad_memory_cell m earlier c kind ≡ false → is_unlike s c ≡ false
+  like : (kind : MemoryKind) (earlier : List Cell) (c : Cell) → is_of_memory s.name c ≡ true → is_bad_memory_cell false m earlier c kind ≡ false → is_unlike s c ≡ false
   like kind earlier c of good = by (memory_name c.params) of good
     where
-      found : (q : List ℕ) → s.name ≡ q → (o : Option Store) → store_named m.memories q ≡ o → option_map_or (is_bad_in m earlier c kind) o true ≡ false → is_unlike s c ≡ false
+      found : (q : List ℕ) → s.name ≡ q → (o : Option Store) → store_named m.memories q ≡ o → option_map_or (is_bad_in false m earlier c kind) o true ≡ false → is_unlike s c ≡ false
       found q is None e f = absurd (cc)
       found q is (Some r) e f =
           let k = found_there (λ (z : Store). bytes_eq z.name q) m.memories r e in
           let same : r ≡ s = one_named m.memories distinct r s k.0 there ((bytes_eq-Decides r.name q).0 k.1 ∙ sym is) in
-          subst (λ (z : Store). is_unlike z c ≡ false) same (or_false (is_unlike r c) (is_bad_access m.links (cell_ports m.links r.name earlier) r c kind) f).0
+          subst (λ (z : Store). is_unlike z c ≡ false) same (or_false (is_unlike r c) (is_bad_access false m.links (cell_ports m.links r.name earlier) r c kind) f).0
 
-      by : (o : Option (List ℕ)) → option_map_or (bytes_eq s.name) o false ≡ true → option_map_or (is_bad_in m earlier c kind) (option_and_then (store_named m.memories) o) true ≡ false → is_unlike s c ≡ false
+      by : (o : Option (List ℕ)) → option_map_or (bytes_eq s.name) o false ≡ true → option_map_or (is_bad_in false m earlier c kind) (option_and_then (store_named m.memories) o) true ≡ false → is_unlike s c ≡ false
       by None e f = absurd (cc)
       by (Some q) e f = found q ((bytes_eq-Decides s.name q).0 e) (store_named m.memories q) refl f
 
@@ -108,16 +109,16 @@ module _ (ports : Ports) (m : Module) (ready : IsReady (without_processes true) 
 
   parts_of : (kind : MemoryKind) (c : Cell) → In c m.cells → cell_kind c ≡ Some (Memory kind) → is_of_memory s.name c ≡ true → HasParts kind c
   parts_of kind c i own of =
-      let fine = all_fine (without_processes true) ports m [] m.cells (no_faults (without_processes true) ports m ready.faultless).cells c i in
-      let none = no_cell_faults (without_processes true) ports m fine.0 c (Memory kind) own fine.1 in
+      let fine = all_fine without_processes ports m [] m.cells (no_faults without_processes ports m ready.faultless).cells c i in
+      let none = no_cell_faults without_processes ports m fine.0 c (Memory kind) own fine.1 in
       let here : Spot = spot m.id c.name in
       let k : List Fault = fault_if (is_memory_kind (Memory kind) && not true) (UnsupportedCell here) in
-      let all = sym (library_faults (without_processes true) ports m fine.0 c (Memory kind) own) ∙ fine.1 in
-      let last : memory_faults m fine.0 c (Memory kind) ≡ [] = none_right ((k ++ shape_fault here (misfit (Memory kind) c)) ++ output_faults here (Library (Memory kind)) c.pins) (memory_faults m fine.0 c (Memory kind)) all in
+      let all = sym (library_faults without_processes ports m fine.0 c (Memory kind) own) ∙ fine.1 in
+      let last : memory_faults false m fine.0 c (Memory kind) ≡ [] = none_right ((k ++ shape_fault here (misfit (Memory kind) c)) ++ output_faults here (Library (Memory kind)) c.pins) (memory_faults false m fine.0 c (Memory kind)) all in
       record {
         shape = fits here c (Memory kind) none.shape;
         output = no_fault (has_constant_output (Library (Memory kind)) c.pins) (BadPort here) none.output;
-        sizes = sizes_of c (like kind fine.0 c of (no_fault (is_bad_memory_cell m fine.0 c kind) (BadMemory here) last));
+        sizes = sizes_of c (like kind fine.0 c of (no_fault (is_bad_memory_cell false m fine.0 c kind) (BadMemory here) last));
       }
 
   -- its words have 1 to 4,096 bits

@@ -1,5 +1,5 @@
 -- After a memory became words the module has the same name, ports and instances, and no bit has a second driver.
-use Rattle.std.proofs.Common.{◌≡◌, ◌≤◌, ℕ, true, [], Some, sym, ◌∙◌, ap, subst}
+use Rattle.std.proofs.Common.{◌≡◌, ◌≤◌, ℕ, [], Some, sym, ◌∙◌, ap, subst}
 use Rattle.std.specs.Prelude.{slice_get}
 use Rattle.rtl_ir.specs.Build.{building_of}
 use Rattle.rtl_ir.specs.Flat.Cell as flat
@@ -12,13 +12,13 @@ use Rattle.net_model.specs.Mem.Expand.{expanded_memory, memory_step}
 use Rattle.net_model.specs.Mem.Gather.{gathered}
 use Rattle.net_model.specs.Refine.{IsWellDriven}
 use Rattle.net_model.specs.Within.{IsWithin}
-use Rattle.proc_laws.specs.Ready.{IsReady, without_processes}
+use Rattle.pass_laws.specs.Ready.{IsReady}
 use Rattle.memory_laws.specs.Named.{HaveOwnNames}
 use Rattle.memory_laws.proofs.Driven.{after_is, memory_driven, memory_instances, memory_ports}
 use Rattle.memory_laws.proofs.Faultless.{none_there, others_apart}
 use Rattle.memory_laws.proofs.MemoryThere.{before}
 
-module _ (ports : types.Ports) (m : Module) (s : Store) (at : ℕ) (ready : IsReady (without_processes true) ports m) (named : HaveOwnNames m) (there : slice_get m.memories at ≡ Some s) (few : (memory_step (gathered m at s) s (building_of m)).next ≤ 1000000000) where
+module _ (ports : types.Ports) (m : Module) (s : Store) (at : ℕ) (ready : IsReady ports m) (named : HaveOwnNames m) (there : slice_get m.memories at ≡ Some s) (few : (memory_step (gathered m at s) s (building_of m)).next ≤ 1000000000) where
   -- the module has no process
   same : before m s at ≡ m
   same = let none : m.processes ≡ [] = none_there ports m ready named in (λ i. record m { processes = sym none i })

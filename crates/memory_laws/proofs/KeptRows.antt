@@ -43,12 +43,12 @@ no_frame : (c : Cell) (o : Option CellKind) → is_memory_kind o ≡ true → li
 no_frame c (Some kind) e = refl
 no_frame c None e = absurd (cc)
 
-not_false : (t : Bool) → not t ≡ false → t ≡ true
+pub not_false : (t : Bool) → not t ≡ false → t ≡ true
 not_false true e = refl
 not_false false e = absurd (cc)
 
 module _ (name : List ℕ) where
-  goes : (c : Cell) → stays name c ≡ false → is_memory_kind (cell_kind c) ≡ true
+  pub goes : (c : Cell) → stays name c ≡ false → is_memory_kind (cell_kind c) ≡ true
   goes c e = (and_parts (is_memory_kind (cell_kind c)) (is_of_memory name c) (not_false _ e)).0
 
   pub cells_stay : (start : SigBit → Bit) (ports : Ports) (p : Path) (wires : List Wire) (cells : List Cell) (x : Driven) → In x (cells_rows start ports p wires cells) → In x (cells_rows start ports p wires (filter (stays name) cells))
@@ -96,7 +96,7 @@ module _ (name : List ℕ) where
       by true f = ap not f
       by false f = refl
 
-  filter_stays : (test : Cell → Bool) → ((c : Cell) → test c ≡ true → stays name c ≡ true) → (cells : List Cell) → filter test (filter (stays name) cells) ≡ filter test cells
+  pub filter_stays : (test : Cell → Bool) → ((c : Cell) → test c ≡ true → stays name c ≡ true) → (cells : List Cell) → filter test (filter (stays name) cells) ≡ filter test cells
   filter_stays test h [] = refl
   filter_stays test h (c ∷ cells) = by (stays name c) (test c) refl refl (filter_stays test h cells)
     where
@@ -106,7 +106,7 @@ module _ (name : List ℕ) where
       by false true e f later = let no : true ≡ false = sym (h c f) ∙ e in absurd (cc)
 
   module _ (r : Store) (other : r.name ≡ name → ⊥) where
-    of_other : (a : Cell → Bool) (c : Cell) → (a c && is_of_memory r.name c) ≡ true → stays name c ≡ true
+    pub of_other : (a : Cell → Bool) (c : Cell) → (a c && is_of_memory r.name c) ≡ true → stays name c ≡ true
     of_other a c e = other_stays r.name other c (and_parts (a c) (is_of_memory r.name c) e).1
 
     pub same_accesses : (cells : List Cell) → cell_accesses r.name (filter (stays name) cells) ≡ cell_accesses r.name cells

@@ -24,10 +24,13 @@ pub mod Formed
 pub mod Inside
 pub mod InsideSteps
 pub mod PlanIn
-pub mod InTurn
-pub mod Turned
 pub mod PinWidths
 pub mod Fitting
 pub mod FittingSteps
 pub mod FittingPlan
 pub mod Faulting
+pub mod StillFine
+pub mod Counted
+pub mod Readied
+pub mod InTurn
+pub mod Turned

@@ -23,6 +23,8 @@ use Rattle.rtl_ir.specs.Flat.Point.{At, Constant, Point, bit_place, points}
 use Rattle.rtl_ir.specs.Flat.Tree.{places}
 use Rattle.rtl_ir.specs.Parameters.{signal_at}
 use Rattle.rtl_ir.specs.Signals.{bits_of_wire, wire_bits}
+use Rattle.rtl_ir.specs.Types as types
+use Rattle.rtl_ir.specs.Types.{Library, cell_type}
 use Rattle.rtl_ir.specs.declared.cell.Cell.{Cell}
 use Rattle.rtl_ir.specs.declared.cell.CellParam.{CellParam}
 use Rattle.rtl_ir.specs.declared.cell.Pin.{Pin}
@@ -35,6 +37,9 @@ use Rattle.net_model.specs.Refine.{places_of}
 use Rattle.map_laws.proofs.Expanding.{rising_more}
 use Rattle.map_laws.proofs.FreshWires.{names_of}
 use Rattle.map_laws.specs.Expansion.{AreRising, bits_from}
+use Rattle.pass_laws.proofs.Counting.{cells_more, count, count_more, links_more}
+use Rattle.pass_laws.proofs.Faultless.{type_is}
+use Rattle.pass_laws.specs.Bits.{cells_bits, links_bits, pin_bits}
 use Rattle.pass_laws.proofs.Placing.{bits_places, outputs_places, places_more, points_places}
 use Rattle.pass_laws.proofs.Rewriting.{links-append}
 use Rattle.proc_laws.proofs.CountingItems.{often, often_more}
@@ -62,6 +67,9 @@ pub record Makes (old new : Building) (extra lefts : List WireBit) : Type 0 wher
       (start : SigBit → Bit) (over : Ports) (p : Path) (ws : List Wire) (q : Place) →
       times q (places_of (cells_rows start over p ws cells)) ≤ times q (bits_places p ws (bits_from (length old.body.wires) wires)) + times q (bits_places p ws extra)
   pub links_low : (p : Path) (ws : List Wire) (q : Place) → times q (places_of (link_rows p ws links)) ≤ times q (bits_places p ws lefts)
+  -- the same as the check counts bits
+  pub cells_count : (ports : types.Ports) (x : WireBit) → count x (cells_bits ports cells) ≤ count x (bits_from (length old.body.wires) wires) + count x extra
+  pub links_count : (x : WireBit) → count x (links_bits links) ≤ count x lefts
 
 pub makes_none : (b : Building) → Makes b b [] []
 makes_none b = record {
@@ -74,6 +82,8 @@ makes_none b = record {
   names = omega arith;
   cells_low = λ start over p ws q. omega arith;
   links_low = λ p ws q. omega arith;
+  cells_count = λ ports x. omega arith;
+  links_count = λ x. omega arith;
 }
 
 pub bits_more : (first : ℕ) (ws vs : List Wire) → bits_from first (ws ++ vs) ≡ bits_from first ws ++ bits_from (first + length ws) vs
@@ -108,6 +118,14 @@ makes_both a b c xs ys ls ks g h = record {
   links_low = λ p ws q.
       let links = ap (λ z. times q (places_of z)) (links-append p ws g.links h.links) ∙ ap (times q) (places_more (link_rows p ws g.links) (link_rows p ws h.links)) ∙ often_more place_same q (places_of (link_rows p ws g.links)) (places_of (link_rows p ws h.links)) in
       omega (arith, links, times_bits p ws q ls ks, g.links_low p ws q, h.links_low p ws q);
+  cells_count = λ ports x.
+      let count' : length b.body.wires ≡ length a.body.wires + length g.wires = ap (λ (k : Module). length k.wires) g.body ∙ length-append a.body.wires g.wires in
+      let cells = ap (count x) (cells_more ports g.cells h.cells) ∙ count_more x (cells_bits ports g.cells) (cells_bits ports h.cells) in
+      let fresh = ap (count x) (bits_more (length a.body.wires) g.wires h.wires ∙ ap (λ k. bits_from (length a.body.wires) g.wires ++ bits_from k h.wires) (sym count')) ∙ count_more x (bits_from (length a.body.wires) g.wires) (bits_from (length b.body.wires) h.wires) in
+      omega (arith, cells, fresh, count_more x xs ys, g.cells_count ports x, h.cells_count ports x);
+  links_count = λ x.
+      let links = ap (count x) (links_more g.links h.links) ∙ count_more x (links_bits g.links) (links_bits h.links) in
+      omega (arith, links, count_more x ls ks, g.links_count x, h.links_count x);
 }
 
 -- two steps of which neither drives other bits
@@ -116,9 +134,10 @@ makes_plain a b c g h = makes_both a b c [] [] [] [] g h
 
 -- a cell that drives a fresh wire
 pub makes_driver : (name : List ℕ) (kind : WordKind) (e : kind_of name ≡ Some (Word kind)) (params : List CellParam) (pins : List Pin) (width : ℕ) (b : Building) → signal_at (pins ++ pin_of (codes "\\Y") (whole (length b.body.wires) width) ∷ []) (pin_text Y) ≡ whole (length b.body.wires) width
+    → pin_bits (Library (Word kind)) (pins ++ pin_of (codes "\\Y") (whole (length b.body.wires) width) ∷ []) ≡ wire_bits (whole (length b.body.wires) width) ++ []
     → Makes b (new_driver name params pins (codes "\\Y") width b).1 [] []
 unfolding cell_kind
-makes_driver name kind e params pins width b out = record {
+makes_driver name kind e params pins width b out drives = record {
   cells = record { kind_name = name; name = made_name b.next; params = params; pins = pins ++ pin_of (codes "\\Y") (whole (length b.body.wires) width) ∷ []; attributes = [] } ∷ [];
   wires = inner_wire (made_name (b.next + 1)) width [] ∷ [];
   links = [];
@@ -136,6 +155,14 @@ makes_driver name kind e params pins width b out = record {
       let fresh : bits_from wire (inner_wire (made_name (b.next + 1)) width [] ∷ []) ≡ bits_of_wire wire width = append-nil (bits_of_wire wire width) in
       omega (arith, ap (times q) all, ap (λ z. times q (bits_places p ws z)) fresh);
   links_low = λ p ws q. omega arith;
+  cells_count = λ ports x.
+      let wire : ℕ = length b.body.wires in
+      let c : Cell = record { kind_name = name; name = made_name b.next; params = params; pins = pins ++ pin_of (codes "\\Y") (whole wire width) ∷ []; attributes = [] } in
+      let own : cells_bits ports (c ∷ []) ≡ bits_of_wire wire width =
+      append-nil (pin_bits (cell_type ports name) c.pins) ∙ ap (λ t. pin_bits t c.pins) (type_is ports c (Word kind) e) ∙ drives ∙ append-nil (wire_bits (whole wire width)) ∙ bits_back (bits_of_wire wire width) in
+      let fresh : bits_from wire (inner_wire (made_name (b.next + 1)) width [] ∷ []) ≡ bits_of_wire wire width = append-nil (bits_of_wire wire width) in
+      omega (arith, ap (count x) own, ap (count x) fresh);
+  links_count = λ x. omega arith;
 }
 
 -- a fresh wire
@@ -150,6 +177,8 @@ makes_wire width attributes b = record {
   names = (b.next, omega arith, refl, omega arith);
   cells_low = λ start over p ws q. omega arith;
   links_low = λ p ws q. omega arith;
+  cells_count = λ ports x. omega arith;
+  links_count = λ x. omega arith;
 }
 
 stores_places : (start : SigBit → Bit) (shape : Shape) (reads : ℕ → StorePoints) (p : Path) (ws : List Wire) (ss : List SigBit) (at : ℕ) → places_of (stores start shape reads ss (points p ws ss) at) ≡ places (points p ws ss)
@@ -159,9 +188,9 @@ stores_places start shape reads p ws (OnWire b ∷ ss) at =
     ap (λ z. bit_place p ws b ∷ z) (stores_places start shape reads p ws ss (suc at))
 
 -- a storage cell that drives bits that were there
-pub makes_store : (name : List ℕ) (kind : StorageKind) (e : kind_of name ≡ Some (Storage kind)) (params : List CellParam) (pins : List Pin) (b : Building) → Makes b (new_cell name params pins b) (wire_bits (signal_at pins (pin_text Q))) []
+pub makes_store : (name : List ℕ) (kind : StorageKind) (e : kind_of name ≡ Some (Storage kind)) (params : List CellParam) (pins : List Pin) (b : Building) → pin_bits (Library (Storage kind)) pins ≡ wire_bits (signal_at pins (pin_text Q)) ++ [] → Makes b (new_cell name params pins b) (wire_bits (signal_at pins (pin_text Q))) []
 unfolding cell_kind
-makes_store name kind e params pins b = record {
+makes_store name kind e params pins b drives = record {
   cells = record { kind_name = name; name = made_name b.next; params = params; pins = pins; attributes = [] } ∷ [];
   wires = [];
   links = [];
@@ -177,6 +206,12 @@ makes_store name kind e params pins b = record {
       ap places_of (append-nil (cell_rows start over p ws c (kind_of name))) ∙ ap (λ k. places_of (cell_rows start over p ws c k)) e ∙ drives in
       omega (arith, ap (times q) all);
   links_low = λ p ws q. omega arith;
+  cells_count = λ ports x.
+      let c : Cell = record { kind_name = name; name = made_name b.next; params = params; pins = pins; attributes = [] } in
+      let own : cells_bits ports (c ∷ []) ≡ wire_bits (signal_at pins (pin_text Q)) =
+      append-nil (pin_bits (cell_type ports name) pins) ∙ ap (λ t. pin_bits t pins) (type_is ports c (Storage kind) e) ∙ drives ∙ append-nil (wire_bits (signal_at pins (pin_text Q))) in
+      omega (arith, ap (count x) own);
+  links_count = λ x. omega arith;
 }
 
 joins_low : (q : Place) (ls rs : List Point) → times q (places_of (joins ls rs)) ≤ times q (places ls)
@@ -200,4 +235,6 @@ makes_link left right b = record {
   links_low = λ p ws q.
       let all : places_of (link_rows p ws (record { left = left; right = right } ∷ [])) ≡ places_of (joins (points p ws left) (points p ws right)) = ap places_of (append-nil (joins (points p ws left) (points p ws right))) in
       omega (arith, ap (times q) all, joins_low q (points p ws left) (points p ws right), ap (times q) (points_places p ws left));
+  cells_count = λ ports x. omega arith;
+  links_count = λ x. omega (arith, ap (count x) (append-nil (wire_bits left)));
 }

@@ -28,6 +28,7 @@ use Rattle.net_model.specs.Within.{AreInner}
 use Rattle.map_laws.proofs.Expanding.{rising_more}
 use Rattle.map_laws.proofs.FreshWires.{names_of}
 use Rattle.map_laws.specs.Expansion.{AreRising, bits_from}
+use Rattle.pass_laws.proofs.Counting.{count, count_more}
 use Rattle.pass_laws.proofs.Placing.{bits_places}
 use Rattle.mux_laws.proofs.FrameCells.{bits_back}
 use Rattle.mux_laws.proofs.TreeGrowing.{with_more}
@@ -35,16 +36,16 @@ use Rattle.memory_laws.proofs.Made.{Makes, bits_more, makes_both, makes_driver, 
 
 match_makes : (address : List SigBit) (number : ℕ) (b : Building) → Makes b (address_match address number b).1 [] []
 match_makes address number b =
-    makes_driver (codes "$eq") (Equal Eq) refl _ (pin_of (codes "\\A") address ∷ pin_of (codes "\\B") (map Fixed (bits_of number (length address))) ∷ []) 1 b refl
+    makes_driver (codes "$eq") (Equal Eq) refl _ (pin_of (codes "\\A") address ∷ pin_of (codes "\\B") (map Fixed (bits_of number (length address))) ∷ []) 1 b refl refl
 
 select_makes : (match enable : SigBit) (b : Building) → Makes b (run_select match enable b).1 [] []
 select_makes match (Fixed S1) b = makes_none b
 select_makes match enable b =
-    makes_driver (codes "$and") (Bitwise And) refl _ (pin_of (codes "\\A") (match ∷ []) ∷ pin_of (codes "\\B") (enable ∷ []) ∷ []) 1 b refl
+    makes_driver (codes "$and") (Bitwise And) refl _ (pin_of (codes "\\A") (match ∷ []) ∷ pin_of (codes "\\B") (enable ∷ []) ∷ []) 1 b refl refl
 
 mux_makes : (a c : List SigBit) (s : SigBit) (b : Building) → Makes b (mux_of_signals a c s b).1 [] []
 mux_makes a c s b =
-    makes_driver (codes "$mux") Mux refl _ (pin_of (codes "\\A") a ∷ pin_of (codes "\\B") c ∷ pin_of (codes "\\S") (s ∷ []) ∷ []) (length a) b refl
+    makes_driver (codes "$mux") Mux refl _ (pin_of (codes "\\A") a ∷ pin_of (codes "\\B") c ∷ pin_of (codes "\\S") (s ∷ []) ∷ []) (length a) b refl refl
 
 runs_make : (match : SigBit) (runs : List ℕ) (acc new enable : List SigBit) (b : Building) → Makes b (port_runs match runs acc new enable b).1 [] []
 runs_make match [] acc new enable b = makes_none b
@@ -84,7 +85,7 @@ word_bits words = flat_map (λ (word : Word). wire_bits word.signal) words
 word_makes : (plan : MemPlan) (word : Word) (b : Building) → Makes b (word_step plan word b) (wire_bits word.signal) []
 word_makes plan word b =
     let acc = ports_step word.address plan.writes word.signal b in
-    makes_both b acc.1 _ [] (wire_bits word.signal) [] [] (ports_make word.address plan.writes word.signal b) (makes_store (codes "$dff") Dff refl _ _ acc.1)
+    makes_both b acc.1 _ [] (wire_bits word.signal) [] [] (ports_make word.address plan.writes word.signal b) (makes_store (codes "$dff") Dff refl _ _ acc.1 refl)
 
 words_make : (plan : MemPlan) (words : List Word) (b : Building) → Makes b (words_step plan words b) (word_bits words) []
 words_make plan [] b = makes_none b
@@ -160,7 +161,7 @@ chains_make plan first b false =
     let words = word_wires first plan.words b in
     let made = wires_make first plan.words b in
     let step = words_make plan words.0 words.1 in
-    let count : length words.1.body.wires ≡ length b.body.wires + length made.wires = ap (λ (k : Module). length k.wires) made.body ∙ length-append b.body.wires made.wires in
+    let count' : length words.1.body.wires ≡ length b.body.wires + length made.wires = ap (λ (k : Module). length k.wires) made.body ∙ length-append b.body.wires made.wires in
     record {
       cells = step.cells;
       wires = made.wires ++ step.wires;
@@ -173,9 +174,13 @@ chains_make plan first b false =
       inner = each_both _ made.wires step.wires made.inner step.inner;
       names = subst (AreRising b.next (words_step plan words.0 words.1).next) (sym (map-append (λ (w : Wire). w.name) made.wires step.wires)) (rising_more b.next words.1.next (words_step plan words.0 words.1).next (names_of made.wires) (names_of step.wires) made.names step.names);
       cells_low = λ start over p ws q.
-          let fresh = ap (λ z. times q (bits_places p ws z)) (bits_more (length b.body.wires) made.wires step.wires ∙ (λ i. made.bits i ++ bits_from (sym count i) step.wires)) ∙ times_bits p ws q (word_bits words.0) (bits_from (length words.1.body.wires) step.wires) in
+          let fresh = ap (λ z. times q (bits_places p ws z)) (bits_more (length b.body.wires) made.wires step.wires ∙ (λ i. made.bits i ++ bits_from (sym count' i) step.wires)) ∙ times_bits p ws q (word_bits words.0) (bits_from (length words.1.body.wires) step.wires) in
           omega (arith, fresh, step.cells_low start over p ws q);
       links_low = step.links_low;
+      cells_count = λ ports x.
+          let fresh = ap (count x) (bits_more (length b.body.wires) made.wires step.wires ∙ (λ i. made.bits i ++ bits_from (sym count' i) step.wires)) ∙ count_more x (word_bits words.0) (bits_from (length words.1.body.wires) step.wires) in
+          omega (arith, fresh, step.cells_count ports x);
+      links_count = step.links_count;
     }
 
 -- all of a memory

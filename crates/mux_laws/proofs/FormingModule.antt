@@ -1,5 +1,5 @@
 -- The module that the step gives: what is owed of it, and so it is well formed.
-use Rattle.std.proofs.Common.{◌≡◌, ◌≤◌, ℕ, Bool, true, List, [], ◌∷◌, ◌++◌, length, inl, inr, refl, sym, ◌∙◌, ap, subst, arith}
+use Rattle.std.proofs.Common.{◌≡◌, ◌≤◌, ℕ, List, [], ◌∷◌, ◌++◌, length, inl, inr, refl, sym, ◌∙◌, ap, subst, arith}
 use Rattle.std.specs.Prelude.{flat_map}
 use Rattle.std.specs.List.{list_any}
 use Rattle.std.proofs.lemmas.Bool.{or_parts}
@@ -13,6 +13,7 @@ use Rattle.rtl_ir.specs.Faults.ProcessLimits.{memory_lines, passes_limit, switch
 use Rattle.rtl_ir.specs.Flat.Cell.{Ports as FlatPorts, instance_of, instances, listed}
 use Rattle.rtl_ir.specs.Ports.{ports_of}
 use Rattle.rtl_ir.specs.Rules.{acting_rules, updated_bits}
+use Rattle.rtl_ir.specs.Scope.{with_processes, without_processes}
 use Rattle.rtl_ir.specs.Types.{Ports, cell_type, table_ports}
 use Rattle.rtl_ir.specs.declared.cell.Cell.{Cell}
 use Rattle.rtl_ir.specs.declared.module.Module.{Module}
@@ -39,9 +40,8 @@ use Rattle.proc_laws.proofs.CountingBits.{among}
 use Rattle.proc_laws.proofs.RebuildDriven.{instances_stay, still_driven}
 use Rattle.proc_laws.proofs.RebuildFaults.{last_ready}
 use Rattle.proc_laws.proofs.RebuildProcesses.{each_good}
-use Rattle.proc_laws.proofs.RebuildScopes.{ready_anyway}
-use Rattle.proc_laws.specs.Ready.{AreRuled, HaveNoLines, IsReady, with_processes, without_processes}
-use Rattle.proc_laws.specs.Rebuilds.{KeepsEnds, Rebuilds, checked_bits, driven_bits, rebuilt, rules_bits}
+use Rattle.proc_laws.specs.Ready.{AreRuled, HaveNoLines, IsReady}
+use Rattle.proc_laws.specs.Rebuilds.{Rebuilds, checked_bits, driven_bits, rebuilt, rules_bits}
 use Rattle.proc_laws.specs.Step.{IsStep}
 use Rattle.mux_laws.proofs.FrameGrowing.{GrowsBy, IsWholeWord}
 use Rattle.mux_laws.proofs.FrameRuns.{tree_count}
@@ -76,11 +76,11 @@ runs_count x f h [] = omega arith
 runs_count x f h (q ∷ qs) =
     omega (arith, count_more x (process_runs q) (flat_map process_runs qs), count_more x (f q) (flat_map f qs), tree_count q.root x, h q, runs_count x f h qs)
 
-module _ (ports : Ports) (m : Module) (memories : Bool) (ready : IsReady (with_processes memories) ports m) where
+module _ (ports : Ports) (m : Module) (ready : IsReady with_processes ports m) where
   -- each process is one that becomes multiplexers
   muxed : Each (IsMuxed (length m.wires)) m.processes
   muxed q i =
-      let good = each_good memories ports m [] m.processes (no_faults (with_processes memories) ports m ready.faultless).processes q i in
+      let good = each_good ports m [] m.processes (no_faults with_processes ports m ready.faultless).processes q i in
       let here = ready.within.processes q i in
       record {
         within = record { assigns = here.assigns; switches = here.switches };
@@ -146,19 +146,18 @@ module _ (ports : Ports) (m : Module) (memories : Bool) (ready : IsReady (with_p
     mux_driven over h =
         subst (IsWellDriven over) (sym mux_is) (still_driven ports m grows.wires grows.cells grows.links [] ready.within rebuilds over h)
 
-    pub mux_ready : (memories ≡ true → KeepsEnds m.links (proc_mux_of m).links) → IsReady (without_processes memories) ports (proc_mux_of m)
-    mux_ready keeps =
-        subst (IsReady (without_processes memories) ports) (sym mux_is)
-        (last_ready ports m grows.wires grows.cells grows.links [] memories ready rebuilds (λ e. subst (KeepsEnds m.links) (ap (λ (b : Module). b.links) mux_is) (keeps e)) refl)
+    pub mux_ready : IsReady without_processes ports (proc_mux_of m)
+    mux_ready =
+        subst (IsReady without_processes ports) (sym mux_is) (last_ready ports m grows.wires grows.cells grows.links [] ready rebuilds refl)
 
 -- with refinement it is a step of `proc`
-pub mux_step : (table : PortTable) (m : Module) (memories : Bool) → IsReady (with_processes memories) (table_ports table.modules) m → AreRuled m → HaveNoLines m → (processes_step (building_of m) m.processes).next ≤ 1000000000 → IsStep table m (proc_mux_of m)
-mux_step table m memories ready ruled lines few =
+pub mux_step : (table : PortTable) (m : Module) → IsReady with_processes (table_ports table.modules) m → AreRuled m → HaveNoLines m → (processes_step (building_of m) m.processes).next ≤ 1000000000 → IsStep table m (proc_mux_of m)
+mux_step table m ready ruled lines few =
     let ports : Ports = table_ports table.modules in
     record {
-      id = sym (ap (λ (b : Module). b.id) (mux_is ports m memories ready));
-      ports = mux_ports ports m memories ready few;
-      instances = mux_instances ports m memories ready few;
-      driven = λ over agree h. mux_driven ports m memories ready few over h;
-      refines = refines table m (ready_anyway memories ports m ready) ruled lines;
+      id = sym (ap (λ (b : Module). b.id) (mux_is ports m ready));
+      ports = mux_ports ports m ready few;
+      instances = mux_instances ports m ready few;
+      driven = λ over agree h. mux_driven ports m ready few over h;
+      refines = refines table m ready ruled lines;
     }

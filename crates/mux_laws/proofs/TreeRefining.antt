@@ -1,6 +1,5 @@
 -- A module with multiplexers in the place of its processes refines the module.
 use Rattle.std.proofs.Common.{◌≡◌, List, [], ◌++◌, sym, ◌∙◌, subst}
-use Rattle.std.specs.Prelude.{true}
 use Rattle.std.proofs.lemmas.List.{append-nil}
 use Rattle.rtl_bits.specs.declared.bit.Bit.{Bit}
 use Rattle.rtl_ir.specs.Assigns.{tree_bits}
@@ -21,12 +20,13 @@ use Rattle.rtl_ir.specs.declared.process.Process.{Process}
 use Rattle.rtl_ir.specs.declared.wire.Wire.{Wire}
 use Rattle.rtl_sig.specs.declared.sig.SigBit.{SigBit}
 use Rattle.rtl_sig.specs.declared.sig.WireBit.{WireBit}
+use Rattle.rtl_ir.specs.Scope.{with_processes}
 use Rattle.net_model.proofs.Members.{In-mapped}
 use Rattle.net_model.specs.Lists.{In}
 use Rattle.net_model.specs.Proc.Mux.{proc_mux_of, processes_step}
 use Rattle.net_model.specs.Refine.{IsMet, RefinesIn}
 use Rattle.net_model.specs.Within.{with_wires}
-use Rattle.proc_laws.specs.Ready.{AreRuled, HaveNoLines, IsReady, with_processes}
+use Rattle.proc_laws.specs.Ready.{AreRuled, HaveNoLines, IsReady}
 use Rattle.mux_laws.proofs.TreeGrowing.{Grows}
 use Rattle.mux_laws.proofs.TreeBuilt.{built_refines, moment, process_among}
 use Rattle.mux_laws.proofs.TreeLess.{none_acting, none_begun, none_written}
@@ -58,7 +58,7 @@ rows_met m ruled empty mo n met d i =
     let row = tree_row mo.start mo.path mo.wires n k.0 (ruled k.0 k.1) (none_acting k.0.syncs (empty k.0 k.1)) d k.2 in
     subst (λ z. IsMet z mo.time mo.has) {x = bit_row mo.path mo.wires k.0 row.bit} (sym row.is) (picks_met mo (building_of m) m.processes met k.0 k.1 row.bit row.there)
 
-pub refines : (table : PortTable) (m : Module) → IsReady (with_processes true) (types.table_ports table.modules) m → AreRuled m → HaveNoLines m → RefinesIn m (proc_mux_of m) table
+pub refines : (table : PortTable) (m : Module) → IsReady with_processes (types.table_ports table.modules) m → AreRuled m → HaveNoLines m → RefinesIn m (proc_mux_of m) table
 refines table m ready ruled empty =
     let b : Building = processes_step (building_of m) m.processes in
     let grown : Grows (building_of m) b = processes_grow (building_of m) m.processes in

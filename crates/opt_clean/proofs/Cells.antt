@@ -43,22 +43,22 @@ abbrev pub AllAt : (Place → Type 0) → List Point → Type 0
 AllAt P ps = (q : Place) → In (At q) ps → P q
 
 module _ (P : Place → Type 0) where
-  all_append : (ps qs : List Point) → AllAt P ps → AllAt P qs → AllAt P (ps ++ qs)
+  pub all_append : (ps qs : List Point) → AllAt P ps → AllAt P qs → AllAt P (ps ++ qs)
   all_append ps qs h k q i = ⊎_elim (λ l. h q l) (λ r. k q r) (In-cases (At q) ps qs i)
 
   -- the point at a place of a list is a constant, or one of the list
-  at_point : (ps : List Point) (at : ℕ) → AllAt P ps → AllAt P (point_at ps at ∷ [])
+  pub at_point : (ps : List Point) (at : ℕ) → AllAt P ps → AllAt P (point_at ps at ∷ [])
   at_point [] at h q (inl e) = absurd (cc)
   at_point [] at h q (inr i) = absurd i
   at_point (s ∷ ps) zero h q (inl e) = h q (inl e)
   at_point (s ∷ ps) zero h q (inr i) = absurd i
   at_point (s ∷ ps) (suc at) h q i = at_point ps at (λ r j. h r (inr j)) q i
 
-  all_first : (s : Point) (ps : List Point) → AllAt P (s ∷ []) → AllAt P ps → AllAt P (s ∷ ps)
+  pub all_first : (s : Point) (ps : List Point) → AllAt P (s ∷ []) → AllAt P ps → AllAt P (s ∷ ps)
   all_first s ps h k q (inl e) = h q (inl e)
   all_first s ps h k q (inr i) = k q i
 
-  all_none : AllAt P []
+  pub all_none : AllAt P []
   all_none q i = absurd i
 
   module _ (p : Path) (wires : List Wire) (pins : List Pin) (each : (name : PinName) → AllAt P (pin_points p wires pins name)) where
@@ -158,7 +158,7 @@ joins_are (At q ∷ ls) (r ∷ rs) x (inl e) = (r, inl (ap (λ (z : Driven). At 
 joins_are (At q ∷ ls) (r ∷ rs) x (inr i) = let k = joins_are ls rs x i in (k.0, inr k.1, k.2, inr k.3)
 joins_are (Constant b ∷ ls) (r ∷ rs) x i = let k = joins_are ls rs x i in (k.0, inr k.1, k.2, inr k.3)
 
-in_places : (ps : List Point) (q : Place) → In q (places ps) → In (At q) ps
+pub in_places : (ps : List Point) (q : Place) → In q (places ps) → In (At q) ps
 in_places [] q i = absurd i
 in_places (At r ∷ ps) q (inl e) = inl (ap At e)
 in_places (At r ∷ ps) q (inr i) = inr (in_places ps q i)

@@ -11,6 +11,9 @@ use Rattle.rtl_sig.specs.declared.sig.SigBit.{SigBit}
 use Rattle.rtl_sig.specs.declared.sig.SigBit.TheVariants.{Fixed, Wire as OnWire}
 use Rattle.rtl_sig.specs.declared.sig.WireBit.{WireBit}
 use Rattle.cell_types.specs.declared.kind.CellKind.{CellKind}
+use Rattle.cell_types.specs.declared.kind.CellKind.TheVariants.{Memory}
+use Rattle.cell_types.specs.declared.memory.MemoryKind.TheVariants.{Memrd, MemrdV2}
+use Rattle.cell_types.specs.declared.pin_name.PinName.TheVariants.{Data}
 use Rattle.cell_types.specs.PinName.{pin_text}
 use Rattle.rtl_ir.specs.declared.cell.Cell.{Cell}
 use Rattle.rtl_ir.specs.declared.module.Link.{Link}
@@ -23,14 +26,14 @@ use Rattle.rtl_ir.specs.Faults.Wires.{is_inout}
 use Rattle.rtl_ir.specs.Flat.Cell.{Ports, cell_kind, cell_rows, cells_rows, instance_of, instances, listed}
 use Rattle.rtl_ir.specs.Flat.Driver.{Driven}
 use Rattle.rtl_ir.specs.Flat.Link.{link_rows}
-use Rattle.rtl_ir.specs.Flat.Place.{Frame, IsOf, OfWire, Path, Place, Spot}
-use Rattle.rtl_ir.specs.Flat.Point.{bit_place, name_or_empty, point}
-use Rattle.rtl_ir.specs.Flat.Reads.{reads}
+use Rattle.rtl_ir.specs.Flat.Place.{Frame, IsOf, OfWire, OfWord, Path, Place, Spot}
+use Rattle.rtl_ir.specs.Flat.Point.{At, bit_place, name_or_empty, pin_points, point}
+use Rattle.rtl_ir.specs.Flat.Reads.{read_points, reads}
 use Rattle.rtl_ir.specs.Flat.Rows.{plain_rows, rows_of}
 use Rattle.rtl_ir.specs.Flat.Tree.{design_ports}
 use Rattle.rtl_ir.specs.Flat.Start.{start_of}
 use Rattle.rtl_ir.specs.Follow.{Join, all_joins, source_at}
-use Rattle.rtl_ir.specs.Outputs.{is_output}
+use Rattle.rtl_ir.specs.Outputs.{is_output, output_pin}
 use Rattle.rtl_ir.specs.Ports.{is_port, line_of, ports_of}
 use Rattle.rtl_ir.specs.Signals.{wire_bits}
 use Rattle.rtl_ir.specs.Types as types
@@ -39,14 +42,12 @@ use Rattle.rtl_ir.specs.Parameters.{signal_at}
 use Rattle.std.specs.Option.{option_map_or}
 use Rattle.cell_types.specs.Unsupported.{is_unsupported}
 use Rattle.rtl_ir.specs.Types.{type_by}
-use Rattle.rtl_ir.specs.Flat.Memory.{memories_rows}
+use Rattle.rtl_ir.specs.Flat.Memory.{is_read_kind, memories_rows}
 use Rattle.rtl_ir.specs.Flat.Process.{processes_rows}
 use Rattle.rtl_ir.specs.Outputs.{drives_pin}
 use Rattle.rtl_ir.specs.declared.cell.Pin.{Pin}
 use Rattle.rtl_ir.specs.declared.process.Process.{Process}
-use Rattle.rtl_ir.specs.declared.store.Store.{Store}
 use Rattle.std.specs.Prelude.{if◌then◌else◌}
-use Rattle.std.proofs.lemmas.List.{append-nil}
 use Rattle.net_model.specs.Lists.{In, Distinct}
 use Rattle.net_model.specs.Refine.{AgreeOn, IsWellDriven, RefinesOver, Solved, places_of, with_body}
 use Rattle.net_model.specs.Relate.{KeepsTo, Reached, Related, RowsRelate, SameMoment, Says}
@@ -56,15 +57,18 @@ use Rattle.net_model.specs.Value.{value_of}
 use Rattle.net_model.proofs.Lifted.{related, row_stays}
 use Rattle.net_model.proofs.Members.{In-cases, In-left, In-map, In-mapped, In-right, apart_at, apart_from, map-append, map-map}
 use Rattle.net_model.proofs.Relating.{reached_solved}
+use Rattle.net_model.specs.Within.{Each}
 use Rattle.pass_laws.specs.Bits.{cells_bits, links_bits, pin_bits}
+use Rattle.pass_laws.specs.Replaces.{IsOutside}
 use Rattle.opt_clean.specs.Keep.{has_keep, is_root, is_shown, is_shown_bit, output_bits, stays_by}
 use Rattle.opt_clean.specs.Kept.{bits_read, input_bits, marked, read_bits, right_bits}
 use Rattle.opt_clean.specs.Runs.{is_connected, links_of, shown_links, source_of}
 use Rattle.opt_clean.specs.Wires.{cell_bits, link_bits, named_bits}
 use Rattle.opt_clean.proofs.Bits.{flat_in, in_flat, none_any}
-use Rattle.opt_clean.proofs.Cells.{IsPinOf, cell_reads, driven_bits, drives_output, kind_row, pins_of, point_bit, signal_bits}
+use Rattle.opt_clean.proofs.Cells.{IsPinOf, cell_reads, driven_bits, drives_output, in_places, kind_row, pins_of, point_bit, signal_bits}
 use Rattle.opt_clean.proofs.Joins.{join_row, joins_rows, lefts_in, only_source, rights_in, source_in}
 use Rattle.opt_clean.proofs.Marks.{mark_cases, marked_give, marked_in, others, others_in}
+use Rattle.opt_clean.proofs.Memories.{IsWord, memories_stay, memory_row}
 use Rattle.opt_clean.proofs.Ports.{in_wires, line_port, port_line, same_item, same_place, some_at}
 use Rattle.opt_clean.proofs.Rounds.{IsClosed}
 use Rattle.opt_clean.proofs.Showing.{in_sources, row_from, shown_bits, shown_has, shown_rights, shown_rows}
@@ -83,7 +87,6 @@ with_marked marks links m = record m { cells = marked marks m.cells; links = lin
 -- what is relied on of a module of which the marked cells are kept
 pub record MayReduce (ports : types.Ports) (m : Module) (marks : List Bool) : Type 0 where
   pub processes : m.processes ≡ []
-  pub memories : m.memories ≡ []
   pub named : Distinct (map (λ (w : Wire). w.name) m.wires)
   pub homes : (b : WireBit) → In b (named_bits m) → Home m.wires b
   pub single : (w : Wire) → In w m.wires → is_inout w.role ≡ false
@@ -152,6 +155,19 @@ type_is : (ports : types.Ports) (c : Cell) (kind : CellKind) → cell_kind c ≡
 unfolding cell_type cell_kind
 type_is ports c kind e = ap (λ k. type_by k (ports c.kind_name) (is_unsupported c.kind_name)) e
 
+-- a cell that reads a memory drives its pin DATA
+read_output : (ports : types.Ports) (c : Cell) → is_read_kind (cell_kind c) ≡ true → (b : WireBit) → In b (wire_bits (signal_at c.pins (pin_text Data))) → In b (output_bits ports c)
+read_output ports c reads b i = by (cell_kind c) refl reads
+  where
+    of_kind : (kind : CellKind) → cell_kind c ≡ Some kind → output_pin kind ≡ Some Data → In b (output_bits ports c)
+    of_kind kind own drives =
+        subst (λ t. In b (pin_bits t c.pins)) (sym (type_is ports c kind own)) (driven_bits (Library kind) c.pins (pin_text Data) (drives_output kind Data drives) b i)
+
+    by : (k : Option CellKind) → cell_kind c ≡ k → is_read_kind k ≡ true → In b (output_bits ports c)
+    by (Some (Memory Memrd)) own e = of_kind (Memory Memrd) own refl
+    by (Some (Memory MemrdV2)) own e = of_kind (Memory MemrdV2) own refl
+    by k own e = absurd (cc)
+
 -- the bits of pins are read or driven
 in_or_out : (type : CellType) (pins : List Pin) (b : WireBit) → In b (flat_map (λ (p : Pin). wire_bits p.sig) pins) → In b (read_bits type pins) ⊎ In b (pin_bits type pins)
 in_or_out type [] b i = absurd i
@@ -163,14 +179,16 @@ in_or_out type (p ∷ pins) b i = by (drives_pin type p.name) (in_or_out type pi
     by false later (inl j) = inl (In-left b (wire_bits p.sig) (read_bits type pins) j)
     by false later (inr j) = ⊎_elim (λ l. inl (In-right b (wire_bits p.sig) (read_bits type pins) l)) (λ r. inr r) (later j)
 
--- a module of cells and connections alone
-pub plain_links : (p : Path) (n : Module) → n.processes ≡ [] → n.memories ≡ [] → plain_rows p n ≡ link_rows p n.wires n.links
-plain_links p n e g = by n.processes n.memories e g
+-- a module without processes
+pub plain_links : (p : Path) (n : Module) → n.processes ≡ [] → plain_rows p n ≡ link_rows p n.wires n.links ++ memories_rows p n.wires n.cells [] n.memories
+plain_links p n e = by n.processes e
   where
-    by : (ps : List Process) (ss : List Store) → ps ≡ [] → ss ≡ [] → link_rows p n.wires n.links ++ (processes_rows (start_of n.wires n.processes) p n.wires n ps ++ memories_rows p n.wires n.cells n.processes ss) ≡ link_rows p n.wires n.links
-    by [] [] e g = append-nil (link_rows p n.wires n.links)
-    by (q ∷ ps) ss e g = absurd (cc)
-    by [] (q ∷ ss) e g = absurd (cc)
+    by : (ps : List Process) → ps ≡ [] → link_rows p n.wires n.links ++ (processes_rows (start_of n.wires n.processes) p n.wires n ps ++ memories_rows p n.wires n.cells ps n.memories) ≡ link_rows p n.wires n.links ++ memories_rows p n.wires n.cells [] n.memories
+    by [] e = refl
+    by (q ∷ ps) e = absurd (cc)
+
+not_word : (wire name : List ℕ) (i address j : ℕ) → OfWire wire i ≡ OfWord name address j → ⊥
+not_word wire name i address j e = cc
 
 abbrev own_instance : Cell → List Frame
 own_instance c = listed (instance_of c (cell_kind c))
@@ -218,12 +236,14 @@ module _ (tports : types.Ports) (m : Module) (marks : List Bool) (fine : MayRedu
     pub within : b.wire < length m.wires
     pub is : s ≡ OfWire (name_or_empty (slice_get m.wires b.wire)) b.at
 
-  -- of a port: below; of any other bit: below what it comes from, unless that goes
+  -- of a port and of a word: below; of any other bit: below what it comes from, unless that goes
   pub record KeptSays (p : Path) (w : Valuation) (s : Spot) (a : Bit) : Type 0 where
     pub port : (n : PortLine) → OfPort n s → Below a (w (record { path = p; spot = s }))
     pub other :
         ((n : PortLine) → OfPort n s → ⊥) → (b : WireBit) → IsAt b s → IsLive (from b) →
         Below a (read w (point p m.wires (from b)))
+    pub word :
+        (name : List ℕ) (address at : ℕ) → s ≡ OfWord name address at → Below a (w (record { path = p; spot = s }))
 
   abbrev pub kept_says : Says
   kept_says p w s a = KeptSays p w s a
@@ -305,6 +325,21 @@ module _ (tports : types.Ports) (m : Module) (marks : List Bool) (fine : MayRedu
   input_live c i b j =
       read_live b (In-right b (right_bits (links_of m.wires m.links)) (flat_map (input_bits tports) (marked marks m.cells)) (in_flat (input_bits tports) (marked marks m.cells) c b i j))
 
+  -- a cell that goes is no instance, and none of a memory
+  gone_by : (c : Cell) → In c (others marks m.cells) → stays_by (cell_kind c) ≡ false
+  gone_by c i =
+      (or_parts (stays_by (cell_kind c)) (has_keep c.attributes || list_any (is_shown_bit m.wires) (output_bits tports c)) (fine.closed.root c i)).0
+
+  pub gone_outside : Each IsOutside (others marks m.cells)
+  gone_outside c i kind own = sym (ap stays_by own) ∙ gone_by c i
+
+  -- the rows of the memories, which are the same of the kept cells
+  abbrev pub stored : Path → List Driven
+  stored p = memories_rows p m.wires m.cells [] m.memories
+
+  pub kept_stored : (p : Path) → memories_rows p m.wires (marked marks m.cells) [] m.memories ≡ stored p
+  kept_stored p = memories_stay marks m.cells gone_outside p m.wires [] m.memories
+
   -- what a bit comes from that a kept cell has at a pin
   pin_from : (c : Cell) → In c (marked marks m.cells) → (b : WireBit) → In b (cell_bits c) → ((from b ≡ OnWire b) × (IsGone b → ⊥)) ⊎ (from b ≡ Fixed X)
   pin_from c i b j =
@@ -328,6 +363,15 @@ module _ (tports : types.Ports) (m : Module) (marks : List Bool) (fine : MayRedu
       (pin_from c i b j))
       (λ e. says.port (line_of home.of) (port_line m.wires home.of (in_wires m.wires b.wire home.of home.there) e, (b.at, spot)))
       (port_or home.of (in_wires m.wires b.wire home.of home.there) b.at)
+
+  pin_below : (p : Path) (z : Valuation) (c : Cell) → In c (marked marks m.cells) → (q : Place) → IsPinOf p m.wires c q → (a : Bit) → KeptSays p z q.spot a → Below a (z q)
+  pin_below p z c i q pin a says =
+      let spot : q.spot ≡ OfWire (name_or_empty (slice_get m.wires pin.0.wire)) pin.0.at = ap (λ (y : Place). y.spot) pin.2 in
+      subst (λ y. Below a (z y)) (sym pin.2) (means p z c i pin.0 pin.1 a (subst (λ y. KeptSays p z y a) spot says))
+
+  -- what the rows of memories read: pins of kept cells, and words
+  abbrev IsRead : Path → Place → Type 0
+  IsRead p q = ((c : Cell) × In c (marked marks m.cells) × IsPinOf p m.wires c q) ⊎ IsWord p q
 
   -- a bit of a spot of a port is one of a port
   named_port : (b : WireBit) (home : Home m.wires b) (n : PortLine) → OfPort n (OfWire (name_or_empty (slice_get m.wires b.wire)) b.at) → is_port home.of.role ≡ true
@@ -361,24 +405,28 @@ module _ (tports : types.Ports) (m : Module) (marks : List Bool) (fine : MayRedu
     abbrev after : List Driven
     after = rows_of ports p target
 
-    plain_is : plain_rows p m ≡ link_rows p m.wires m.links
-    plain_is = plain_links p m fine.processes fine.memories
+    plain_is : plain_rows p m ≡ link_rows p m.wires m.links ++ stored p
+    plain_is = plain_links p m fine.processes
 
-    plain_after : plain_rows p target ≡ link_rows p m.wires x_links
-    plain_after = plain_links p target fine.processes fine.memories
+    plain_after : plain_rows p target ≡ link_rows p m.wires x_links ++ stored p
+    plain_after =
+        plain_links p target fine.processes ∙ ap (λ z. link_rows p m.wires x_links ++ z) (kept_stored p)
 
-    cell_places : List Place
-    cell_places = places_of (cells_rows start ports p m.wires m.cells)
+    abbrev of_cells : List Place
+    of_cells = places_of (cells_rows start ports p m.wires m.cells)
 
-    all_apart : Distinct (places_of (cells_rows start ports p m.wires m.cells) ++ places_of (link_rows p m.wires m.links))
+    abbrev of_links : List Place
+    of_links = places_of (link_rows p m.wires m.links)
+
+    all_apart : Distinct (of_cells ++ (of_links ++ places_of (stored p)))
     all_apart =
-        subst (λ z. Distinct (places_of (cells_rows start ports p m.wires m.cells) ++ places_of z)) plain_is (subst Distinct (map-append (λ (x : Driven). x.place) (cells_rows start ports p m.wires m.cells) (plain_rows p m)) (driven.rows p))
+        subst (λ z. Distinct (of_cells ++ z)) (ap places_of plain_is ∙ map-append (λ (x : Driven). x.place) (link_rows p m.wires m.links) (stored p)) (subst Distinct (map-append (λ (x : Driven). x.place) (cells_rows start ports p m.wires m.cells) (plain_rows p m)) (driven.rows p))
 
     pub join_in : (j : Join) → In j js → In (join_row p m.wires j) (link_rows p m.wires m.links)
     join_in j i = subst (In (join_row p m.wires j)) (sym (joins_rows p m.wires m.links)) (In-map (join_row p m.wires) j js i)
 
     pub row_in : (j : Join) → In j js → In (join_row p m.wires j) before
-    row_in j i = In-right (join_row p m.wires j) (cells_rows start ports p m.wires m.cells) (plain_rows p m) (subst (In (join_row p m.wires j)) (sym plain_is) (join_in j i))
+    row_in j i = In-right (join_row p m.wires j) (cells_rows start ports p m.wires m.cells) (plain_rows p m) (subst (In (join_row p m.wires j)) (sym plain_is) (In-left (join_row p m.wires j) (link_rows p m.wires m.links) (stored p) (join_in j i)))
 
     -- a bit that a row of a cell has is driven by no connection
     pub alone : (x : Driven) (b : WireBit) → In x (cells_rows start ports p m.wires m.cells) → x.place ≡ bit_place p m.wires b → source_at js b ≡ None
@@ -387,12 +435,12 @@ module _ (tports : types.Ports) (m : Module) (marks : List Bool) (fine : MayRedu
         by : (o : Option SigBit) → source_at js b ≡ o → source_at js b ≡ None
         by None f = f
         by (Some r) f =
-            absurd (parts_apart (places_of (cells_rows start ports p m.wires m.cells)) (places_of (link_rows p m.wires m.links)) all_apart (bit_place p m.wires b) (subst (λ q. In q (places_of (cells_rows start ports p m.wires m.cells))) e (In-map (λ (z : Driven). z.place) x (cells_rows start ports p m.wires m.cells) i)) (In-map (λ (z : Driven). z.place) (join_row p m.wires (record { bit = b; source = r })) (link_rows p m.wires m.links) (join_in (record { bit = b; source = r }) (source_in js b r f))))
+            absurd (parts_apart of_cells (of_links ++ places_of (stored p)) all_apart (bit_place p m.wires b) (subst (λ q. In q of_cells) e (In-map (λ (z : Driven). z.place) x (cells_rows start ports p m.wires m.cells) i)) (In-left (bit_place p m.wires b) of_links (places_of (stored p)) (In-map (λ (z : Driven). z.place) (join_row p m.wires (record { bit = b; source = r })) (link_rows p m.wires m.links) (join_in (record { bit = b; source = r }) (source_in js b r f)))))
 
     -- the connection of a bit is the only one
     sole : (j : Join) → In j js → source_at js j.bit ≡ Some j.source
     sole j i =
-        let links : Distinct (places_of (link_rows p m.wires m.links)) = right_part (places_of (cells_rows start ports p m.wires m.cells)) (places_of (link_rows p m.wires m.links)) all_apart in
+        let links : Distinct of_links = left_part of_links (places_of (stored p)) (right_part of_cells (of_links ++ places_of (stored p)) all_apart) in
         only_source p m.wires js (subst Distinct (ap places_of (joins_rows p m.wires m.links) ∙ map-map (join_row p m.wires) (λ (z : Driven). z.place) js) links) j i
 
     -- no row has a bit of an input port
@@ -415,7 +463,8 @@ module _ (tports : types.Ports) (m : Module) (marks : List Bool) (fine : MayRedu
     x_row : (b : WireBit) (r : SigBit) (home : Home m.wires b) → source_at js b ≡ Some r → is_shown home.of ≡ true → In (row_from p m.wires from b) after
     x_row b r home e shown =
         let here : In b (shown_bits is_driven 0 m.wires) = shown_has is_driven 0 m.wires b (record { place = b.wire; of = home.of; there = home.there; is = omega arith; shown = shown; inside = home.inside; fit = ap is_some e }) in
-        In-right (row_from p m.wires from b) (cells_rows start ports p m.wires (marked marks m.cells)) (plain_rows p target) (subst (In (row_from p m.wires from b)) (sym (plain_after ∙ shown_rows p m.wires is_driven from 0 m.wires)) (In-map (row_from p m.wires from) b (shown_bits is_driven 0 m.wires) here))
+        let link : In (row_from p m.wires from b) (link_rows p m.wires x_links) = subst (In (row_from p m.wires from b)) (sym (shown_rows p m.wires is_driven from 0 m.wires)) (In-map (row_from p m.wires from) b (shown_bits is_driven 0 m.wires) here) in
+        In-right (row_from p m.wires from b) (cells_rows start ports p m.wires (marked marks m.cells)) (plain_rows p target) (subst (In (row_from p m.wires from b)) (sym plain_after) (In-left (row_from p m.wires from b) (link_rows p m.wires x_links) (stored p) link))
 
     module _ (u : Time Place) (v w : Valuation) (s : Solved after u w) (h : Related ports (instances m.cells) kept_says p v w) where
       -- a bit is below what it comes from
@@ -457,6 +506,7 @@ module _ (tports : types.Ports) (m : Module) (marks : List Bool) (fine : MayRedu
                 let b_is : b ≡ j.bit = one_spot p b j.bit at.within (in_length j.bit home) (λ k. record { path = p; spot = sym at.is k }) in
                 let low' = low (subst (λ z. IsLive (from z)) b_is live) in
                 subst (λ z. Below (passed_of (read v (point p m.wires j.source))) (read w (point p m.wires (from z)))) (sym b_is) (Below_trans (passed_of (read v (point p m.wires j.source))) (read v (point p m.wires j.source)) (read w (point p m.wires (from j.bit))) (passed_below (read v (point p m.wires j.source))) low');
+            word = λ name address at is. absurd (not_word (name_or_empty (slice_get m.wires j.bit.wire)) name j.bit.at address at is);
           }
 
     -- a row of a cell that goes is one of a cell of the library, and has a bit that goes
@@ -465,9 +515,7 @@ module _ (tports : types.Ports) (m : Module) (marks : List Bool) (fine : MayRedu
       where
         by : (k : Option CellKind) → cell_kind c ≡ k → In x (cell_rows start ports p m.wires c k) → (b : WireBit) × In b (cell_bits c) × In b (output_bits tports c) × (x.place ≡ bit_place p m.wires b)
         by None e j =
-            let root : is_root tports m.wires c ≡ false = fine.closed.root c i in
-            let stays : stays_by (cell_kind c) ≡ false = (or_parts (stays_by (cell_kind c)) (has_keep c.attributes || list_any (is_shown_bit m.wires) (output_bits tports c)) root).0 in
-            let no : true ≡ false = sym (ap stays_by e) ∙ stays in
+            let no : true ≡ false = sym (ap stays_by e) ∙ gone_by c i in
             absurd (cc)
         by (Some kind) e j =
             let row = kind_row (IsPinOf p m.wires c) start p m.wires c (λ name. pins_of ports p m.wires c (pin_text name)) kind x j in
@@ -505,6 +553,8 @@ module _ (tports : types.Ports) (m : Module) (marks : List Bool) (fine : MayRedu
                 let own : from b ≡ OnWire b = ap from is ∙ own_from k.0 (alone x k.0 row k.3) ∙ ap OnWire (sym is) in
                 let gone : IsGone b = subst IsGone (sym is) (in_flat (output_bits tports) (others marks m.cells) c k.0 i k.2) in
                 absurd (subst IsLive own live gone);
+            word = λ name address at is.
+                absurd (not_word (name_or_empty (slice_get m.wires k.0.wire)) name k.0.at address at (sym spot ∙ is));
           },
         )
 
@@ -518,21 +568,32 @@ module _ (tports : types.Ports) (m : Module) (marks : List Bool) (fine : MayRedu
         (λ gone. let k = gone_keeps c.0 gone x c.2 w (value_of x.driver t v) in
         record { own = λ e. k.1; outer = λ o. absurd (not_longer o.0 p (sym o.4 ∙ k.0)) })
         (mark_cases marks m.cells c.0 c.1))
-        (λ plain. let k = In-mapped (join_row p m.wires) x js (subst (In x) (plain_is ∙ joins_rows p m.wires m.links) plain) in
+        (λ plain. ⊎_elim
+        (λ link. let k = In-mapped (join_row p m.wires) x js (subst (In x) (joins_rows p m.wires m.links) link) in
         let says = join_keeps u v w (reached_solved after n u w r) h k.0 k.1 in
         subst (λ (z : Driven). KeepsTo ports (instances m.cells) kept_says p w z.place (value_of z.driver t v)) (sym k.2) (record { own = λ e. says; outer = λ o. absurd (not_longer o.0 p (sym o.4)) }))
+        (λ memory. remembered memory)
+        (In-cases x (link_rows p m.wires m.links) (stored p) (subst (In x) plain_is plain)))
         (In-cases x (cells_rows start ports p m.wires m.cells) (plain_rows p m) i)
       where
+        -- the value of a row that stays is below, in whatever it is read
+        own_below : Below (value_of x.driver t v) (w x.place) → x.place.path ≡ p → Below (value_of x.driver t v) (w (record { path = p; spot = x.place.spot }))
+        own_below low e = subst (λ q. Below (value_of x.driver t v) (w q)) (λ z. record { path = e z; spot = x.place.spot }) low
+
+        wire_below : Below (value_of x.driver t v) (w x.place) → x.place.path ≡ p → (b : WireBit) → IsAt b x.place.spot → from b ≡ OnWire b → Below (value_of x.driver t v) (read w (point p m.wires (from b)))
+        wire_below low e b at own =
+            subst (λ y. Below (value_of x.driver t v) (read w (point p m.wires y))) (sym own) (subst (λ q. Below (value_of x.driver t v) (w q)) (λ z. record { path = e z; spot = at.is z }) low)
+
         stays : (c : Cell) → In c (marked marks m.cells) → In x (cell_rows start ports p m.wires c (cell_kind c)) → In x (cells_rows start ports p m.wires m.cells) → KeepsTo ports (instances m.cells) kept_says p w x.place (value_of x.driver t v)
         stays c kept j row =
             let here : In x after = In-left x (cells_rows start ports p m.wires (marked marks m.cells)) (plain_rows p target) (row_cells start ports p m.wires (marked marks m.cells) c x kept j) in
             let low : Below (value_of x.driver t v) (w x.place) = row_stays m ports kept_says after p t u st v w h n r x i here (λ z q k e a says. reading z q k e a says) in
             record {
               own = λ e. record {
-                port = λ n of. subst (λ q. Below (value_of x.driver t v) (w q)) (λ z. record { path = e z; spot = x.place.spot }) low;
+                port = λ n of. own_below low e;
                 other = λ none b at live.
-                    let place : x.place ≡ bit_place p m.wires b = λ z. record { path = e z; spot = at.is z } in
-                    subst (λ y. Below (value_of x.driver t v) (read w (point p m.wires y))) (sym (own_from b (alone x b row place))) (subst (λ q. Below (value_of x.driver t v) (w q)) place low);
+                    wire_below low e b at (own_from b (alone x b row (λ z. record { path = e z; spot = at.is z })));
+                word = λ name address at is. own_below low e;
               };
               outer = λ o. low;
             }
@@ -540,10 +601,40 @@ module _ (tports : types.Ports) (m : Module) (marks : List Bool) (fine : MayRedu
             reading : (z : Valuation) (q : Place) → In q (reads x.driver) → q.path ≡ p → (a : Bit) → KeptSays p z q.spot a → Below a (z q)
             reading z q k e a says =
                 ⊎_elim
-                (λ pin. let spot : q.spot ≡ OfWire (name_or_empty (slice_get m.wires pin.0.wire)) pin.0.at = ap (λ (y : Place). y.spot) pin.2 in
-                subst (λ y. Below a (z y)) (sym pin.2) (means p z c kept pin.0 pin.1 a (subst (λ y. KeptSays p z y a) spot says)))
+                (λ pin. pin_below p z c kept q pin a says)
                 (λ o. absurd (not_longer o.0 p (sym o.4 ∙ e)))
                 (cell_reads ports p m.wires c start (instances m.cells) (cell_kind c) (frames_in m.cells c (marked_in marks m.cells c kept)) x j q k)
+
+        remembered : In x (stored p) → KeepsTo ports (instances m.cells) kept_says p w x.place (value_of x.driver t v)
+        remembered j =
+            let row = memory_row (IsRead p) p m.wires (marked marks m.cells) (λ c kept name q l. inl (c, kept, pins_of ports p m.wires c (pin_text name) q l)) (λ q word. inr word) m.memories x (subst (In x) (sym (kept_stored p)) j) in
+            let here : In x after = In-right x (cells_rows start ports p m.wires (marked marks m.cells)) (plain_rows p target) (subst (In x) (sym plain_after) (In-right x (link_rows p m.wires x_links) (stored p) j)) in
+            let low : Below (value_of x.driver t v) (w x.place) = row_stays m ports kept_says after p t u st v w h n r x i here (λ z q k e a says. reading z q e a says (row.read q (in_places (read_points x.driver) q k))) in
+            record {
+              own = λ e. record {
+                port = λ n of. own_below low e;
+                other = λ none b at live. wire_below low e b at (given b at row.place);
+                word = λ name address at is. own_below low e;
+              };
+              outer = λ o. low;
+            }
+          where
+            reading : (z : Valuation) (q : Place) → q.path ≡ p → (a : Bit) → KeptSays p z q.spot a → IsRead p q → Below a (z q)
+            reading z q e a says (inl pin) = pin_below p z pin.0 pin.1 q pin.2 a says
+            reading z q e a says (inr word) =
+                subst (λ y. Below a (z y)) (λ k. record { path = sym e k; spot = q.spot }) (says.word word.0 word.1 word.2 (ap (λ (y : Place). y.spot) word.3))
+
+            -- a bit that a read port gives comes from itself
+            given : (b : WireBit) → IsAt b x.place.spot → IsWord p x.place ⊎ ((c : Cell) × In c (marked marks m.cells) × (is_read_kind (cell_kind c) ≡ true) × In (At x.place) (pin_points p m.wires c.pins Data)) → from b ≡ OnWire b
+            given b at (inl word) =
+                absurd (not_word (name_or_empty (slice_get m.wires b.wire)) word.0 b.at word.1 word.2 (sym at.is ∙ ap (λ (y : Place). y.spot) word.3))
+            given b at (inr r) =
+                let c : Cell = r.0 in
+                let within : In c m.cells = marked_in marks m.cells c r.1 in
+                let k = point_bit p m.wires (signal_at c.pins (pin_text Data)) x.place r.3 in
+                let home : Home m.wires k.0 = fine.homes k.0 (cell_named c within k.0 (signal_bits c.pins (pin_text Data) k.0 k.1)) in
+                let is : b ≡ k.0 = one_spot p b k.0 at.within (in_length k.0 home) (λ z. record { path = p; spot = (sym at.is ∙ ap (λ (y : Place). y.spot) k.2) z }) in
+                ap from is ∙ output_alone c within k.0 (read_output tports c r.2 k.0 k.1) ∙ ap OnWire (sym is)
 
   -- the instances stay
   pub children_stay : instances m.cells ≡ instances (marked marks m.cells)
@@ -552,9 +643,7 @@ module _ (tports : types.Ports) (m : Module) (marks : List Bool) (fine : MayRedu
       by : (c : Cell) → In c (others marks m.cells) → (k : Option CellKind) → cell_kind c ≡ k → own_instance c ≡ []
       by c i (Some kind) e = ap (λ k. listed (instance_of c k)) e
       by c i None e =
-          let root : is_root tports m.wires c ≡ false = fine.closed.root c i in
-          let stays : stays_by (cell_kind c) ≡ false = (or_parts (stays_by (cell_kind c)) (has_keep c.attributes || list_any (is_shown_bit m.wires) (output_bits tports c)) root).0 in
-          let no : true ≡ false = sym (ap stays_by e) ∙ stays in
+          let no : true ≡ false = sym (ap stays_by e) ∙ gone_by c i in
           absurd (cc)
 
   pub relates : (ports : Ports) → IsWellDriven ports m → RowsRelate m target ports kept_says
@@ -565,9 +654,10 @@ module _ (tports : types.Ports) (m : Module) (marks : List Bool) (fine : MayRedu
     port_to = λ p w n i at a low. record {
       port = λ k of. low;
       other = λ none b is live. absurd (none n (i, (at, refl)));
+      word = λ name address j is. low;
     };
     port_from = λ p w n i at a says. says.port n (i, (at, refl));
-    unknown = λ p w s. record { port = λ n of. tt; other = λ none b at live. tt };
+    unknown = λ p w s. record { port = λ n of. tt; other = λ none b at live. tt; word = λ name address at is. tt };
     rows = λ p t u st v w h n r x i. keeps ports p driven t u st v w h n r x i;
   }
 

@@ -7,11 +7,13 @@ pub mod Reasons
 pub mod Joins
 pub mod Ports
 pub mod Cells
+pub mod Memories
 pub mod Keeping
 pub mod Once
 pub mod Reducing
 pub mod Ends
 pub mod Moved
+pub mod MovedMemories
 pub mod Trimming
 pub mod WiresLeft
 pub mod Cleaning

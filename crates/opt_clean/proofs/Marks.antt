@@ -1,6 +1,6 @@
 -- Lists of which some items are marked.
-use Rattle.std.proofs.Common.{◌≡◌, Bool, true, false, if◌then◌else◌, List, [], ◌∷◌, ◌++◌, ◌⊎◌, inl, inr, ⊎_elim, refl, ◌∙◌, ap}
-use Rattle.std.specs.Prelude.{map, flat_map}
+use Rattle.std.proofs.Common.{◌≡◌, Bool, true, false, cond, if◌then◌else◌, List, [], ◌∷◌, ◌++◌, ◌⊎◌, inl, inr, ⊎_elim, refl, sym, ◌∙◌, ap}
+use Rattle.std.specs.Prelude.{filter, map, flat_map}
 use Rattle.net_model.specs.Lists.{In, Distinct}
 use Rattle.net_model.proofs.Members.{apart_from, apart_at}
 use Rattle.opt_clean.specs.Kept.{marked}
@@ -43,6 +43,16 @@ module _ {A : Type 0} where
   marked_give f (true ∷ ts) (x ∷ xs) h = ap (λ z. f x ++ z) (marked_give f ts xs h)
   marked_give f (false ∷ ts) (x ∷ xs) h =
       ap (λ z. z ++ flat_map f xs) (h x (inl refl)) ∙ marked_give f ts xs (λ y i. h y (inr i))
+
+  -- those that pass a test, where each of the others fails it
+  pub filter_marked : (test : A → Bool) (ts : List Bool) (xs : List A) → ((x : A) → In x (others ts xs) → test x ≡ false) → filter test (marked ts xs) ≡ filter test xs
+  filter_marked test [] [] h = refl
+  filter_marked test [] (x ∷ xs) h =
+      filter_marked test [] xs (λ y i. h y (inr i)) ∙ ap (λ t. cond t (x ∷ filter test xs) (filter test xs)) (sym (h x (inl refl)))
+  filter_marked test (t ∷ ts) [] h = refl
+  filter_marked test (true ∷ ts) (x ∷ xs) h = ap (λ z. cond (test x) (x ∷ z) z) (filter_marked test ts xs h)
+  filter_marked test (false ∷ ts) (x ∷ xs) h =
+      filter_marked test ts xs (λ y i. h y (inr i)) ∙ ap (λ t. cond t (x ∷ filter test xs) (filter test xs)) (sym (h x (inl refl)))
 
   pub marked_map : {B : Type 0} (f : A → B) (ts : List Bool) (xs : List A) → map f (marked ts xs) ≡ marked ts (map f xs)
   marked_map f [] xs = refl

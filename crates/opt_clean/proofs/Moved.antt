@@ -1,4 +1,4 @@
--- Cells and connections by the new places of their wires: the same faults, and the same rows.
+-- Cells and connections by the new places of their wires: no faults where there were none, and the same rows.
 use Rattle.std.proofs.Common.{◌≡◌, ℕ, suc, Bool, true, false, cond, if◌then◌else◌, List, [], ◌∷◌, ◌++◌, Option, Some, None, inl, inr, refl, sym, ◌∙◌, ap, subst}
 use Rattle.std.specs.Prelude.{◌&&◌, ◌||◌, ◌==◌, find, map, not}
 use Rattle.std.specs.List.{list_any}
@@ -7,7 +7,6 @@ use Rattle.std.specs.Str.{bytes_eq}
 use Rattle.std.proofs.lemmas.List.{length-map}
 use Rattle.cell_types.specs.Fault.{fault_of}
 use Rattle.cell_types.specs.declared.kind.CellKind.{CellKind}
-use Rattle.cell_types.specs.declared.kind.CellKind.TheVariants as Cells
 use Rattle.cell_types.specs.declared.kind.CellKind.TheVariants.{Word, Gate, Storage, StorageGate, Memory}
 use Rattle.cell_types.specs.declared.pin_name.PinName.{PinName}
 use Rattle.cell_types.specs.declared.pin_name.PinName.TheVariants.{A, B, S, Y, Clk, En, Arst, Srst, Aload, Set, Clr, Ad, D, Q, C, E, R, L}
@@ -20,11 +19,9 @@ use Rattle.rtl_sig.specs.declared.sig.WireBit.{WireBit}
 use Rattle.rtl_ir.specs.declared.cell.Cell.{Cell}
 use Rattle.rtl_ir.specs.declared.cell.Pin.{Pin}
 use Rattle.rtl_ir.specs.declared.module.Link.{Link}
-use Rattle.rtl_ir.specs.declared.module.Module.{Module}
 use Rattle.rtl_ir.specs.declared.ports.PortLine.{PortLine}
 use Rattle.rtl_ir.specs.declared.wire.Wire.{Wire}
-use Rattle.rtl_ir.specs.Fault.{BadParameterOrPort, BadPort, Spot, UnsupportedCell, Width, fault_if, spot}
-use Rattle.rtl_ir.specs.Faults.Cells.{faults_by_type, has_constant_output, has_other_width, is_memory_kind, lacks_port, memory_faults, misfit, pin_widths, shape_fault}
+use Rattle.rtl_ir.specs.Faults.Cells.{has_constant_output, has_other_width, lacks_port, misfit, pin_widths}
 use Rattle.rtl_ir.specs.Flat.Cell.{Ports, cell_kind, cell_rows, cell_shape, cells_rows, gate_store, instance_of, instance_rows, instances, kind_rows, listed, outputs, port_joins, stored_rows, stores, word_store, worked_rows}
 use Rattle.rtl_ir.specs.Flat.Driver.{StorePoints, Stored}
 use Rattle.rtl_ir.specs.Flat.Link.{joins, link_rows}
@@ -33,15 +30,14 @@ use Rattle.rtl_ir.specs.Flat.Point.{At, Constant, Point, pin_points, point, poin
 use Rattle.rtl_ir.specs.Outputs.{drives_pin}
 use Rattle.rtl_ir.specs.Parameters.{given_params, signal_at}
 use Rattle.rtl_ir.specs.Rules.{has_item}
-use Rattle.rtl_ir.specs.Scope.{cells_alone}
 use Rattle.rtl_ir.specs.Signals.{has_constant, wire_bits}
 use Rattle.rtl_ir.specs.Types as types
 use Rattle.rtl_ir.specs.Types.{CellType, Instance, Library, Unknown, Unsupported, cell_type, port_named}
 use Rattle.net_model.specs.Lists.{In}
 use Rattle.net_model.proofs.Members.{map-append}
 use Rattle.pass_laws.specs.Bits.{cells_bits, links_bits, pin_bits}
-use Rattle.pass_laws.specs.Replaces.{IsEven, IsFaultless}
-use Rattle.pass_laws.proofs.Alone.{fits_kind, own_kind}
+use Rattle.pass_laws.specs.Replaces.{IsEven}
+use Rattle.pass_laws.proofs.Alone.{IsSound, IsSoundBy}
 use Rattle.opt_clean.specs.Wires.{cell_bits, moved_bit, moved_cell, moved_link, moved_pin, new_place}
 use Rattle.opt_clean.proofs.Cells.{signal_bits}
 use Rattle.opt_clean.proofs.Ends.{has_signal}
@@ -54,7 +50,7 @@ module _ (marks : List Bool) where
   abbrev pub move_wire : WireBit → WireBit
   move_wire b = record { wire = new_place marks b.wire; at = b.at }
 
-  abbrev pins_of : List Pin → List Pin
+  abbrev pub pins_of : List Pin → List Pin
   pins_of pins = map (moved_pin marks) pins
 
   constant_stays : (signal : List SigBit) → has_constant (map move signal) ≡ has_constant signal
@@ -101,31 +97,19 @@ module _ (marks : List Bool) where
   unfolding misfit
   misfit_stays kind c = ap (fault_of kind (given_params c.params)) (widths_stay c.pins)
 
-  module _ (m : Module) (earlier : List Cell) (c : Cell) where
-    memory_stays : (kind : CellKind) → is_memory_kind kind ≡ false → memory_faults m earlier (moved_cell marks c) kind ≡ memory_faults m earlier c kind
-    memory_stays (Cells.Memory kind) e = absurd (cc)
-    memory_stays kind e = refl
+  -- a cell without faults but those of memories is so with its bits moved
+  sound_by : (c : Cell) (type : CellType) → IsSoundBy c type → IsSoundBy (moved_cell marks c) type
+  sound_by c (Library kind) s = record { fit = misfit_stays kind c ∙ s.fit; output = constants_stay (Library kind) c.pins ∙ s.output }
+  sound_by c (Instance lines) s = record {
+    known = ap (λ t. has_item c.params || t) (lacks_stay lines c.pins) ∙ s.known;
+    widths = other_stays lines c.pins ∙ s.widths;
+    output = constants_stay (Instance lines) c.pins ∙ s.output;
+  }
+  sound_by c Unsupported s = absurd s
+  sound_by c Unknown s = absurd s
 
-    faults_stay : (type : CellType) → ((kind : CellKind) → type ≡ Library kind → is_memory_kind kind ≡ false) → faults_by_type cells_alone m earlier (moved_cell marks c) type ≡ faults_by_type cells_alone m earlier c type
-    faults_stay (Library kind) h =
-        let here : Spot = spot m.id c.name in
-        let fit = misfit_stays kind c in
-        let constant = constants_stay (Library kind) c.pins in
-        let memory = memory_stays kind (h kind refl) in
-        λ i. ((fault_if (is_memory_kind kind && true) (UnsupportedCell here) ++ shape_fault here (fit i)) ++ fault_if (constant i) (BadPort here)) ++ memory i
-    faults_stay (Instance lines) h =
-        let here : Spot = spot m.id c.name in
-        let lacks = lacks_stay lines c.pins in
-        let wide = other_stays lines c.pins in
-        let constant = constants_stay (Instance lines) c.pins in
-        λ i. (fault_if (has_item c.params || lacks i) (BadParameterOrPort here) ++ fault_if (wide i) (Width here)) ++ fault_if (constant i) (BadPort here)
-    faults_stay Unsupported h = refl
-    faults_stay Unknown h = refl
-
-  -- a cell without faults is without with its bits moved
-  pub moved_faultless : (ports : types.Ports) (c : Cell) → IsFaultless ports c → IsFaultless ports (moved_cell marks c)
-  moved_faultless ports c fine m earlier =
-      faults_stay m earlier c (cell_type ports c.kind_name) (λ kind e. (fits_kind ports c kind (own_kind ports c kind e) fine).plain) ∙ fine m earlier
+  pub moved_sound : (ports : types.Ports) (c : Cell) → IsSound ports c → IsSound ports (moved_cell marks c)
+  moved_sound ports c sound = sound_by c (cell_type ports c.kind_name) sound
 
   pub moved_even : (l : Link) → IsEven l → IsEven (moved_link marks l)
   moved_even l even = record {
@@ -164,7 +148,7 @@ module _ (marks : List Bool) where
   kinds_stay [] = refl
   kinds_stay (c ∷ cs) = ap (λ z. listed (instance_of c (cell_kind c)) ++ z) (kinds_stay cs)
 
-  signal_moves : (pins : List Pin) (name : List ℕ) → signal_at (pins_of pins) name ≡ map move (signal_at pins name)
+  pub signal_moves : (pins : List Pin) (name : List ℕ) → signal_at (pins_of pins) name ≡ map move (signal_at pins name)
   signal_moves [] name = refl
   signal_moves (q ∷ qs) name = by (signal_moves qs name) (bytes_eq q.name name)
     where
@@ -195,7 +179,7 @@ module _ (marks : List Bool) where
       abbrev moved : Cell
       moved = moved_cell marks c
 
-      signal_keeps : (name : List ℕ) → Keeps (signal_at c.pins name)
+      pub signal_keeps : (name : List ℕ) → Keeps (signal_at c.pins name)
       signal_keeps name s i =
           keeps s (λ b e. signal_bits c.pins name b (has_signal (signal_at c.pins name) b (subst (λ z. In z (signal_at c.pins name)) e i)))
 

@@ -7,7 +7,7 @@ use Rattle.rtl_sig.specs.declared.sig.WireBit.{WireBit}
 use Rattle.rtl_ir.specs.Drivers.{Drive, drive_count, drives_of, is_input}
 use Rattle.rtl_ir.specs.Fault.{Fault, BadPort, TwoDrivers, fault_if, spot}
 use Rattle.rtl_ir.specs.Faults.Bits.{bit_faults, bits_faults, faults_of_two}
-use Rattle.rtl_ir.specs.Scope.{cells_alone}
+use Rattle.rtl_ir.specs.Scope.{without_processes}
 use Rattle.rtl_ir.specs.Signals.{same_bit}
 use Rattle.rtl_ir.specs.Types.{Ports}
 use Rattle.rtl_ir.specs.declared.module.Module.{Module}
@@ -95,7 +95,7 @@ module _ (ports : Ports) (m : Module) (ready : IsReady ports m) where
   pub driven_once : (b : WireBit) → Home m.wires b → drive_count (drives_of ports m) b ≤ 1
   driven_once b home =
       let z : 0 + b.wire ≡ b.wire = omega arith in
-      subst (λ k. drive_count (drives_of ports m) (record { wire = k; at = b.at }) ≤ 1) z (once_in m.id (drives_of ports m) 0 m.wires b.wire home.of (no_faults cells_alone ports m ready.faultless).bits home.there b.at home.inside)
+      subst (λ k. drive_count (drives_of ports m) (record { wire = k; at = b.at }) ≤ 1) z (once_in m.id (drives_of ports m) 0 m.wires b.wire home.of (no_faults without_processes ports m ready.faultless).bits home.there b.at home.inside)
 
   pub body_once : (b : WireBit) → Home m.wires b → count b (cells_bits ports m.cells ++ links_bits m.links) ≤ 1
   body_once b home =

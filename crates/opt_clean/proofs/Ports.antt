@@ -82,7 +82,8 @@ kept_by test (y ∷ xs) x i e = by (λ j. kept_by test xs x j e) (test y) refl i
     by later false f (inl g) = let no : true ≡ false = sym e ∙ ap test g ∙ f in absurd (cc)
     by later false f (inr j) = later j
 
-by_kept : {A : Type 0} (test : A → Bool) (xs : List A) (x : A) → In x (filter test xs) → In x xs × (test x ≡ true)
+-- what passes a test is of the list, and passes it
+pub by_kept : {A : Type 0} (test : A → Bool) (xs : List A) (x : A) → In x (filter test xs) → In x xs × (test x ≡ true)
 by_kept test [] x i = absurd i
 by_kept test (y ∷ xs) x i = by (λ j. by_kept test xs x j) (test y) refl i
   where

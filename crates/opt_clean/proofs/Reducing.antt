@@ -4,7 +4,7 @@ use Rattle.std.specs.Prelude.{ℤ, pos, int_lt, not, ◌&&◌, ◌||◌, map, fl
 use Rattle.std.specs.List.{list_all, list_any}
 use Rattle.std.specs.Ordering.{int_eq}
 use Rattle.std.proofs.lemmas.Bool.{and_parts, eq-eqb, ltb-true}
-use Rattle.std.proofs.lemmas.List.{length-map}
+use Rattle.std.proofs.lemmas.List.{append-nil, length-map}
 use Rattle.rtl_bits.specs.declared.bit.Bit.{Bit}
 use Rattle.rtl_bits.specs.Knowledge.{Below}
 use Rattle.rtl_sig.specs.declared.sig.SigBit.{SigBit}
@@ -20,6 +20,7 @@ use Rattle.rtl_ir.specs.Faults.Wires.{is_bad_port, is_inout, wire_faults, with_n
 use Rattle.rtl_ir.specs.Flat.Cell as flat
 use Rattle.rtl_ir.specs.Flat.Cell.{cell_kind, cell_rows, cells_rows, instances}
 use Rattle.rtl_ir.specs.Flat.Driver.{Driven}
+use Rattle.rtl_ir.specs.Flat.Link.{link_rows}
 use Rattle.rtl_ir.specs.Flat.Place.{Frame, IsOf, Path, Place}
 use Rattle.rtl_ir.specs.Flat.Point.{bit_place, point}
 use Rattle.rtl_ir.specs.Flat.Rows.{plain_rows, rows_of}
@@ -27,7 +28,7 @@ use Rattle.rtl_ir.specs.Flat.Start.{start_of}
 use Rattle.rtl_ir.specs.Flat.Tree as tree
 use Rattle.rtl_ir.specs.Follow.{Join, all_joins, source_at}
 use Rattle.rtl_ir.specs.Ports.{is_port}
-use Rattle.rtl_ir.specs.Scope.{cells_alone}
+use Rattle.rtl_ir.specs.Scope.{without_processes}
 use Rattle.rtl_ir.specs.Signals.{bits_of_wire, has_constant, wire_bits}
 use Rattle.rtl_ir.specs.Types as types
 use Rattle.rtl_ir.specs.Types.{CellType, cell_type}
@@ -45,10 +46,11 @@ use Rattle.follow_laws.proofs.Signals.{follow_in}
 use Rattle.pass_laws.specs.Bits.{cells_bits, links_bits, pin_bits}
 use Rattle.pass_laws.specs.Pass.{IsPass}
 use Rattle.pass_laws.specs.Ready.{IsReady}
-use Rattle.pass_laws.specs.Replaces.{IsEven}
+use Rattle.pass_laws.specs.Replaces.{IsEven, IsOutside}
+use Rattle.pass_laws.proofs.Accesses.{AreAccesses, SameNumbers, access_moved, numbers_outside, same_more}
 use Rattle.pass_laws.proofs.Counting.{count, count_more}
 use Rattle.pass_laws.proofs.Faultless.{no_faults, none_left, none_right, plain}
-use Rattle.pass_laws.proofs.Forming.{own_cells, ready_with}
+use Rattle.pass_laws.proofs.Forming.{own_accesses, own_cells, ready_with}
 use Rattle.pass_laws.proofs.Passes.{IsPass_trans}
 use Rattle.opt_clean.specs.Clean.{is_inside, reduced}
 use Rattle.opt_clean.specs.Keep.{is_shown, output_bits}
@@ -57,7 +59,7 @@ use Rattle.opt_clean.specs.Runs.{is_connected, links_of, run_link, runs, shown_l
 use Rattle.opt_clean.specs.Wires.{cell_bits, link_bits, named_bits}
 use Rattle.opt_clean.proofs.Bits.{flat_in, in_flat}
 use Rattle.opt_clean.proofs.Joins.{join_row, lefts_in, source_in}
-use Rattle.opt_clean.proofs.Keeping.{Home, MayReduce, alone, cells_row, children_stay, from, in_length, left_named, left_part, one_spot, parts_apart, plain_links, reduced_x_refines, right_part, row_cells, row_in, with_marked}
+use Rattle.opt_clean.proofs.Keeping.{Home, MayReduce, cells_row, children_stay, from, gone_outside, in_length, join_in, kept_stored, left_named, left_part, one_spot, parts_apart, plain_links, reduced_x_refines, right_part, row_cells, row_in, stored, with_marked}
 use Rattle.opt_clean.proofs.Marks.{marked_in, others}
 use Rattle.opt_clean.proofs.Once.{body_once, count_distinct, count_in, count_or, twice}
 use Rattle.opt_clean.proofs.Rounds.{closed}
@@ -112,6 +114,21 @@ pins_have type (p ∷ pins) b i =
     by : (t : Bool) → In b (if t then wire_bits p.sig else []) → In b (wire_bits p.sig)
     by true j = j
     by false j = absurd j
+
+-- where the cells that go are none of a memory, those of memories that are kept have no faults
+pub marked_accesses : (ports : types.Ports) (m : Module) (ts : List Bool) (earlier later : List Cell) → SameNumbers earlier later → (cs : List Cell) → Each IsOutside (others ts cs) → AreAccesses ports m earlier cs → AreAccesses ports m later (marked ts cs)
+marked_accesses ports m [] earlier later same cs gone a = tt
+marked_accesses ports m (t ∷ ts) earlier later same [] gone a = tt
+marked_accesses ports m (true ∷ ts) earlier later same (c ∷ cs) gone a =
+    let here = access_moved m m refl earlier later same c (cell_type ports c.kind_name) a.0 in
+    (here, marked_accesses ports m ts (earlier ++ c ∷ []) (later ++ c ∷ []) (same_more earlier later (c ∷ []) (c ∷ []) same (λ name. refl)) cs gone a.1)
+marked_accesses ports m (false ∷ ts) earlier later same (c ∷ cs) gone a =
+    let none : SameNumbers (c ∷ []) [] = λ name. numbers_outside (c ∷ []) one name in
+    marked_accesses ports m ts (earlier ++ c ∷ []) later (subst (SameNumbers (earlier ++ c ∷ [])) (append-nil later) (same_more earlier later (c ∷ []) [] same none)) cs (λ d i. gone d (inr i)) a.1
+  where
+    one : Each IsOutside (c ∷ [])
+    one d (inl e) = gone d (inl e)
+    one d (inr i) = absurd i
 
 -- the places of the rows of marked cells are among those of all, and no more often there
 marked_places : (start : SigBit → Bit) (ports : flat.Ports) (p : Path) (wires : List Wire) (ts : List Bool) (cs : List Cell) → Distinct (places_of (cells_rows start ports p wires cs)) → Distinct (places_of (cells_rows start ports p wires (marked ts cs)))
@@ -221,6 +238,7 @@ module _ (tports : types.Ports) (m : Module) (marks : List Bool) (fine : MayRedu
     after_ready : IsReady tports after
     after_ready = ready_with tports m ready (marked marks m.cells) links (record {
       cells = λ c i. own_cells tports m ready c (marked_in marks m.cells c i);
+      accesses = marked_accesses tports m marks [] [] (λ name. refl) m.cells (gone_outside tports m marks fine) (own_accesses tports m ready);
       links = even;
       cells_within = λ c i. ready.within.cells c (marked_in marks m.cells c i);
       links_within = links_within;
@@ -234,14 +252,35 @@ module _ (tports : types.Ports) (m : Module) (marks : List Bool) (fine : MayRedu
       abbrev cells : Path → List Driven
       cells p = cells_rows start over p m.wires (marked marks m.cells)
 
-      after_plain : (p : Path) → plain_rows p after ≡ map (row_from p m.wires source) shown
-      after_plain p =
-          plain_links p after fine.processes fine.memories ∙ shown_rows p m.wires is_driven source 0 m.wires
+      -- the rows of the memories, as before
+      abbrev words : Path → List Driven
+      words p = stored tports m marks fine p
 
-      after_places : (p : Path) → places_of (rows_of over p after) ≡ places_of (cells p) ++ map (bit_place p m.wires) shown
+      abbrev shown_places : Path → List Place
+      shown_places p = map (bit_place p m.wires) shown
+
+      pub after_plain : (p : Path) → plain_rows p after ≡ map (row_from p m.wires source) shown ++ words p
+      after_plain p =
+          plain_links p after fine.processes
+          ∙ (λ i. shown_rows p m.wires is_driven source 0 m.wires i ++ kept_stored tports m marks fine p i)
+
+      after_places : (p : Path) → places_of (rows_of over p after) ≡ places_of (cells p) ++ (shown_places p ++ places_of (words p))
       after_places p =
           map-append (λ (x : Driven). x.place) (cells p) (plain_rows p after)
-          ∙ ap (λ z. places_of (cells p) ++ z) (ap places_of (after_plain p) ∙ map-map (row_from p m.wires source) (λ (x : Driven). x.place) shown)
+          ∙ ap (λ z. places_of (cells p) ++ z) (ap places_of (after_plain p) ∙ map-append (λ (x : Driven). x.place) (map (row_from p m.wires source) shown) (words p) ∙ ap (λ z. z ++ places_of (words p)) (map-map (row_from p m.wires source) (λ (x : Driven). x.place) shown))
+
+      -- the same of the module
+      before_places : (p : Path) → places_of (rows_of over p m) ≡ places_of (cells_rows start over p m.wires m.cells) ++ (places_of (link_rows p m.wires m.links) ++ places_of (words p))
+      before_places p =
+          map-append (λ (x : Driven). x.place) (cells_rows start over p m.wires m.cells) (plain_rows p m)
+          ∙ ap (λ z. places_of (cells_rows start over p m.wires m.cells) ++ z) (ap places_of (plain_links p m fine.processes) ∙ map-append (λ (x : Driven). x.place) (link_rows p m.wires m.links) (words p))
+
+      -- the row of a bit that gets a connection
+      had_row : (driven : IsWellDriven over m) (p : Path) (b : WireBit) → In b shown → (y : Driven) × In y (rows_of over p m) × (bit_place p m.wires b ≡ y.place)
+      had_row driven p b i =
+          let s = has_source b (shown_in is_driven 0 m.wires b i).fit in
+          let j : Join = record { bit = b; source = s.0 } in
+          (join_row p m.wires j, row_in tports m marks fine over p driven j (source_in js b s.0 s.1), refl)
 
       -- each row has the place of one of the module
       before_row : (driven : IsWellDriven over m) (p : Path) (x : Driven) → In x (rows_of over p after) → (y : Driven) × In y (rows_of over p m) × (x.place ≡ y.place)
@@ -249,28 +288,39 @@ module _ (tports : types.Ports) (m : Module) (marks : List Bool) (fine : MayRedu
           ⊎_elim
           (λ l. let c = cells_row start over p m.wires (marked marks m.cells) x l in
           (x, In-left x (cells_rows start over p m.wires m.cells) (plain_rows p m) (row_cells start over p m.wires m.cells c.0 x (marked_in marks m.cells c.0 c.1) c.2), refl))
-          (λ r. let k = In-mapped (row_from p m.wires source) x shown (subst (In x) (after_plain p) r) in
-          let s = has_source k.0 (shown_in is_driven 0 m.wires k.0 k.1).fit in
-          let j : Join = record { bit = k.0; source = s.0 } in
-          (join_row p m.wires j, row_in tports m marks fine over p driven j (source_in js k.0 s.0 s.1), ap (λ (z : Driven). z.place) k.2))
+          (λ r. ⊎_elim
+          (λ a. let k = In-mapped (row_from p m.wires source) x shown a in
+          let y = had_row driven p k.0 k.1 in
+          (y.0, y.1, ap (λ (z : Driven). z.place) k.2 ∙ y.2))
+          (λ b. (x, In-right x (cells_rows start over p m.wires m.cells) (plain_rows p m) (subst (In x) (sym (plain_links p m fine.processes)) (In-right x (link_rows p m.wires m.links) (words p) b)), refl))
+          (In-cases x (map (row_from p m.wires source) shown) (words p) (subst (In x) (after_plain p) r)))
           (In-cases x (cells p) (plain_rows p after) i)
 
-      places_once : (driven : IsWellDriven over m) (p : Path) → Distinct (places_of (cells p) ++ map (bit_place p m.wires) shown)
-      places_once driven p =
-          Distinct-append (places_of (cells p)) (map (bit_place p m.wires) shown)
-          (marked_places start over p m.wires marks m.cells (left_part (places_of (cells_rows start over p m.wires m.cells)) (places_of (plain_rows p m)) (subst Distinct (map-append (λ (x : Driven). x.place) (cells_rows start over p m.wires m.cells) (plain_rows p m)) (driven.rows p))))
-          (map_distinct (bit_place p m.wires) shown (λ b c i j e. one_spot tports m marks fine p b c (driven_within b (shown_in is_driven 0 m.wires b i).fit) (driven_within c (shown_in is_driven 0 m.wires c j).fit) e) (shown_distinct is_driven 0 m.wires))
-          (λ q i j.
-          let x = In-mapped (λ (z : Driven). z.place) q (cells p) i in
-          let b = In-mapped (bit_place p m.wires) q shown j in
-          let c = cells_row start over p m.wires (marked marks m.cells) x.0 x.1 in
-          let row : In x.0 (cells_rows start over p m.wires m.cells) = row_cells start over p m.wires m.cells c.0 x.0 (marked_in marks m.cells c.0 c.1) c.2 in
+      -- the place of a bit that gets a connection is one of a connection
+      had_link : IsWellDriven over m → (p : Path) (q : Place) → In q (shown_places p) → In q (places_of (link_rows p m.wires m.links))
+      had_link driven p q i =
+          let b = In-mapped (bit_place p m.wires) q shown i in
           let s = has_source b.0 (shown_in is_driven 0 m.wires b.0 b.1).fit in
-          let none : source_at js b.0 ≡ None = alone tports m marks fine over p driven x.0 b.0 row (sym x.2 ∙ b.2) in
-          differ s.0 (sym none ∙ s.1))
-        where
-          differ : (r : SigBit) → None ≡ Some r → ⊥
-          differ r e = cc
+          let j : Join = record { bit = b.0; source = s.0 } in
+          subst (λ z. In z (places_of (link_rows p m.wires m.links))) (sym b.2) (In-map (λ (z : Driven). z.place) (join_row p m.wires j) (link_rows p m.wires m.links) (join_in tports m marks fine over p driven j (source_in js b.0 s.0 s.1)))
+
+      -- the place of a row of a kept cell is one of a cell
+      had_cell : (p : Path) (q : Place) → In q (places_of (cells p)) → In q (places_of (cells_rows start over p m.wires m.cells))
+      had_cell p q i =
+          let x = In-mapped (λ (z : Driven). z.place) q (cells p) i in
+          let c = cells_row start over p m.wires (marked marks m.cells) x.0 x.1 in
+          subst (λ z. In z (places_of (cells_rows start over p m.wires m.cells))) (sym x.2) (In-map (λ (z : Driven). z.place) x.0 (cells_rows start over p m.wires m.cells) (row_cells start over p m.wires m.cells c.0 x.0 (marked_in marks m.cells c.0 c.1) c.2))
+
+      places_once : IsWellDriven over m → (p : Path) → Distinct (places_of (cells p) ++ (shown_places p ++ places_of (words p)))
+      places_once driven p =
+          let old : List Place = places_of (cells_rows start over p m.wires m.cells) in
+          let lefts : List Place = places_of (link_rows p m.wires m.links) in
+          let all : Distinct (old ++ (lefts ++ places_of (words p))) = subst Distinct (before_places p) (driven.rows p) in
+          let rest : Distinct (lefts ++ places_of (words p)) = right_part old (lefts ++ places_of (words p)) all in
+          Distinct-append (places_of (cells p)) (shown_places p ++ places_of (words p))
+          (marked_places start over p m.wires marks m.cells (left_part old (lefts ++ places_of (words p)) all))
+          (Distinct-append (shown_places p) (places_of (words p)) (map_distinct (bit_place p m.wires) shown (λ b c i j e. one_spot tports m marks fine p b c (driven_within b (shown_in is_driven 0 m.wires b i).fit) (driven_within c (shown_in is_driven 0 m.wires c j).fit) e) (shown_distinct is_driven 0 m.wires)) (right_part lefts (places_of (words p)) rest) (λ q i j. parts_apart lefts (places_of (words p)) rest q (had_link driven p q i) j))
+          (λ q i j. parts_apart old (lefts ++ places_of (words p)) all q (had_cell p q i) (⊎_elim (λ l. In-left q lefts (places_of (words p)) (had_link driven p q l)) (λ r. In-right q lefts (places_of (words p)) r) (In-cases q (shown_places p) (places_of (words p)) j)))
 
       after_driven : IsWellDriven over m → IsWellDriven over after
       after_driven driven = record {
@@ -329,12 +379,19 @@ module _ (tports : types.Ports) (m : Module) (marks : List Bool) (fine : MayRedu
     rows = λ p t w s before d i.
         let start : SigBit → Bit = start_of m.wires m.processes in
         let cells : List Driven = cells_rows start over p m.wires (marked marks m.cells) in
-        let plain_x : plain_rows p with_x ≡ map (row_from p m.wires (from tports m marks fine)) shown = plain_links p with_x fine.processes fine.memories ∙ shown_rows p m.wires is_driven (from tports m marks fine) 0 m.wires in
-        let plain_l : plain_rows p with_loops ≡ map (row_from p m.wires (source_of m.links)) shown = plain_links p with_loops fine.processes fine.memories ∙ shown_rows p m.wires is_driven (source_of m.links) 0 m.wires in
+        let words : List Driven = stored tports m marks fine p in
+        let some : List Driven = map (row_from p m.wires (from tports m marks fine)) shown in
+        let all : List Driven = map (row_from p m.wires (source_of m.links)) shown in
+        let plain_x : plain_rows p with_x ≡ some ++ words = after_plain (from tports m marks fine) from_sound over p in
+        let plain_l : plain_rows p with_loops ≡ all ++ words = after_plain (source_of m.links) follow_sound over p in
+        let loops : (x : Driven) → In x (all ++ words) → In x (rows_of over p with_loops) = λ x j. In-right x cells (plain_rows p with_loops) (subst (In x) (sym plain_l) j) in
         ⊎_elim
         (λ l. s.met d (In-left d cells (plain_rows p with_loops) l))
-        (λ r. let k = In-mapped (row_from p m.wires (from tports m marks fine)) d shown (subst (In d) plain_x r) in
-        subst (λ z. IsMet z t w) (sym k.2) (loops_met p t w (rows_of over p with_loops) s (λ b j. In-right (row_from p m.wires (source_of m.links) b) cells (plain_rows p with_loops) (subst (In (row_from p m.wires (source_of m.links) b)) (sym plain_l) (In-map (row_from p m.wires (source_of m.links)) b shown j))) k.0 k.1))
+        (λ r. ⊎_elim
+        (λ a. let k = In-mapped (row_from p m.wires (from tports m marks fine)) d shown a in
+        subst (λ z. IsMet z t w) (sym k.2) (loops_met p t w (rows_of over p with_loops) s (λ b j. loops (row_from p m.wires (source_of m.links) b) (In-left (row_from p m.wires (source_of m.links) b) all words (In-map (row_from p m.wires (source_of m.links)) b shown j))) k.0 k.1))
+        (λ b. s.met d (loops d (In-right d all words b)))
+        (In-cases d some words (subst (In d) plain_x r)))
         (In-cases d cells (plain_rows p with_x) i);
   })
 
@@ -380,10 +437,9 @@ may_reduce ports m ready homes followed =
     in
     record {
       processes = none.processes;
-      memories = none.memories;
       named = ready.named;
       homes = homes;
-      single = single m.id [] m.wires (no_faults cells_alone ports m ready.faultless).wires;
+      single = single m.id [] m.wires (no_faults without_processes ports m ready.faultless).wires;
       linked = λ b i j. twice b (cells_bits ports m.cells) (links_bits m.links) (body_once ports m ready b (cell_home b i)) i j;
       apart = λ b i j.
           let c = flat_in (output_bits ports) (marked marks m.cells) b i in

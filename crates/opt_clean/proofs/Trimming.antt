@@ -1,5 +1,5 @@
 -- The wires that stay are a pass.
-use Rattle.std.proofs.Common.{◌≡◌, ℕ, zero, suc, ◌+◌, ◌<◌, ◌≤◌, Bool, true, false, cond, if◌then◌else◌, List, [], ◌∷◌, ◌++◌, take, Some, inl, inr, ⊎_elim, refl, sym, ◌∙◌, ap, subst, arith}
+use Rattle.std.proofs.Common.{◌≡◌, ℕ, zero, suc, ◌+◌, ◌<◌, ◌≤◌, Bool, true, false, if◌then◌else◌, List, [], ◌∷◌, ◌++◌, take, Some, inl, inr, ⊎_elim, refl, sym, ◌∙◌, ap, subst, arith}
 use Rattle.std.specs.Prelude.{ℤ, ◌||◌, filter, flat_map, slice_get}
 use Rattle.std.specs.List.{range_with_len}
 use Rattle.std.proofs.Common.{map-id}
@@ -19,7 +19,7 @@ use Rattle.pass_laws.proofs.Faultless.{none_left, none_right}
 use Rattle.opt_clean.specs.Keep.{has_keep}
 use Rattle.opt_clean.specs.Kept.{marked}
 use Rattle.opt_clean.specs.Wires.{mark_count, names_wire, new_place, stays, wire_marks}
-use Rattle.opt_clean.proofs.Marks.{others}
+use Rattle.opt_clean.proofs.Marks.{filter_marked, others}
 use Rattle.opt_clean.proofs.Once.{count_distinct, count_in, count_or}
 use Rattle.opt_clean.proofs.Showing.{in_wire, wire_distinct, wire_in}
 
@@ -79,14 +79,7 @@ gone_inner bits first (v ∷ ws) w i = by (λ j. gone_inner bits (first + 1) ws 
 
 -- the ports are the same
 pub kept_ports : (ts : List Bool) (ws : List Wire) → ((w : Wire) → In w (others ts ws) → is_port w.role ≡ false) → filter (λ (w : Wire). is_port w.role) (marked ts ws) ≡ filter (λ (w : Wire). is_port w.role) ws
-kept_ports [] [] h = refl
-kept_ports [] (w ∷ ws) h =
-    kept_ports [] ws (λ v i. h v (inr i)) ∙ ap (λ t. cond t (w ∷ filter (λ (v : Wire). is_port v.role) ws) (filter (λ (v : Wire). is_port v.role) ws)) (sym (h w (inl refl)))
-kept_ports (t ∷ ts) [] h = refl
-kept_ports (true ∷ ts) (w ∷ ws) h =
-    ap (λ z. cond (is_port w.role) (w ∷ z) z) (kept_ports ts ws h)
-kept_ports (false ∷ ts) (w ∷ ws) h =
-    kept_ports ts ws (λ v i. h v (inr i)) ∙ ap (λ t. cond t (w ∷ filter (λ (v : Wire). is_port v.role) ws) (filter (λ (v : Wire). is_port v.role) ws)) (sym (h w (inl refl)))
+kept_ports ts ws h = filter_marked (λ (w : Wire). is_port w.role) ts ws h
 
 -- and have the same faults
 no_number : (numbers : List ℤ) (w : Wire) → is_port w.role ≡ false → with_number numbers w ≡ numbers

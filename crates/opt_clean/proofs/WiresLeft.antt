@@ -7,6 +7,7 @@ use Rattle.rtl_bits.specs.Tables.{seen_of}
 use Rattle.rtl_sig.specs.declared.sig.SigBit.{SigBit}
 use Rattle.rtl_sig.specs.declared.sig.SigBit.TheVariants.{Fixed, Wire as OnWire}
 use Rattle.rtl_sig.specs.declared.sig.WireBit.{WireBit}
+use Rattle.cell_types.specs.PinName.{pin_text}
 use Rattle.rtl_ir.specs.declared.cell.Cell.{Cell}
 use Rattle.rtl_ir.specs.declared.cell.Pin.{Pin}
 use Rattle.rtl_ir.specs.declared.module.Link.{Link}
@@ -26,7 +27,7 @@ use Rattle.rtl_ir.specs.Flat.Start.{init_bit, init_bits, start_of}
 use Rattle.rtl_ir.specs.Flat.Tree as tree
 use Rattle.rtl_ir.specs.Flat.Tree.{places, role_points}
 use Rattle.rtl_ir.specs.Ports.{in_number_order, is_port, line_of, ports_of}
-use Rattle.rtl_ir.specs.Scope.{cells_alone}
+use Rattle.rtl_ir.specs.Scope.{without_processes}
 use Rattle.rtl_ir.specs.Signals.{same_bit, wire_bits}
 use Rattle.rtl_ir.specs.Types as types
 use Rattle.rtl_ir.specs.Types.{cell_type}
@@ -38,18 +39,20 @@ use Rattle.net_model.proofs.Members.{In-cases, In-left, In-mapped, In-right, map
 use Rattle.pass_laws.specs.Bits.{cells_bits, links_bits, pin_bits}
 use Rattle.pass_laws.specs.Pass.{IsPass}
 use Rattle.pass_laws.specs.Ready.{IsReady}
-use Rattle.pass_laws.specs.Replaces.{IsEven, IsFaultless}
-use Rattle.pass_laws.proofs.Alone.{no_link_faults, none_there}
+use Rattle.pass_laws.specs.Replaces.{IsEven}
+use Rattle.pass_laws.proofs.Accesses.{AreAccesses, none_there}
+use Rattle.pass_laws.proofs.Alone.{IsSound, no_link_faults}
 use Rattle.pass_laws.proofs.Counting.{bits_of, count, driven_count}
 use Rattle.pass_laws.proofs.Faultless.{HasNoFaults, IsPlain, no_faults, plain}
-use Rattle.pass_laws.proofs.Forming.{all_none, own_cells, own_links}
+use Rattle.pass_laws.proofs.Forming.{all_none, own_accesses, own_cells, own_links}
 use Rattle.opt_clean.specs.Keep.{has_keep}
 use Rattle.opt_clean.specs.Wires.{cell_bits, link_bits, moved_bit, moved_cell, moved_link, moved_pin, named_bits, names_wire, new_place, stays, trimmed, wire_marks}
 use Rattle.opt_clean.proofs.Bits.{any_in, flat_in, in_flat}
 use Rattle.opt_clean.proofs.Ends.{has_signal, signal_has}
 use Rattle.opt_clean.proofs.Keeping.{plain_links}
 use Rattle.opt_clean.proofs.Marks.{marked_distinct, marked_map}
-use Rattle.opt_clean.proofs.Moved.{cells_move, cells_stay, kinds_stay, links_move, links_stay, move_wire, moved_even, moved_faultless}
+use Rattle.opt_clean.proofs.Moved.{cells_move, cells_stay, kinds_stay, links_move, links_stay, move_wire, moved_even, moved_sound, signal_keeps}
+use Rattle.opt_clean.proofs.MovedMemories.{memories_move, moved_accesses}
 use Rattle.opt_clean.proofs.Once.{driven_once}
 use Rattle.opt_clean.proofs.Ports.{some_at}
 use Rattle.opt_clean.proofs.Reducing.{pins_have}
@@ -139,7 +142,8 @@ module _ (ports : types.Ports) (m : Module) (ready : IsReady ports m) where
   rows_same over p =
       let cells = cells_stay marks p m.wires after.wires (start_of m.wires m.processes) (start_of after.wires m.processes) over m.cells (λ c i s h. keeps p s (λ b e. cell_named c i b (h b e))) in
       let links = links_stay marks p m.wires after.wires (start_of m.wires m.processes) (start_of after.wires m.processes) m.links (λ l i. (λ s j. keeps p s (λ b e. left_named l i b (subst (λ z. In z l.left) e j)), λ s j. keeps p s (λ b e. right_named l i b (subst (λ z. In z l.right) e j)))) in
-      let plain : plain_rows p after ≡ plain_rows p m = plain_links p after fine.processes fine.memories ∙ links ∙ sym (plain_links p m fine.processes fine.memories) in
+      let words = memories_move marks p m.wires after.wires (start_of m.wires m.processes) (start_of after.wires m.processes) m.cells (λ c i name. signal_keeps marks p m.wires after.wires (start_of m.wires m.processes) (start_of after.wires m.processes) c (λ s h. keeps p s (λ b e. cell_named c i b (h b e))) (pin_text name)) m.memories in
+      let plain : plain_rows p after ≡ plain_rows p m = plain_links p after fine.processes ∙ (λ i. links i ++ words i) ∙ sym (plain_links p m fine.processes) in
       λ i. cells i ++ plain i
 
   ports_same : ports_of after.wires ≡ ports_of m.wires
@@ -237,7 +241,7 @@ module _ (ports : types.Ports) (m : Module) (ready : IsReady ports m) where
 
   after_ready : IsReady ports after
   after_ready = record {
-    faultless = all_none (fewer_wires m.id [] marks m.wires (gone_inner bits 0 m.wires) none.wires) none.stores (none_there ports after [] after.cells cells) processes (no_link_faults m.id 1 after.links even) (none_twice m.id (drives_of ports after) 0 after.wires after_once);
+    faultless = all_none (fewer_wires m.id [] marks m.wires (gone_inner bits 0 m.wires) none.wires) none.stores (none_there ports after [] after.cells sound accesses) processes (no_link_faults m.id 1 after.links even) (none_twice m.id (drives_of ports after) 0 after.wires after_once);
     named = subst Distinct (sym (marked_map (λ (w : Wire). w.name) marks m.wires)) (marked_distinct marks (map (λ (w : Wire). w.name) m.wires) ready.named);
     within = record {
       cells = λ c i pin j.
@@ -251,16 +255,19 @@ module _ (ports : types.Ports) (m : Module) (ready : IsReady ports m) where
     };
   }
     where
-      none : HasNoFaults cells_alone ports m
-      none = no_faults cells_alone ports m ready.faultless
+      none : HasNoFaults without_processes ports m
+      none = no_faults without_processes ports m ready.faultless
 
-      cells : Each (IsFaultless ports) after.cells
-      cells c i =
+      sound : Each (IsSound ports) after.cells
+      sound c i =
           let k = In-mapped (moved_cell marks) c m.cells i in
-          subst (IsFaultless ports) (sym k.2) (moved_faultless marks ports k.0 (own_cells ports m ready k.0 k.1))
+          subst (IsSound ports) (sym k.2) (moved_sound marks ports k.0 (own_cells ports m ready k.0 k.1))
 
-      processes : process_faults cells_alone ports after [] m.processes ≡ []
-      processes = ap (process_faults cells_alone ports after []) fine.processes
+      accesses : AreAccesses ports after [] after.cells
+      accesses = moved_accesses marks ports m after refl [] [] (λ name. refl) m.cells (own_accesses ports m ready)
+
+      processes : process_faults without_processes ports after [] m.processes ≡ []
+      processes = ap (process_faults without_processes ports after []) fine.processes
 
 pub trimmed_pass : (table : PortTable) (m : Module) → IsReady (types.table_ports table.modules) m → IsPass table m (trimmed m)
 trimmed_pass table m ready = record {

@@ -38,8 +38,8 @@ use rtl_ir::{Cell, Link, Module, PortTable};
 use std::alloc::Global;
 
 /// The module with what the outside needs: the cells that are kept, with followed inputs, one connection for each run of
-/// connected bits of an output port or a wire with `\keep`, and the wires that are left. In the Yosys manual, the command
-/// `opt_clean`.
+/// connected bits of an output port or a wire with `\keep`, and the wires that are left. Instances, memories and their cells
+/// are kept whatever reads them. In the Yosys manual, the command `opt_clean`.
 pub fn apply(alloc: Global, module: &Module, ports: &PortTable) -> Result<Module, Memory>
     requires ready { IsReady (table_ports ports.now.modules) «module».now }
     ensures exact { IfOk result (λ after. after ≡ clean_of (table_ports ports.now.modules) «module».now) }

@@ -35,7 +35,7 @@ use Rattle.net_model.specs.Run.{Time}
 use Rattle.net_model.specs.Valuation.{Valuation, read_words}
 use Rattle.net_model.specs.Value.{value_of, worked_of}
 use Rattle.net_model.specs.Within.{SigIn}
-use Rattle.pass_laws.proofs.Alone.{fits_kind, library_faultless}
+use Rattle.pass_laws.proofs.Alone.{library_faultless, shape_of}
 use Rattle.pass_laws.proofs.Driving.{own_driver}
 use Rattle.pass_laws.proofs.Forming.{own_cells}
 use Rattle.pass_laws.proofs.Giving.{became, given, in_middle, output_link, signal_in}
@@ -93,8 +93,8 @@ module _ (table : PortTable) (m : Module) (ready : IsReady (types.table_ports ta
   -- each cell of the module is whole
   pub whole : (e : Cell) → In e m.cells → IsWhole e
   whole e i = record {
-    fit = λ own k. (fits_kind (types.table_ports table.modules) e own k (own_cells (types.table_ports table.modules) m ready e i)).fit;
-    wires = λ own k word. output_wires own e Y (combinational_output own word) (fits_kind (types.table_ports table.modules) e own k (own_cells (types.table_ports table.modules) m ready e i)).output;
+    fit = λ own k. (shape_of (types.table_ports table.modules) e own k (own_cells (types.table_ports table.modules) m ready e i)).fit;
+    wires = λ own k word. output_wires own e Y (combinational_output own word) (shape_of (types.table_ports table.modules) e own k (own_cells (types.table_ports table.modules) m ready e i)).output;
   }
 
   module _ (cells : List Cell) (done : List (Option Cell)) (rest : List Cell) (c : Cell) (is : m.cells ≡ flat_map listed done ++ c ∷ rest) where
@@ -142,7 +142,7 @@ module _ (table : PortTable) (m : Module) (ready : IsReady (types.table_ports ta
       pub gives : (r : List SigBit) → Refines (cell_shape own c.params) (operands_in cells done rest (cell_shape own c.params) c.pins) (Gives r) → length r ≡ (cell_shape own c.params).widths.y → SigIn (length m.wires) r
           → IsPass table m (replacing (flat_map listed done) [] rest (output_link c Y r ∷ []) m)
       gives r refines long names =
-          given table m (flat_map listed done) c rest ready is own k Y (combinational_output own word) r (wide ∙ sym long) names
+          given table m (flat_map listed done) c rest ready is own k (combinational_plain own word) Y (combinational_output own word) r (wide ∙ sym long) names
           (λ p t w s before at b there.
           let lt = got_within (signal_at c.pins (pin_text Y)) at (OnWire b) there in
           let law = refines (bit_in p m.wires w) (λ x. refl) (knows (cell_shape own c.params) [] (output_link c Y r ∷ []) p t w s) at (omega (arith, wide)) in
@@ -152,7 +152,7 @@ module _ (table : PortTable) (m : Module) (ready : IsReady (types.table_ports ta
       pub becomes : (new : NewCell) → Refines (cell_shape own c.params) (operands_in cells done rest (cell_shape own c.params) c.pins) (Becomes new) → IsFormed c new → SigIn (length m.wires) new.a → SigIn (length m.wires) new.b → SigIn (length m.wires) new.s
           → IsPass table m (record m { cells = flat_map listed done ++ formed new c ∷ rest })
       becomes new refines f a b s =
-          became table m (flat_map listed done) c rest ready is own k Y (combinational_output own word) (formed new c) new.kind f.kind Y (combinational_output new.kind f.word) f.output
+          became table m (flat_map listed done) c rest ready is own k (combinational_plain own word) Y (combinational_output own word) (formed new c) new.kind f.kind Y (combinational_output new.kind f.word) f.output
           (library_faultless (types.table_ports table.modules) (formed new c) new.kind f.kind (combinational_plain new.kind f.word) f.fit (f.wires ((whole c own_cell).wires own k word)))
           (f.within (length m.wires) a b s output_within)
           (λ p t w r before at bit there.

@@ -42,8 +42,8 @@ use Rattle.net_model.specs.Within.{SigIn}
 use Rattle.net_model.proofs.Members.{In-left, In-right}
 use Rattle.pass_laws.specs.Pass.{IsPass}
 use Rattle.pass_laws.specs.Ready.{IsReady}
-use Rattle.pass_laws.specs.Replaces.{IsFaultless, replacing}
-use Rattle.pass_laws.proofs.Alone.{FitsKind, fits_kind}
+use Rattle.pass_laws.specs.Replaces.{replacing}
+use Rattle.pass_laws.proofs.Alone.{HasShape, IsSound, shape_of}
 use Rattle.pass_laws.proofs.Driving.{joined_in, output_signal, own_driver, own_in, row_of}
 use Rattle.pass_laws.proofs.Forming.{own_cells}
 use Rattle.pass_laws.proofs.Giving.{given, output_link, passed_on, signal_in}
@@ -107,7 +107,7 @@ module _ (table : PortTable) (m : Module) (pre : List Cell) (c : Cell) (post : L
   stands : In e m.cells
   stands = subst (In e) (sym is) (In-left e pre (c ∷ post) kept)
 
-  sound : IsFaultless (types.table_ports table.modules) e
+  sound : IsSound (types.table_ports table.modules) e
   sound = own_cells (types.table_ports table.modules) m ready e stands
 
   -- of a kind that drives this pin
@@ -122,8 +122,8 @@ module _ (table : PortTable) (m : Module) (pre : List Cell) (c : Cell) (post : L
     within : SigIn (length m.wires) (signal_at e.pins (pin_text name))
     within = signal_in (length m.wires) e.pins (pin_text name) (ready.within.cells e stands)
 
-    fits : FitsKind e kind
-    fits = fits_kind (types.table_ports table.modules) e kind kind_e sound
+    fits : HasShape e kind
+    fits = shape_of (types.table_ports table.modules) e kind kind_e sound
 
     abbrev more : List Link
     more = output_link c name (signal_at e.pins (pin_text name)) ∷ []
@@ -168,7 +168,7 @@ module _ (table : PortTable) (m : Module) (pre : List Cell) (c : Cell) (post : L
         let lt = get_within (signal_at c.pins (pin_text name)) at (OnWire b) there in
         let q = wire_at (signal_at e.pins (pin_text name)) at (output_wires kind e name drives fits.output) (omega (arith, lt, width)) in
         let signal_is : output_signal e kind ≡ signal_at e.pins (pin_text name) = ap (λ o. option_map_or (λ n. signal_at e.pins (pin_text n)) o []) drives in
-        let own_row = own_in p m.wires start e kind fits.plain at q.bit (ap (λ z. slice_get z at) signal_is ∙ q.there) in
+        let own_row = own_in p m.wires start e kind plain at q.bit (ap (λ z. slice_get z at) signal_is ∙ q.there) in
         let row_e = pre_in m pre post [] more (flat.table_ports table) p _ (cell_among start (flat.table_ports table) p m.wires pre e _ kept (subst (λ k. In (row_of p m.wires q.bit (own_driver start p m.wires e kind at q.bit)) (cell_rows start (flat.table_ports table) p m.wires e k)) (sym kind_e) own_row)) in
         let has = s.met _ row_e in
         let gives = drives_alike t w p m.wires m.links (follow_read p m.wires m.links t w (links_solved p t w s) (links_before p t before)) start kind c e alike at b q.bit (same_start at b q.bit there q.there)
@@ -177,7 +177,7 @@ module _ (table : PortTable) (m : Module) (pre : List Cell) (c : Cell) (post : L
         (Below_trans (value_of (own_driver start p m.wires c kind at b) t w) (value_of (own_driver start p m.wires e kind at q.bit) t w) (w (bit_place p m.wires q.bit)) gives has)
 
     pub goes : IsPass table m (replacing pre [] post (output_link c name (signal_at e.pins (pin_text name)) ∷ []) m)
-    goes = given table m pre c post ready is kind kind_c name drives (signal_at e.pins (pin_text name)) width within value
+    goes = given table m pre c post ready is kind kind_c plain name drives (signal_at e.pins (pin_text name)) width within value
 
 -- the kind of a cell that may be merged is its own
 logic_own : (o : Option CellKind) (k : CellKind) → logic_kind o ≡ Some k → o ≡ Some k
@@ -190,6 +190,18 @@ logic_own (Some (Memory a)) k e = absurd (cc)
 
 pub own_kind : (c : Cell) (k : CellKind) → merging_kind c ≡ Some k → cell_kind c ≡ Some k
 own_kind c k e = logic_own (cell_kind c) k (merging_logic c k e)
+
+-- it is none of a memory
+logic_plain : (o : Option CellKind) (k : CellKind) → logic_kind o ≡ Some k → is_memory_kind k ≡ false
+logic_plain None k e = absurd (cc)
+logic_plain (Some (Word a)) k e = let same : k ≡ Word a = cc in ap is_memory_kind same
+logic_plain (Some (Gate a)) k e = let same : k ≡ Gate a = cc in ap is_memory_kind same
+logic_plain (Some (Storage a)) k e = let same : k ≡ Storage a = cc in ap is_memory_kind same
+logic_plain (Some (StorageGate a)) k e = let same : k ≡ StorageGate a = cc in ap is_memory_kind same
+logic_plain (Some (Memory a)) k e = absurd (cc)
+
+pub merging_plain : (c : Cell) (k : CellKind) → merging_kind c ≡ Some k → is_memory_kind k ≡ false
+merging_plain c k e = logic_plain (cell_kind c) k (merging_logic c k e)
 
 -- one cell goes
 pub one_goes : (table : PortTable) (m : Module) (pre : List Cell) (c : Cell) (post : List Cell) → IsReady (types.table_ports table.modules) m → m.cells ≡ pre ++ c ∷ post
@@ -207,7 +219,7 @@ one_goes table m pre c post ready is (StorageGate k) own e kept same alike =
     goes table m pre c post ready is (StorageGate k) own e kept same alike Q refl refl (own_kind e (StorageGate k) same) (own_kind c (StorageGate k) own)
     (λ at b d f g. starts_at (start_of m.wires m.processes) (signal_at c.pins (pin_text Q)) (signal_at e.pins (pin_text Q)) (ap (λ (u : Traits). u.starts) alike) at (OnWire b) (OnWire d) f g)
 one_goes table m pre c post ready is (Memory k) own e kept same alike =
-    absurd (let f = merging_logic c (Memory k) own in let g : logic_kind (Some (Memory k)) ≡ Some (Memory k) = subst (λ o. logic_kind o ≡ Some (Memory k)) (own_kind c (Memory k) own) f in cc)
+    absurd (let e : true ≡ false = merging_plain c (Memory k) own in cc)
 
 -- what is found stands in the list and passes the test
 found_in : (p : Cell → Bool) (cs : List Cell) (e : Cell) → find p cs ≡ Some e → In e cs × (p e ≡ true)

@@ -18,11 +18,12 @@ use Rattle.rtl_ir.specs.declared.wire.Wire.{Wire}
 use Rattle.rtl_ir.specs.Drivers.{Drive, drive_count, drives_of}
 use Rattle.rtl_ir.specs.Fault.{Fault, TwoDrivers, fault_if}
 use Rattle.rtl_ir.specs.Faults.Bits.{bit_faults, bits_faults, faults_of_two, has_two}
+use Rattle.rtl_ir.specs.Faults.Cells.{is_memory_kind}
 use Rattle.rtl_ir.specs.Flat.Cell.{cell_kind}
 use Rattle.rtl_ir.specs.Follow.{Join, all_joins, joins}
 use Rattle.rtl_ir.specs.Outputs.{output_pin}
 use Rattle.rtl_ir.specs.Parameters.{signal_at}
-use Rattle.rtl_ir.specs.Scope.{cells_alone}
+use Rattle.rtl_ir.specs.Scope.{without_processes}
 use Rattle.rtl_ir.specs.Signals.{same_bit, wire_bits}
 use Rattle.rtl_ir.specs.Types.{Ports, cell_type}
 use Rattle.net_index.specs.Numbering.{number_of, widths_of}
@@ -32,8 +33,7 @@ use Rattle.net_model.specs.Lists.{In}
 use Rattle.net_model.specs.Within.{Each}
 use Rattle.pass_laws.specs.Bits.{cells_bits, links_bits, pin_bits}
 use Rattle.pass_laws.specs.Ready.{IsReady}
-use Rattle.pass_laws.specs.Replaces.{IsFaultless}
-use Rattle.pass_laws.proofs.Alone.{fits_kind}
+use Rattle.pass_laws.proofs.Alone.{IsSound, shape_of}
 use Rattle.pass_laws.proofs.Counting.{count, count_more, driven_count}
 use Rattle.pass_laws.proofs.Faultless.{no_faults, none_left, none_right, plain, type_is}
 use Rattle.pass_laws.proofs.Forming.{own_cells, own_links}
@@ -42,7 +42,7 @@ use Rattle.opt_merge.specs.Merge.{bits_by, drives_own}
 use Rattle.opt_merge.specs.State.{IsDrivenOnce, driven_by, linked_by, times}
 use Rattle.opt_merge.specs.Traits.{merging_kind, output_of}
 use Rattle.opt_merge.proofs.Driving.{joins_times, times_append}
-use Rattle.opt_merge.proofs.Refining.{own_kind}
+use Rattle.opt_merge.proofs.Refining.{merging_plain, own_kind}
 
 times_count : (b : WireBit) (xs : List WireBit) → times b xs ≡ count b xs
 times_count b [] = refl
@@ -87,21 +87,21 @@ one_driver id ds first (v ∷ vs) e (suc i) at l =
     subst (λ z. drive_count ds (record { wire = z; at = at }) ≤ 1) next (one_driver id ds (first + 1) vs (none_right (flat_map (bit_faults id ds first v) (range_with_len 0 v.width)) (bits_faults id ds (first + 1) vs) e) i at l)
 
 -- the bits of a cell that may be merged are those that the check counts
-bits_named : (ports : Ports) (c : Cell) (kind : CellKind) (name : PinName) → output_pin kind ≡ Some name → cell_kind c ≡ Some kind → IsFaultless ports c → wire_bits (output_of kind c) ≡ pin_bits (cell_type ports c.kind_name) c.pins
-bits_named ports c kind name drives own fine =
-    let fits = fits_kind ports c kind own fine in
+bits_named : (ports : Ports) (c : Cell) (kind : CellKind) (name : PinName) → is_memory_kind kind ≡ false → output_pin kind ≡ Some name → cell_kind c ≡ Some kind → IsSound ports c → wire_bits (output_of kind c) ≡ pin_bits (cell_type ports c.kind_name) c.pins
+bits_named ports c kind name plain drives own fine =
+    let fits = shape_of ports c kind own fine in
     ap (λ o. wire_bits (option_map_or (λ n. signal_at c.pins (pin_text n)) o [])) drives
-    ∙ sym (output_bits kind c fits.plain fits.fit name drives)
+    ∙ sym (output_bits kind c plain fits.fit name drives)
     ∙ ap (λ t. pin_bits t c.pins) (sym (type_is ports c kind own))
 
-bits_are : (ports : Ports) (c : Cell) (kind : CellKind) → merging_kind c ≡ Some kind → IsFaultless ports c → wire_bits (output_of kind c) ≡ pin_bits (cell_type ports c.kind_name) c.pins
-bits_are ports c (Word k) own fine = bits_named ports c (Word k) Y refl (own_kind c (Word k) own) fine
-bits_are ports c (Gate k) own fine = bits_named ports c (Gate k) Y refl (own_kind c (Gate k) own) fine
-bits_are ports c (Storage k) own fine = bits_named ports c (Storage k) Q refl (own_kind c (Storage k) own) fine
-bits_are ports c (StorageGate k) own fine = bits_named ports c (StorageGate k) Q refl (own_kind c (StorageGate k) own) fine
-bits_are ports c (Memory k) own fine = absurd (let fits = fits_kind ports c (Memory k) (own_kind c (Memory k) own) fine in let e : true ≡ false = fits.plain in cc)
+bits_are : (ports : Ports) (c : Cell) (kind : CellKind) → merging_kind c ≡ Some kind → IsSound ports c → wire_bits (output_of kind c) ≡ pin_bits (cell_type ports c.kind_name) c.pins
+bits_are ports c (Word k) own fine = bits_named ports c (Word k) Y refl refl (own_kind c (Word k) own) fine
+bits_are ports c (Gate k) own fine = bits_named ports c (Gate k) Y refl refl (own_kind c (Gate k) own) fine
+bits_are ports c (Storage k) own fine = bits_named ports c (Storage k) Q refl refl (own_kind c (Storage k) own) fine
+bits_are ports c (StorageGate k) own fine = bits_named ports c (StorageGate k) Q refl refl (own_kind c (StorageGate k) own) fine
+bits_are ports c (Memory k) own fine = absurd (let e : true ≡ false = merging_plain c (Memory k) own in cc)
 
-cell_fewer : (ports : Ports) (b : WireBit) (c : Cell) → IsFaultless ports c → times b (bits_by c) ≤ count b (pin_bits (cell_type ports c.kind_name) c.pins)
+cell_fewer : (ports : Ports) (b : WireBit) (c : Cell) → IsSound ports c → times b (bits_by c) ≤ count b (pin_bits (cell_type ports c.kind_name) c.pins)
 cell_fewer ports b c fine = by (merging_kind c) refl
   where
     by : (o : Option CellKind) → merging_kind c ≡ o → times b (option_map_or (λ kind. wire_bits (output_of kind c)) o []) ≤ count b (pin_bits (cell_type ports c.kind_name) c.pins)
@@ -111,7 +111,7 @@ cell_fewer ports b c fine = by (merging_kind c) refl
         let counts = times_count b (pin_bits (cell_type ports c.kind_name) c.pins) in
         omega (arith, same, counts)
 
-cells_fewer : (ports : Ports) (b : WireBit) (cells : List Cell) → Each (IsFaultless ports) cells → driven_by b cells ≤ count b (cells_bits ports cells)
+cells_fewer : (ports : Ports) (b : WireBit) (cells : List Cell) → Each (IsSound ports) cells → driven_by b cells ≤ count b (cells_bits ports cells)
 cells_fewer ports b [] fine = omega arith
 cells_fewer ports b (c ∷ cells) fine =
     let here = cell_fewer ports b c (fine c (inl refl)) in
@@ -162,7 +162,7 @@ number_there widths b e = by (number_of widths b) refl e
 pub once_start : (ports : Ports) (m : Module) → IsReady ports m → drives_own m ≡ true → IsDrivenOnce (record { cells = []; links = m.links }) m.cells
 once_start ports m ready own b some =
     let inside = number_there (widths_of m.wires) b (cells_own (λ x. is_some (number_of (widths_of m.wires) x)) b m.cells own (omega (arith, some))) in
-    let one : drive_count (drives_of ports m) (record { wire = 0 + b.wire; at = b.at }) ≤ 1 = one_driver m.id (drives_of ports m) 0 m.wires (no_faults cells_alone ports m ready.faultless).bits b.wire b.at inside in
+    let one : drive_count (drives_of ports m) (record { wire = 0 + b.wire; at = b.at }) ≤ 1 = one_driver m.id (drives_of ports m) 0 m.wires (no_faults without_processes ports m ready.faultless).bits b.wire b.at inside in
     let same : 0 + b.wire ≡ b.wire = omega arith in
     let few : drive_count (drives_of ports m) b ≤ 1 = subst (λ z. drive_count (drives_of ports m) (record { wire = z; at = b.at }) ≤ 1) same one in
     let sum = driven_count ports m (plain ports m ready.faultless).processes (own_links ports m ready) b in

@@ -1,21 +1,19 @@
 -- Cells and connections that have no fault, wherever they stand.
 use Rattle.std.proofs.Common.{◌≡◌, ℕ, ◌+◌, Bool, true, false, List, [], ◌∷◌, ◌++◌, Option, Some, None, inl, inr, refl, sym, ◌∙◌, ap, subst}
-use Rattle.std.specs.Prelude.{◌||◌, ◌&&◌}
+use Rattle.std.specs.Prelude.{◌||◌, ◌&&◌, not}
 use Rattle.std.specs.List.{list_any}
 use Rattle.cell_types.specs.Kind.{kind_of}
 use Rattle.cell_types.specs.Unsupported.{is_unsupported}
-use Rattle.cell_types.specs.declared.fault.CellFault.{CellFault}
-use Rattle.cell_types.specs.declared.fault.CellFault.TheVariants.{Bad, Wide, Width, Memory}
 use Rattle.cell_types.specs.declared.kind.CellKind.{CellKind}
 use Rattle.cell_types.specs.declared.kind.CellKind.TheVariants as Cells
 use Rattle.rtl_ir.specs.Empty.{empty_module}
 use Rattle.rtl_ir.specs.Fault.{Fault, Spot, BadParameterOrPort, BadPort, UnsupportedCell, fault_if, link_spot, spot}
 use Rattle.rtl_ir.specs.Fault as fault
-use Rattle.rtl_ir.specs.Faults.Cells.{cell_faults, faults_by_type, has_constant_output, has_other_width, is_memory_kind, lacks_port, misfit, output_faults, shape_fault}
+use Rattle.rtl_ir.specs.Faults.Cells.{faults_by_type, has_constant_output, has_other_width, is_memory_kind, lacks_port, memory_faults, misfit, output_faults, shape_fault}
 use Rattle.rtl_ir.specs.Faults.Links.{is_uneven, link_faults}
 use Rattle.rtl_ir.specs.Flat.Cell.{cell_kind}
 use Rattle.rtl_ir.specs.Rules.{has_item}
-use Rattle.rtl_ir.specs.Scope.{cells_alone}
+use Rattle.rtl_ir.specs.Scope.{Scope, cells_alone}
 use Rattle.rtl_ir.specs.Signals.{has_constant}
 use Rattle.rtl_ir.specs.Types.{CellType, Instance, Library, Ports, Unknown, Unsupported, cell_type, type_by}
 use Rattle.rtl_ir.specs.declared.cell.Cell.{Cell}
@@ -24,8 +22,8 @@ use Rattle.rtl_ir.specs.declared.module.Module.{Module}
 use Rattle.rtl_ir.specs.declared.ports.PortLine.{PortLine}
 use Rattle.net_model.specs.Lists.{In}
 use Rattle.net_model.specs.Within.{Each}
-use Rattle.pass_laws.specs.Replaces.{IsEven, IsFaultless}
-use Rattle.pass_laws.proofs.Faultless.{all_fine, fits, no_cell_faults, none_left, none_right, type_is}
+use Rattle.pass_laws.specs.Replaces.{IsEven, IsFaultless, IsOutside}
+use Rattle.pass_laws.proofs.Faultless.{fits, no_cell_faults, none_left, none_right, type_is}
 
 -- the kind of a cell whose type is of the library
 pub own_kind : (ports : Ports) (c : Cell) (kind : CellKind) → cell_type ports c.kind_name ≡ Library kind → cell_kind c ≡ Some kind
@@ -44,83 +42,119 @@ pub is_false : (t : Bool) (a : Fault) → fault_if t a ≡ [] → t ≡ false
 is_false false a e = refl
 is_false true a e = absurd (cc)
 
--- what tells no fault of one item tells none of another
-none_of : (t : Bool) (a b : Fault) → fault_if t a ≡ [] → fault_if t b ≡ []
-none_of t a b e = ap (λ z. fault_if z b) (is_false t a e)
-
-no_shape : (o : Option CellFault) (a b : Spot) → shape_fault a o ≡ [] → shape_fault b o ≡ []
-no_shape None a b e = refl
-no_shape (Some Bad) a b e = absurd (cc)
-no_shape (Some Wide) a b e = absurd (cc)
-no_shape (Some Width) a b e = absurd (cc)
-no_shape (Some Memory) a b e = refl
-
 -- three lists of faults that are empty
 three : {a b c : List Fault} → a ≡ [] → b ≡ [] → c ≡ [] → (a ++ b) ++ c ≡ []
 three e f g = λ i. (e i ++ f i) ++ g i
 
-module _ (m n : Module) (c : Cell) (earlier later : List Cell) where
+-- what a cell of the library has that has no faults but those of memories
+pub record HasShape (c : Cell) (kind : CellKind) : Type 0 where
+  pub fit : misfit kind c ≡ None
+  pub output : has_constant_output (Library kind) c.pins ≡ false
+
+-- the same of an instance of a module with these ports
+pub record HasPorts (c : Cell) (lines : List PortLine) : Type 0 where
+  pub known : (has_item c.params || list_any (lacks_port lines) c.pins) ≡ false
+  pub widths : list_any (has_other_width lines) c.pins ≡ false
+  pub output : has_constant_output (Instance lines) c.pins ≡ false
+
+-- a cell of this type has no faults but those of memories
+abbrev pub IsSoundBy : Cell → CellType → Type 0
+IsSoundBy c (Library kind) = HasShape c kind
+IsSoundBy c (Instance lines) = HasPorts c lines
+IsSoundBy c Unsupported = ⊥
+IsSoundBy c Unknown = ⊥
+
+abbrev pub IsSound : Ports → Cell → Type 0
+IsSound ports c = IsSoundBy c (cell_type ports c.kind_name)
+
+-- the type of cells of memories
+abbrev pub is_memory_type : CellType → Bool
+is_memory_type (Library kind) = is_memory_kind kind
+is_memory_type type = false
+
+module _ (scope : Scope) (m : Module) (c : Cell) (earlier : List Cell) where
   abbrev here : Spot
   here = spot m.id c.name
 
-  abbrev there : Spot
-  there = spot n.id c.name
-
-  -- a cell of the library: its type, its shape and its output
-  plain_kind : (kind : CellKind) → (shape_fault here (misfit kind c) ++ output_faults here (Library kind) c.pins) ++ [] ≡ [] → (shape_fault there (misfit kind c) ++ output_faults there (Library kind) c.pins) ++ [] ≡ []
-  plain_kind kind e =
-      let two : shape_fault here (misfit kind c) ++ output_faults here (Library kind) c.pins ≡ [] = none_left (shape_fault here (misfit kind c) ++ output_faults here (Library kind) c.pins) [] e in
-      three
-      (no_shape (misfit kind c) here there (none_left (shape_fault here (misfit kind c)) (output_faults here (Library kind) c.pins) two))
-      (none_of (has_constant_output (Library kind) c.pins) (BadPort here) (BadPort there) (none_right (shape_fault here (misfit kind c)) (output_faults here (Library kind) c.pins) two))
-      refl
-
-  by_type : (type : CellType) → faults_by_type cells_alone m earlier c type ≡ [] → faults_by_type cells_alone n later c type ≡ []
-  by_type (Library (Cells.Word kind)) e = plain_kind (Cells.Word kind) e
-  by_type (Library (Cells.Gate kind)) e = plain_kind (Cells.Gate kind) e
-  by_type (Library (Cells.Storage kind)) e = plain_kind (Cells.Storage kind) e
-  by_type (Library (Cells.StorageGate kind)) e = plain_kind (Cells.StorageGate kind) e
-  by_type (Library (Cells.Memory kind)) e = absurd (cc)
-  by_type (Instance lines) e =
+  pub sound_by : (type : CellType) → faults_by_type scope m earlier c type ≡ [] → IsSoundBy c type
+  sound_by (Library kind) e =
+      let k : List Fault = fault_if (is_memory_kind kind && not scope.memories) (UnsupportedCell here) in
+      let s : List Fault = shape_fault here (misfit kind c) in
+      let o : List Fault = output_faults here (Library kind) c.pins in
+      let first : (k ++ s) ++ o ≡ [] = none_left ((k ++ s) ++ o) (memory_faults scope.clocks m earlier c kind) e in
+      record {
+        fit = fits here c kind (none_right k s (none_left (k ++ s) o first));
+        output = is_false (has_constant_output (Library kind) c.pins) (BadPort here) (none_right (k ++ s) o first);
+      }
+  sound_by (Instance lines) e =
       let bad : Bool = has_item c.params || list_any (lacks_port lines) c.pins in
       let wide : Bool = list_any (has_other_width lines) c.pins in
       let driven : Bool = has_constant_output (Instance lines) c.pins in
-      let two : fault_if bad (BadParameterOrPort here) ++ fault_if wide (fault.Width here) ≡ [] = none_left (fault_if bad (BadParameterOrPort here) ++ fault_if wide (fault.Width here)) (fault_if driven (BadPort here)) e in
-      three
-      (none_of bad (BadParameterOrPort here) (BadParameterOrPort there) (none_left (fault_if bad (BadParameterOrPort here)) (fault_if wide (fault.Width here)) two))
-      (none_of wide (fault.Width here) (fault.Width there) (none_right (fault_if bad (BadParameterOrPort here)) (fault_if wide (fault.Width here)) two))
-      (none_of driven (BadPort here) (BadPort there) (none_right (fault_if bad (BadParameterOrPort here) ++ fault_if wide (fault.Width here)) (fault_if driven (BadPort here)) e))
-  by_type Unsupported e = absurd (cc)
-  by_type Unknown e = absurd (cc)
+      let b : List Fault = fault_if bad (BadParameterOrPort here) in
+      let w : List Fault = fault_if wide (fault.Width here) in
+      let o : List Fault = fault_if driven (BadPort here) in
+      let first : b ++ w ≡ [] = none_left (b ++ w) o e in
+      record {
+        known = is_false bad (BadParameterOrPort here) (none_left b w first);
+        widths = is_false wide (fault.Width here) (none_right b w first);
+        output = is_false driven (BadPort here) (none_right (b ++ w) o e);
+      }
+  sound_by Unsupported e = absurd (cc)
+  sound_by Unknown e = absurd (cc)
 
--- what a cell of the library without faults has
+  -- the shape and the output of a cell of the library
+  pub shape_none : (kind : CellKind) → HasShape c kind → {rest : List Fault} → rest ≡ [] → (shape_fault here (misfit kind c) ++ output_faults here (Library kind) c.pins) ++ rest ≡ []
+  shape_none kind s e = three (ap (shape_fault here) s.fit) (ap (λ t. fault_if t (BadPort here)) s.output) e
+
+  -- a cell that is none of a memory has no further faults
+  pub others_by : (type : CellType) → is_memory_type type ≡ false → IsSoundBy c type → faults_by_type scope m earlier c type ≡ []
+  others_by (Library (Cells.Word kind)) e s = shape_none (Cells.Word kind) s refl
+  others_by (Library (Cells.Gate kind)) e s = shape_none (Cells.Gate kind) s refl
+  others_by (Library (Cells.Storage kind)) e s = shape_none (Cells.Storage kind) s refl
+  others_by (Library (Cells.StorageGate kind)) e s = shape_none (Cells.StorageGate kind) s refl
+  others_by (Library (Cells.Memory kind)) e s = absurd (cc)
+  others_by (Instance lines) e s =
+      three (ap (λ t. fault_if t (BadParameterOrPort here)) s.known) (ap (λ t. fault_if t (fault.Width here)) s.widths) (ap (λ t. fault_if t (BadPort here)) s.output)
+  others_by Unsupported e s = absurd s
+  others_by Unknown e s = absurd s
+
+-- what a cell of the library has that is without faults where cells alone are taken
 pub record FitsKind (c : Cell) (kind : CellKind) : Type 0 where
   pub plain : is_memory_kind kind ≡ false
   pub fit : misfit kind c ≡ None
   pub output : has_constant_output (Library kind) c.pins ≡ false
 
 module _ (ports : Ports) where
-  -- a cell without faults in one module has none in any
-  pub fine_anywhere : (m : Module) (earlier : List Cell) (c : Cell) → faults_by_type cells_alone m earlier c (cell_type ports c.kind_name) ≡ [] → IsFaultless ports c
-  fine_anywhere m earlier c e n later = by_type m n c earlier later (cell_type ports c.kind_name) e
+  -- the type of a cell that is none of a memory
+  pub outside_type : (c : Cell) → IsOutside c → is_memory_type (cell_type ports c.kind_name) ≡ false
+  outside_type c outside = by (cell_type ports c.kind_name) refl
+    where
+      by : (type : CellType) → cell_type ports c.kind_name ≡ type → is_memory_type type ≡ false
+      by (Library kind) e = outside kind (own_kind ports c kind e)
+      by (Instance lines) e = refl
+      by Unsupported e = refl
+      by Unknown e = refl
 
-  -- the cells of a module without faults
-  pub cells_faultless : (m : Module) (earlier cs : List Cell) → cell_faults cells_alone ports m earlier cs ≡ [] → Each (IsFaultless ports) cs
-  cells_faultless m earlier cs e c i =
-      let fine = all_fine cells_alone ports m earlier cs e c i in
-      fine_anywhere m fine.0 c fine.1
+  -- what a cell of the library has, of no faults but those of memories
+  pub shape_of : (c : Cell) (kind : CellKind) → cell_kind c ≡ Some kind → IsSound ports c → HasShape c kind
+  shape_of c kind own sound = subst (IsSoundBy c) (type_is ports c kind own) sound
+
+  -- cells that are none of a memory have no faults where cells alone are taken
+  pub sound_faultless : (c : Cell) → IsOutside c → IsSound ports c → IsFaultless ports c
+  sound_faultless c outside sound m earlier =
+      others_by cells_alone m c earlier (cell_type ports c.kind_name) (outside_type c outside) sound
+
+  pub faultless_sound : (c : Cell) → IsFaultless ports c → IsSound ports c
+  faultless_sound c fine =
+      sound_by cells_alone (empty_module []) c [] (cell_type ports c.kind_name) (fine (empty_module []) [])
 
   -- a cell of the library that fits its kind, drives no constant, and is none of a memory
   pub library_faultless : (c : Cell) (kind : CellKind) → cell_kind c ≡ Some kind → is_memory_kind kind ≡ false → misfit kind c ≡ None → has_constant_output (Library kind) c.pins ≡ false → IsFaultless ports c
-  library_faultless c kind own plain fit output m earlier =
-      ap (faults_by_type cells_alone m earlier c) (type_is ports c kind own) ∙ by kind plain (three (ap (shape_fault (spot m.id c.name)) fit) (ap (λ t. fault_if t (BadPort (spot m.id c.name))) output) refl)
+  library_faultless c kind own plain fit output =
+      sound_faultless c (λ k e. subst (λ z. is_memory_kind z ≡ false) (same k e) plain) (subst (IsSoundBy c) (sym (type_is ports c kind own)) (record { fit = fit; output = output }))
     where
-      by : (kind : CellKind) → is_memory_kind kind ≡ false → (shape_fault (spot m.id c.name) (misfit kind c) ++ output_faults (spot m.id c.name) (Library kind) c.pins) ++ [] ≡ [] → faults_by_type cells_alone m earlier c (Library kind) ≡ []
-      by (Cells.Word k) f e = e
-      by (Cells.Gate k) f e = e
-      by (Cells.Storage k) f e = e
-      by (Cells.StorageGate k) f e = e
-      by (Cells.Memory k) f e = absurd (cc)
+      same : (k : CellKind) → cell_kind c ≡ Some k → kind ≡ k
+      same k e = let both : Some kind ≡ Some k = sym own ∙ e in cc
 
   pub fits_kind : (c : Cell) (kind : CellKind) → cell_kind c ≡ Some kind → IsFaultless ports c → FitsKind c kind
   fits_kind c kind own fine =
@@ -135,11 +169,8 @@ module _ (ports : Ports) where
       plain false e = refl
       plain true e = absurd (cc)
 
-  -- cells without faults have none together
-  pub none_there : (m : Module) (earlier cs : List Cell) → Each (IsFaultless ports) cs → cell_faults cells_alone ports m earlier cs ≡ []
-  none_there m earlier [] h = refl
-  none_there m earlier (c ∷ cs) h =
-      ap (λ z. z ++ cell_faults cells_alone ports m (earlier ++ c ∷ []) cs) (h c (inl refl) m earlier) ∙ none_there m (earlier ++ c ∷ []) cs (λ x i. h x (inr i))
+  pub faultless_outside : (c : Cell) → IsFaultless ports c → IsOutside c
+  faultless_outside c fine kind own = (fits_kind c kind own fine).plain
 
 -- connections without faults have none together
 pub no_link_faults : (id : List ℕ) (number : ℕ) (links : List Link) → Each IsEven links → link_faults id number links ≡ []

@@ -1,4 +1,4 @@
--- A module without faults where cells alone are taken: no process, no memory, and each cell of the library has its shape.
+-- A module without faults where processes are not taken: it has none, and each cell of the library has its shape.
 use Rattle.std.proofs.Common.{◌≡◌, Bool, true, false, if◌then◌else◌, List, [], ◌∷◌, ◌++◌, Some, None, inl, inr, refl, sym, ◌∙◌, ap, subst}
 use Rattle.std.specs.Prelude.{flat_map, not, ◌&&◌}
 use Rattle.cell_types.specs.Fault.{has_other_width, is_bad, is_wide}
@@ -16,12 +16,11 @@ use Rattle.rtl_ir.specs.Faults.Stores.{store_faults}
 use Rattle.rtl_ir.specs.Faults.Wires.{wire_faults}
 use Rattle.rtl_ir.specs.Flat.Cell.{cell_kind}
 use Rattle.rtl_ir.specs.Parameters.{given_params}
-use Rattle.rtl_ir.specs.Scope.{Scope, cells_alone}
+use Rattle.rtl_ir.specs.Scope.{Scope, without_processes}
 use Rattle.rtl_ir.specs.Types.{Library, Ports, cell_type, type_by}
 use Rattle.rtl_ir.specs.declared.cell.Cell.{Cell}
 use Rattle.rtl_ir.specs.declared.module.Module.{Module}
 use Rattle.rtl_ir.specs.declared.process.Process.{Process}
-use Rattle.rtl_ir.specs.declared.store.Store.{Store}
 use Rattle.net_model.specs.Lists.{In}
 
 pub none_left : {A : Type 0} (xs ys : List A) → xs ++ ys ≡ [] → xs ≡ []
@@ -80,19 +79,10 @@ no_cell_faults scope ports m earlier c kind own e =
     let k : List Fault = fault_if (is_memory_kind kind && not scope.memories) (UnsupportedCell here) in
     let s : List Fault = shape_fault here (misfit kind c) in
     let o : List Fault = output_faults here (Library kind) c.pins in
-    let all : ((k ++ s) ++ o) ++ memory_faults m earlier c kind ≡ [] = sym (library_faults scope ports m earlier c kind own) ∙ e in
-    let three : (k ++ s) ++ o ≡ [] = none_left ((k ++ s) ++ o) (memory_faults m earlier c kind) all in
+    let all : ((k ++ s) ++ o) ++ memory_faults scope.clocks m earlier c kind ≡ [] = sym (library_faults scope ports m earlier c kind own) ∙ e in
+    let three : (k ++ s) ++ o ≡ [] = none_left ((k ++ s) ++ o) (memory_faults scope.clocks m earlier c kind) all in
     let two : k ++ s ≡ [] = none_left (k ++ s) o three in
     record { known = none_left k s two; shape = none_right k s two; output = none_right (k ++ s) o three }
-
--- where cells alone are taken, none is a cell of a memory
-no_memory : (ports : Ports) (m : Module) (c : Cell) → IsFine cells_alone ports m c → (kind : CellKind) → cell_kind c ≡ Some kind → is_memory_kind kind ≡ false
-no_memory ports m c fine kind own =
-    by (is_memory_kind kind) (no_cell_faults cells_alone ports m fine.0 c kind own fine.1).known
-  where
-    by : (t : Bool) → fault_if (t && true) (UnsupportedCell (spot m.id c.name)) ≡ [] → t ≡ false
-    by false e = refl
-    by true e = absurd (cc)
 
 -- the parts of the faults of a module
 pub record HasNoFaults (scope : Scope) (ports : Ports) (m : Module) : Type 0 where
@@ -124,29 +114,20 @@ no_faults scope ports m e =
       bits = none_right ((((w ++ s) ++ c) ++ p) ++ l) b e;
     }
 
-no_stores : (id : List _) (stores : List Store) → flat_map (store_faults cells_alone id) stores ≡ [] → stores ≡ []
-no_stores id [] e = refl
-no_stores id (s ∷ stores) e = absurd (cc)
-
-no_processes : (ports : Ports) (m : Module) (earlier processes : List Process) → process_faults cells_alone ports m earlier processes ≡ [] → processes ≡ []
+no_processes : (ports : Ports) (m : Module) (earlier processes : List Process) → process_faults without_processes ports m earlier processes ≡ [] → processes ≡ []
 no_processes ports m earlier [] e = refl
 no_processes ports m earlier (p ∷ processes) e = absurd (cc)
 
--- what a module without faults has where cells alone are taken
+-- what a module without faults has where processes are not taken
 pub record IsPlain (m : Module) : Type 0 where
   pub processes : m.processes ≡ []
-  pub memories : m.memories ≡ []
   pub cells : AreFit m.cells
-  -- none of the cells is one of a memory
-  pub others : (c : Cell) → In c m.cells → (kind : CellKind) → cell_kind c ≡ Some kind → is_memory_kind kind ≡ false
 
-pub plain : (ports : Ports) (m : Module) → module_faults cells_alone ports m ≡ [] → IsPlain m
+pub plain : (ports : Ports) (m : Module) → module_faults without_processes ports m ≡ [] → IsPlain m
 plain ports m e =
-    let none = no_faults cells_alone ports m e in
+    let none = no_faults without_processes ports m e in
     record {
       processes = no_processes ports m [] m.processes none.processes;
-      memories = no_stores m.id m.memories none.stores;
-      cells = λ c i kind own. let fine = all_fine cells_alone ports m [] m.cells none.cells c i in
-          fits (spot m.id c.name) c kind (no_cell_faults cells_alone ports m fine.0 c kind own fine.1).shape;
-      others = λ c i. no_memory ports m c (all_fine cells_alone ports m [] m.cells none.cells c i);
+      cells = λ c i kind own. let fine = all_fine without_processes ports m [] m.cells none.cells c i in
+          fits (spot m.id c.name) c kind (no_cell_faults without_processes ports m fine.0 c kind own fine.1).shape;
     }

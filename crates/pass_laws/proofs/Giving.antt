@@ -15,6 +15,7 @@ use Rattle.rtl_bits.specs.declared.bit.Bit.TheVariants.{Dash, M, S0, S1, X, Z}
 use Rattle.rtl_sig.specs.declared.sig.SigBit.{SigBit}
 use Rattle.rtl_sig.specs.declared.sig.SigBit.TheVariants.{Fixed, Wire as OnWire}
 use Rattle.rtl_sig.specs.declared.sig.WireBit.{WireBit}
+use Rattle.rtl_ir.specs.Faults.Cells.{is_memory_kind}
 use Rattle.rtl_ir.specs.Flat.Cell.{cell_kind, cell_rows, cells_rows, instance_of, instances, listed}
 use Rattle.rtl_ir.specs.Flat.Driver.{Driven, Joined}
 use Rattle.rtl_ir.specs.Flat.Link.{joins, link_rows}
@@ -44,8 +45,8 @@ use Rattle.net_model.specs.Within.{CellIn, Each, LinkIn, SigIn}
 use Rattle.pass_laws.specs.Bits.{cells_bits, links_bits, pin_bits}
 use Rattle.pass_laws.specs.Pass.{IsPass}
 use Rattle.pass_laws.specs.Ready.{IsReady}
-use Rattle.pass_laws.specs.Replaces.{IsEven, IsFaultless, Replaces, replacing}
-use Rattle.pass_laws.proofs.Alone.{FitsKind, fits_kind}
+use Rattle.pass_laws.specs.Replaces.{IsEven, IsFaultless, IsOutside, Replaces, replacing}
+use Rattle.pass_laws.proofs.Alone.{FitsKind, fits_kind, sound_faultless}
 use Rattle.pass_laws.proofs.Driving.{joined_in, output_signal, own_driver, own_in, own_row, row_of}
 use Rattle.pass_laws.proofs.Faultless.{type_is}
 use Rattle.pass_laws.proofs.Forming.{own_cells}
@@ -80,12 +81,16 @@ output_link c name right = record { left = signal_at c.pins (pin_text name); rig
 pub in_middle : (pre : List Cell) (c : Cell) (post : List Cell) → In c (pre ++ c ∷ post)
 in_middle pre c post = In-right c pre (c ∷ post) (inl refl)
 
-module _ (table : PortTable) (m : Module) (pre : List Cell) (c : Cell) (post : List Cell) (ready : IsReady (types.table_ports table.modules) m) (is : m.cells ≡ pre ++ c ∷ post) (kind : CellKind) (own : cell_kind c ≡ Some kind) (name : PinName) (drives : output_pin kind ≡ Some name) where
+module _ (table : PortTable) (m : Module) (pre : List Cell) (c : Cell) (post : List Cell) (ready : IsReady (types.table_ports table.modules) m) (is : m.cells ≡ pre ++ c ∷ post) (kind : CellKind) (own : cell_kind c ≡ Some kind) (plain : is_memory_kind kind ≡ false) (name : PinName) (drives : output_pin kind ≡ Some name) where
   stands : In c m.cells
   stands = subst (In c) (sym is) (in_middle pre c post)
 
+  outside : IsOutside c
+  outside k e = let both : Some kind ≡ Some k = sym own ∙ e in let same : kind ≡ k = cc in subst (λ z. is_memory_kind z ≡ false) same plain
+
   sound : IsFaultless (types.table_ports table.modules) c
-  sound = own_cells (types.table_ports table.modules) m ready c stands
+  sound =
+      sound_faultless (types.table_ports table.modules) c outside (own_cells (types.table_ports table.modules) m ready c stands)
 
   fits : FitsKind c kind
   fits = fits_kind (types.table_ports table.modules) c kind own sound
@@ -134,6 +139,7 @@ module _ (table : PortTable) (m : Module) (pre : List Cell) (c : Cell) (post : L
 
     gives : IsGiven → Replaces table m pre c post [] (output_link c name right ∷ [])
     gives value = record {
+      outside = outside;
       children = sym no_instance;
       bits = same_bits;
       places = λ p. places_by_bits p m.wires (types.table_ports table.modules) (flat.table_ports table) (start_of m.wires m.processes) c kind own sound [] (output_link c name right ∷ []) (sym no_instance) (λ g i. absurd i) all_even same_bits;
@@ -189,6 +195,7 @@ module _ (table : PortTable) (m : Module) (pre : List Cell) (c : Cell) (post : L
 
     becomes : IsBetter → Replaces table m pre c post (d ∷ []) []
     becomes value = record {
+      outside = outside;
       children = no_instance';
       bits = new_bits;
       places = λ p. places_by_bits p m.wires (types.table_ports table.modules) (flat.table_ports table) (start_of m.wires m.processes) c kind own sound (d ∷ []) [] no_instance' (one (IsFaultless (types.table_ports table.modules)) sound') (λ l i. absurd i) new_bits;

@@ -1,10 +1,12 @@
 pub mod Faultless
 pub mod Alone
+pub mod Accesses
 pub mod Counting
 pub mod Forming
 pub mod Agreeing
 pub mod Passes
 pub mod Moving
+pub mod Memories
 pub mod Rewriting
 pub mod Outputs
 pub mod Placing

@@ -41,3 +41,27 @@ module _ {A : Type 0} where
       (λ l. s.2 x (⊎_elim (λ p. In-left x a ((b ++ c) ++ d) p) (λ q. In-right x a ((b ++ c) ++ d) (⊎_elim (λ m. In-left x (b ++ c) d (In-left x b c m)) (λ n. In-right x (b ++ c) d n) (In-cases x b d q))) (In-cases x a (b ++ d) i)) l)
       (λ r. ⊎_elim (λ p. t.2 x p (In-left x (b ++ c) d (In-right x b c r))) (λ q. ⊎_elim (λ y. w.2 x y r) (λ y. v.2 x (In-right x b c r) y) (In-cases x b d q)) (In-cases x a (b ++ d) i))
       (In-cases x e c j))
+
+  -- the same with a further list behind all
+  pub moved_in_front : (a b c d e f : List A) (x : A) → In x ((a ++ (b ++ d)) ++ ((e ++ c) ++ f)) → In x ((a ++ ((b ++ c) ++ d)) ++ (e ++ f))
+  moved_in_front a b c d e f x i =
+      moved_in a b c d (e ++ f) x (⊎_elim
+      (λ l. In-left x (a ++ (b ++ d)) ((e ++ f) ++ c) l)
+      (λ r. In-right x (a ++ (b ++ d)) ((e ++ f) ++ c) (⊎_elim
+      (λ q. ⊎_elim (λ u. In-left x (e ++ f) c (In-left x e f u)) (λ v. In-right x (e ++ f) c v) (In-cases x e c q))
+      (λ q. In-left x (e ++ f) c (In-right x e f q))
+      (In-cases x (e ++ c) f r)))
+      (In-cases x (a ++ (b ++ d)) ((e ++ c) ++ f) i))
+
+  pub moved_front : (a b c d e f : List A) → Distinct ((a ++ ((b ++ c) ++ d)) ++ (e ++ f)) → Distinct ((a ++ (b ++ d)) ++ ((e ++ c) ++ f))
+  moved_front a b c d e f u =
+      let front : List A = a ++ (b ++ d) in
+      let s = split front ((e ++ f) ++ c) (moved a b c d (e ++ f) u) in
+      let t = split (e ++ f) c s.1 in
+      let v = split e f t.0 in
+      let ec : Distinct (e ++ c) = Distinct-append e c v.0 t.1 (λ x i j. t.2 x (In-left x e f i) j) in
+      let ecf : Distinct ((e ++ c) ++ f) = Distinct-append (e ++ c) f ec v.1 (λ x i j. ⊎_elim (λ l. v.2 x l j) (λ r. t.2 x (In-right x e f j) r) (In-cases x e c i)) in
+      Distinct-append front ((e ++ c) ++ f) s.0 ecf (λ x i j. s.2 x i (⊎_elim
+      (λ q. ⊎_elim (λ l. In-left x (e ++ f) c (In-left x e f l)) (λ r. In-right x (e ++ f) c r) (In-cases x e c q))
+      (λ q. In-left x (e ++ f) c (In-right x e f q))
+      (In-cases x (e ++ c) f j)))

@@ -1,7 +1,6 @@
 -- One cell of a module goes: cells come in its place, and connections behind all others.
 use Rattle.std.proofs.Common.{◌≡◌, ◌≤◌, ◌+◌, List, [], ◌∷◌, ◌++◌, ◌⊎◌, length, inl, inr, ⊎_elim, refl, sym, ◌∙◌, ap, subst, append_assoc, arith}
 use Rattle.std.specs.Prelude.{map}
-use Rattle.std.proofs.lemmas.List.{append-nil}
 use Rattle.rtl_bits.specs.declared.bit.Bit.{Bit}
 use Rattle.rtl_sig.specs.declared.sig.SigBit.{SigBit}
 use Rattle.rtl_sig.specs.declared.sig.WireBit.{WireBit}
@@ -30,12 +29,15 @@ use Rattle.net_model.specs.Within.{CellIn, Each, LinkIn}
 use Rattle.pass_laws.specs.Bits.{cells_bits, links_bits}
 use Rattle.pass_laws.specs.Pass.{IsPass}
 use Rattle.pass_laws.specs.Ready.{IsReady}
-use Rattle.pass_laws.specs.Replaces.{IsEven, IsFaultless, Replaces, replacing}
+use Rattle.pass_laws.specs.Replaces.{IsEven, IsOutside, Replaces, replacing}
+use Rattle.pass_laws.proofs.Accesses.{AreAccesses, accesses_replaced}
 use Rattle.pass_laws.proofs.Agreeing.{driven_over}
+use Rattle.pass_laws.proofs.Alone.{IsSound, faultless_outside, faultless_sound}
 use Rattle.pass_laws.proofs.Counting.{cells_more, count, count_more, links_more}
 use Rattle.pass_laws.proofs.Faultless.{IsPlain, plain}
-use Rattle.pass_laws.proofs.Forming.{IsBody, own_cells, own_links, ready_with}
-use Rattle.pass_laws.proofs.Moving.{moved, moved_in}
+use Rattle.pass_laws.proofs.Forming.{IsBody, own_accesses, own_cells, own_links, ready_with}
+use Rattle.pass_laws.proofs.Memories.{memories_same}
+use Rattle.pass_laws.proofs.Moving.{moved_front, moved_in_front}
 use Rattle.pass_laws.proofs.Placing.{places_more}
 
 pub links-append : (p : Path) (wires : List Wire) (ls ks : List Link) → link_rows p wires (ls ++ ks) ≡ link_rows p wires ls ++ link_rows p wires ks
@@ -47,13 +49,12 @@ links-append p wires (l ∷ ls) ks =
 each_more : {A : Type 0} (P : A → Type 0) (xs ys : List A) → Each P xs → Each P ys → Each P (xs ++ ys)
 each_more P xs ys h k x i = ⊎_elim (λ l. h x l) (λ r. k x r) (In-cases x xs ys i)
 
--- the rows of a module of cells and connections alone
-pub rows_are : (ports : Ports) (p : Path) (m : Module) → m.processes ≡ [] → m.memories ≡ [] → rows_of ports p m ≡ cells_rows (start_of m.wires m.processes) ports p m.wires m.cells ++ link_rows p m.wires m.links
-rows_are ports p m none no_memory =
+-- the rows of a module without processes
+pub rows_are : (ports : Ports) (p : Path) (m : Module) → m.processes ≡ [] → rows_of ports p m ≡ cells_rows (start_of m.wires m.processes) ports p m.wires m.cells ++ (link_rows p m.wires m.links ++ memories_rows p m.wires m.cells m.processes m.memories)
+rows_are ports p m none =
     let start : SigBit → Bit = start_of m.wires m.processes in
     let processes : processes_rows start p m.wires m m.processes ≡ [] = ap (processes_rows start p m.wires m) none in
-    let memories : memories_rows p m.wires m.cells m.processes m.memories ≡ [] = ap (memories_rows p m.wires m.cells m.processes) no_memory in
-    ap (λ z. cells_rows start ports p m.wires m.cells ++ z) ((λ i. link_rows p m.wires m.links ++ (processes i ++ memories i)) ∙ append-nil (link_rows p m.wires m.links))
+    ap (λ z. cells_rows start ports p m.wires m.cells ++ (link_rows p m.wires m.links ++ (z ++ memories_rows p m.wires m.cells m.processes m.memories))) processes
 
 module _ (m : Module) (pre : List Cell) (post here : List Cell) (more : List Link) where
   abbrev new : Module
@@ -93,6 +94,10 @@ module _ (m : Module) (pre : List Cell) (post here : List Cell) (more : List Lin
     pub more_in : (d : Driven) → In d (links more) → In d New
     more_in d i = all_links_in d (In-right d (links m.links) (links more) i)
 
+    memories_in : (d : Driven) → In d (memories_rows p m.wires (pre ++ (here ++ post)) m.processes m.memories) → In d New
+    memories_in d i =
+        In-right d (rows (pre ++ (here ++ post))) (plain_rows p (replacing pre here post more m)) (In-right d (links (m.links ++ more)) (processes_rows (start_of m.wires m.processes) p m.wires (replacing pre here post more m) m.processes ++ memories_rows p m.wires (pre ++ (here ++ post)) m.processes m.memories) (In-right d (processes_rows (start_of m.wires m.processes) p m.wires (replacing pre here post more m) m.processes) (memories_rows p m.wires (pre ++ (here ++ post)) m.processes m.memories) i))
+
 module _ (table : PortTable) (m : Module) (pre : List Cell) (c : Cell) (post here : List Cell) (more : List Link) (ready : IsReady (types.table_ports table.modules) m) (is : m.cells ≡ pre ++ c ∷ post) (r : Replaces table m pre c post here more) where
   fine : IsPlain m
   fine = plain (types.table_ports table.modules) m ready.faultless
@@ -102,6 +107,9 @@ module _ (table : PortTable) (m : Module) (pre : List Cell) (c : Cell) (post her
 
   abbrev start : SigBit → Bit
   start = start_of m.wires m.processes
+
+  new_outside : Each IsOutside here
+  new_outside d i = faultless_outside (types.table_ports table.modules) d (r.cells d i)
 
   module _ (p : Path) where
     abbrev of_cells : List Cell → List Driven
@@ -113,16 +121,25 @@ module _ (table : PortTable) (m : Module) (pre : List Cell) (c : Cell) (post her
     abbrev of_cell : List Driven
     of_cell = cell_rows (start_of m.wires m.processes) (flat.table_ports table) p m.wires c (cell_kind c)
 
-    old_rows : rows_of (flat.table_ports table) p m ≡ (of_cells pre ++ (of_cell ++ of_cells post)) ++ of_links m.links
-    old_rows =
-        rows_are (flat.table_ports table) p m fine.processes fine.memories
-        ∙ ap (λ z. of_cells z ++ of_links m.links) is
-        ∙ ap (λ z. z ++ of_links m.links) (rows-append (start_of m.wires m.processes) (flat.table_ports table) p m.wires pre (c ∷ post))
+    -- the memories keep their rows
+    abbrev of_memories : List Driven
+    of_memories = memories_rows p m.wires (pre ++ (here ++ post)) m.processes m.memories
 
-    new_rows : rows_of (flat.table_ports table) p (replacing pre here post more m) ≡ (of_cells pre ++ (of_cells here ++ of_cells post)) ++ (of_links m.links ++ of_links more)
+    memories_kept : memories_rows p m.wires m.cells m.processes m.memories ≡ of_memories
+    memories_kept =
+        ap (λ z. memories_rows p m.wires z m.processes m.memories) is
+        ∙ sym (memories_same p m.wires m.processes pre c post here r.outside new_outside m.memories)
+
+    old_rows : rows_of (flat.table_ports table) p m ≡ (of_cells pre ++ (of_cell ++ of_cells post)) ++ (of_links m.links ++ of_memories)
+    old_rows =
+        rows_are (flat.table_ports table) p m fine.processes
+        ∙ (λ i. of_cells (is i) ++ (of_links m.links ++ memories_kept i))
+        ∙ ap (λ z. z ++ (of_links m.links ++ of_memories)) (rows-append (start_of m.wires m.processes) (flat.table_ports table) p m.wires pre (c ∷ post))
+
+    new_rows : rows_of (flat.table_ports table) p (replacing pre here post more m) ≡ (of_cells pre ++ (of_cells here ++ of_cells post)) ++ ((of_links m.links ++ of_links more) ++ of_memories)
     new_rows =
-        rows_are (flat.table_ports table) p (replacing pre here post more m) fine.processes fine.memories
-        ∙ (λ i. cells i ++ links-append p m.wires m.links more i)
+        rows_are (flat.table_ports table) p (replacing pre here post more m) fine.processes
+        ∙ (λ i. cells i ++ (links-append p m.wires m.links more i ++ of_memories))
       where
         cells : of_cells (pre ++ (here ++ post)) ≡ of_cells pre ++ (of_cells here ++ of_cells post)
         cells = rows-append (start_of m.wires m.processes) (flat.table_ports table) p m.wires pre (here ++ post) ∙ ap (λ z. of_cells pre ++ z) (rows-append (start_of m.wires m.processes) (flat.table_ports table) p m.wires here post)
@@ -135,32 +152,37 @@ module _ (table : PortTable) (m : Module) (pre : List Cell) (c : Cell) (post her
         (λ a. inl (pre_in m pre post here more (flat.table_ports table) p d a))
         (λ b. ⊎_elim (λ k. inr k) (λ q. inl (post_in m pre post here more (flat.table_ports table) p d q)) (In-cases d of_cell (of_cells post) b))
         (In-cases d (of_cells pre) (of_cell ++ of_cells post) l))
-        (λ k. inl (links_in m pre post here more (flat.table_ports table) p d k))
-        (In-cases d (of_cells pre ++ (of_cell ++ of_cells post)) (of_links m.links) (subst (In d) old_rows i))
+        (λ k. inl (⊎_elim (λ l. links_in m pre post here more (flat.table_ports table) p d l) (λ s. memories_in m pre post here more (flat.table_ports table) p d s) (In-cases d (of_links m.links) of_memories k)))
+        (In-cases d (of_cells pre ++ (of_cell ++ of_cells post)) (of_links m.links ++ of_memories) (subst (In d) old_rows i))
 
-    -- five lists of places
-    old_places : places_of (rows_of (flat.table_ports table) p m) ≡ (places_of (of_cells pre) ++ ((places_of (of_cells here) ++ places_of (of_links more)) ++ places_of (of_cells post))) ++ places_of (of_links m.links)
+    -- six lists of places
+    old_places : places_of (rows_of (flat.table_ports table) p m) ≡ (places_of (of_cells pre) ++ ((places_of (of_cells here) ++ places_of (of_links more)) ++ places_of (of_cells post))) ++ (places_of (of_links m.links) ++ places_of of_memories)
     old_places =
         ap places_of old_rows
-        ∙ places_more (of_cells pre ++ (of_cell ++ of_cells post)) (of_links m.links)
-        ∙ ap (λ z. z ++ places_of (of_links m.links)) (places_more (of_cells pre) (of_cell ++ of_cells post) ∙ ap (λ z. places_of (of_cells pre) ++ z) (places_more of_cell (of_cells post) ∙ ap (λ z. z ++ places_of (of_cells post)) (sym (r.places p))))
+        ∙ places_more (of_cells pre ++ (of_cell ++ of_cells post)) (of_links m.links ++ of_memories)
+        ∙ (λ i. cells i ++ places_more (of_links m.links) of_memories i)
+      where
+        cells : places_of (of_cells pre ++ (of_cell ++ of_cells post)) ≡ places_of (of_cells pre) ++ ((places_of (of_cells here) ++ places_of (of_links more)) ++ places_of (of_cells post))
+        cells =
+            places_more (of_cells pre) (of_cell ++ of_cells post)
+            ∙ ap (λ z. places_of (of_cells pre) ++ z) (places_more of_cell (of_cells post) ∙ ap (λ z. z ++ places_of (of_cells post)) (sym (r.places p)))
 
-    new_places : places_of (rows_of (flat.table_ports table) p (replacing pre here post more m)) ≡ (places_of (of_cells pre) ++ (places_of (of_cells here) ++ places_of (of_cells post))) ++ (places_of (of_links m.links) ++ places_of (of_links more))
+    new_places : places_of (rows_of (flat.table_ports table) p (replacing pre here post more m)) ≡ (places_of (of_cells pre) ++ (places_of (of_cells here) ++ places_of (of_cells post))) ++ ((places_of (of_links m.links) ++ places_of (of_links more)) ++ places_of of_memories)
     new_places =
         ap places_of new_rows
-        ∙ places_more (of_cells pre ++ (of_cells here ++ of_cells post)) (of_links m.links ++ of_links more)
-        ∙ (λ i. cells i ++ places_more (of_links m.links) (of_links more) i)
+        ∙ places_more (of_cells pre ++ (of_cells here ++ of_cells post)) ((of_links m.links ++ of_links more) ++ of_memories)
+        ∙ (λ i. cells i ++ (places_more (of_links m.links ++ of_links more) of_memories ∙ ap (λ z. z ++ places_of of_memories) (places_more (of_links m.links) (of_links more))) i)
       where
         cells : places_of (of_cells pre ++ (of_cells here ++ of_cells post)) ≡ places_of (of_cells pre) ++ (places_of (of_cells here) ++ places_of (of_cells post))
         cells = places_more (of_cells pre) (of_cells here ++ of_cells post) ∙ ap (λ z. places_of (of_cells pre) ++ z) (places_more (of_cells here) (of_cells post))
 
     places_apart : Distinct (places_of (rows_of (flat.table_ports table) p m)) → Distinct (places_of (rows_of (flat.table_ports table) p (replacing pre here post more m)))
     places_apart h =
-        subst Distinct (sym new_places) (moved (places_of (of_cells pre)) (places_of (of_cells here)) (places_of (of_links more)) (places_of (of_cells post)) (places_of (of_links m.links)) (subst Distinct old_places h))
+        subst Distinct (sym new_places) (moved_front (places_of (of_cells pre)) (places_of (of_cells here)) (places_of (of_links more)) (places_of (of_cells post)) (places_of (of_links m.links)) (places_of of_memories) (subst Distinct old_places h))
 
     place_before : (q : Place) → In q (places_of (rows_of (flat.table_ports table) p (replacing pre here post more m))) → In q (places_of (rows_of (flat.table_ports table) p m))
     place_before q i =
-        subst (In q) (sym old_places) (moved_in (places_of (of_cells pre)) (places_of (of_cells here)) (places_of (of_links more)) (places_of (of_cells post)) (places_of (of_links m.links)) q (subst (In q) new_places i))
+        subst (In q) (sym old_places) (moved_in_front (places_of (of_cells pre)) (places_of (of_cells here)) (places_of (of_links more)) (places_of (of_cells post)) (places_of (of_links m.links)) (places_of of_memories) q (subst (In q) new_places i))
 
   same_instances : instances m.cells ≡ instances (pre ++ (here ++ post))
   same_instances =
@@ -210,7 +232,8 @@ module _ (table : PortTable) (m : Module) (pre : List Cell) (c : Cell) (post her
 
   still_body : IsBody (types.table_ports table.modules) m (pre ++ (here ++ post)) (m.links ++ more)
   still_body = record {
-    cells = each_replaced (IsFaultless (types.table_ports table.modules)) (own_cells (types.table_ports table.modules) m ready) r.cells;
+    cells = each_replaced (IsSound (types.table_ports table.modules)) (own_cells (types.table_ports table.modules) m ready) (λ d i. faultless_sound (types.table_ports table.modules) d (r.cells d i));
+    accesses = accesses_replaced (types.table_ports table.modules) m m refl pre c post here r.outside new_outside (subst (AreAccesses (types.table_ports table.modules) m []) is (own_accesses (types.table_ports table.modules) m ready));
     links = each_more IsEven m.links more (own_links (types.table_ports table.modules) m ready) r.links;
     cells_within = each_replaced (CellIn (length m.wires)) ready.within.cells r.cells_within;
     links_within = each_more (LinkIn (length m.wires)) m.links more ready.within.links r.links_within;

@@ -16,7 +16,7 @@ use Rattle.rtl_ir.specs.Flat.Cell.{Ports}
 use Rattle.rtl_ir.specs.Flat.Tree as flat
 use Rattle.rtl_ir.specs.Outputs.{drives_pin}
 use Rattle.rtl_ir.specs.Ports.{is_port}
-use Rattle.rtl_ir.specs.Scope.{cells_alone}
+use Rattle.rtl_ir.specs.Scope.{without_processes}
 use Rattle.rtl_ir.specs.Signals.{bits_of_wire, wire_bits}
 use Rattle.rtl_ir.specs.Types as types
 use Rattle.rtl_ir.specs.Types.{CellType, cell_type}
@@ -36,10 +36,10 @@ use Rattle.net_model.specs.Within.{AreInner, BitIn, CellIn, Each, IsWithin, Link
 use Rattle.pass_laws.specs.Bits.{cells_bits, links_bits, pin_bits}
 use Rattle.pass_laws.specs.Pass.{IsPass}
 use Rattle.pass_laws.specs.Ready.{IsReady}
-use Rattle.pass_laws.proofs.Alone.{none_there}
+use Rattle.pass_laws.proofs.Accesses.{accesses_stay, none_there}
 use Rattle.pass_laws.proofs.Counting.{bits_of, count, count_more, driven_count}
 use Rattle.pass_laws.proofs.Faultless.{HasNoFaults, IsPlain, no_faults, plain}
-use Rattle.pass_laws.proofs.Forming.{own_cells, own_links, all_none}
+use Rattle.pass_laws.proofs.Forming.{all_none, own_accesses, own_cells, own_links}
 
 -- wires that are no ports have no faults, and no drivers from outside
 inner_faults : (id : List ℕ) (numbers : List ℤ) (fs : List Wire) → AreInner fs → wire_faults id numbers fs ≡ []
@@ -161,8 +161,8 @@ module _ (m : Module) (fresh : List Wire) (inner : AreInner fresh) where
     fine : IsPlain m
     fine = plain ports m ready.faultless
 
-    none : HasNoFaults cells_alone ports m
-    none = no_faults cells_alone ports m ready.faultless
+    none : HasNoFaults without_processes ports m
+    none = no_faults without_processes ports m ready.faultless
 
     count_none : (b : WireBit) → length m.wires ≤ b.wire → drive_count (drives_of ports m) b ≡ 0
     count_none b h =
@@ -188,7 +188,7 @@ module _ (m : Module) (fresh : List Wire) (inner : AreInner fresh) where
 
     still_ready : IsReady ports (with_wires fresh m)
     still_ready = record {
-      faultless = all_none (more_faults m.id [] m.wires fresh inner ∙ none.wires) none.stores (none_there ports (with_wires fresh m) [] m.cells (own_cells ports m ready)) (ap (process_faults cells_alone ports (with_wires fresh m) []) fine.processes) none.links still_bits;
+      faultless = all_none (more_faults m.id [] m.wires fresh inner ∙ none.wires) none.stores (none_there ports (with_wires fresh m) [] m.cells (own_cells ports m ready) (accesses_stay ports m (with_wires fresh m) refl [] [] (λ name. refl) m.cells (own_accesses ports m ready))) (ap (process_faults without_processes ports (with_wires fresh m) []) fine.processes) none.links still_bits;
       named = named;
       within = record {
         cells = λ c i. cell_wider (length m.wires) (length (m.wires ++ fresh)) longer c (ready.within.cells c i);

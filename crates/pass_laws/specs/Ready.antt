@@ -1,16 +1,21 @@
 -- What a module has that a pass is given.
 use Rattle.std.specs.Prelude.{◌≡◌, [], map}
 use Rattle.rtl_ir.specs.Faults.{module_faults}
-use Rattle.rtl_ir.specs.Scope.{cells_alone}
+use Rattle.rtl_ir.specs.Scope.{Scope, without_processes}
 use Rattle.rtl_ir.specs.Types as types
 use Rattle.rtl_ir.specs.declared.module.Module.{Module}
 use Rattle.rtl_ir.specs.declared.wire.Wire.{Wire}
 use Rattle.net_model.specs.Lists.{Distinct}
 use Rattle.net_model.specs.Within.{IsWithin}
 
--- a module that a pass may be given: no fault, over the ports of these modules, with cells and instances alone; no two wires
--- of one name; each of its signals names wires that it has
-pub record IsReady (ports : types.Ports) (m : Module) : Type 0 where
-  pub faultless : module_faults cells_alone ports m ≡ []
+-- a module with no fault as far as it is taken, over the ports of these modules; no two wires of one name; each of its signals
+-- names wires that it has
+pub record IsReadyWithin (scope : Scope) (ports : types.Ports) (m : Module) : Type 0 where
+  pub faultless : module_faults scope ports m ≡ []
   pub named : Distinct (map (λ (w : Wire). w.name) m.wires)
   pub within : IsWithin m
+
+-- a module that a pass may be given: with cells, instances and memories, and no process. Clocks of write ports are not compared:
+-- a pass may close a loop of connections, or take one away, and a bit of a loop follows to itself
+abbrev pub IsReady : types.Ports → Module → Type 0
+IsReady ports m = IsReadyWithin without_processes ports m

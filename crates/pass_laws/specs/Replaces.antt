@@ -1,6 +1,7 @@
 -- One cell of a module goes: cells come in its place, and connections behind all others.
-use Rattle.std.specs.Prelude.{◌≡◌, false, List, [], ◌∷◌, ◌++◌, length}
-use Rattle.rtl_ir.specs.Faults.Cells.{faults_by_type}
+use Rattle.std.specs.Prelude.{◌≡◌, false, List, [], ◌∷◌, ◌++◌, length, Some}
+use Rattle.cell_types.specs.declared.kind.CellKind.{CellKind}
+use Rattle.rtl_ir.specs.Faults.Cells.{faults_by_type, is_memory_kind}
 use Rattle.rtl_ir.specs.Faults.Links.{is_uneven}
 use Rattle.rtl_ir.specs.Flat.Cell.{cell_kind, cell_rows, cells_rows, instances}
 use Rattle.rtl_ir.specs.Flat.Driver.{Driven}
@@ -29,6 +30,10 @@ abbrev pub IsFaultless : types.Ports → Cell → Type 0
 IsFaultless ports g =
     (m : Module) (earlier : List Cell) → faults_by_type cells_alone m earlier g (cell_type ports g.kind_name) ≡ []
 
+-- a cell that is none of a memory
+abbrev pub IsOutside : Cell → Type 0
+IsOutside c = (kind : CellKind) → cell_kind c ≡ Some kind → is_memory_kind kind ≡ false
+
 -- a connection without faults: its sides have one width, and no constant stands on its left
 pub record IsEven (l : Link) : Type 0 where
   pub width : is_uneven l ≡ false
@@ -40,6 +45,8 @@ replacing pre here post more m = record m { cells = pre ++ (here ++ post); links
 
 -- what is owed of a cell of a module, between others, where cells come in its place and connections go last
 pub record Replaces (table : PortTable) (m : Module) (pre : List Cell) (c : Cell) (post here : List Cell) (more : List Link) : Type 0 where
+  -- the cell is none of a memory, whose rows are those of the memory
+  pub outside : IsOutside c
   -- the instances among the cells are those that the cell is
   pub children : instances here ≡ instances (c ∷ [])
   -- the cells and then the connections drive the bits that the cell drives

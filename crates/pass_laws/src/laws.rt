@@ -17,9 +17,9 @@ pub fn passes_in_turn()
         IsPass table a c }
 {}
 
-/// Cells may come in the place of one cell, and connections behind all others, where they drive the
-/// bits that the cell drives, have no faults, and each solution of the new rows meets those of the
-/// cell.
+/// Cells may come in the place of one cell that is none of a memory, and connections behind all
+/// others, where they drive the bits that the cell drives, have no faults, and each solution of the new
+/// rows meets those of the cell.
 pub fn cells_may_be_replaced()
     ensures pass { (table : PortTable) (m : Module) (pre : List Cell) (c : Cell) (post here : List Cell)
         (more : List Link) → IsReady (table_ports table.modules) m → m.cells ≡ pre ++ c ∷ post →

@@ -7,6 +7,10 @@ use std::alloc::Global;
 /// The ports of each module.
 const HEAD: &[u8] = b"module \\m\n wire input 1 \\a\n wire input 2 \\b\n wire output 3 \\y\n";
 
+/// A memory of 65,536 words of one bit, which one port writes and one reads.
+const MEMORY: &[u8] =
+    b"module \\m\n  wire input 1 \\clk\n  wire width 16 input 2 \\wa\n  wire input 3 \\d\n  wire width 16 input 4 \\ra\n  wire output 5 \\q\n  memory size 65536 \\k\n  cell $memwr_v2 $w\n    parameter \\MEMID \"\\\\k\"\n    parameter \\ABITS 16\n    parameter \\WIDTH 1\n    parameter \\CLK_ENABLE 1\n    parameter \\CLK_POLARITY 1\n    parameter \\PORTID 0\n    parameter \\PRIORITY_MASK 1'0\n    connect \\CLK \\clk\n    connect \\EN 1'1\n    connect \\ADDR \\wa\n    connect \\DATA \\d\n  end\n  cell $memrd $r\n    parameter \\MEMID \"\\\\k\"\n    parameter \\ABITS 16\n    parameter \\WIDTH 1\n    parameter \\CLK_ENABLE 0\n    parameter \\CLK_POLARITY 0\n    parameter \\TRANSPARENT 0\n    connect \\ADDR \\ra\n    connect \\DATA \\q\n  end\nend\n";
+
 /// What is large.
 #[derive(Clone, Copy)]
 enum Large {
@@ -61,15 +65,9 @@ fn module_text(alloc: Global, large: Large, gates: u32) -> Result<Text, Memory> 
     Ok(text)
 }
 
-/// How many cells the module has after the word.
-fn cells_after(
-    alloc: Global,
-    large: Large,
-    gates: u32,
-    word: &str,
-) -> Result<Option<usize>, Memory> {
-    let text = module_text(alloc, large, gates)?;
-    let Some(netlist) = netlist_of(alloc, text.as_slice(), word.as_bytes())? else {
+/// How many cells the first module of the text has after the word.
+fn cells_of(alloc: Global, text: &[u8], word: &str) -> Result<Option<usize>, Memory> {
+    let Some(netlist) = netlist_of(alloc, text, word.as_bytes())? else {
         return Ok(None);
     };
     Ok(
@@ -81,20 +79,34 @@ fn cells_after(
     )
 }
 
+/// How many cells a module of so many gates has after the word.
+fn cells_after(
+    alloc: Global,
+    large: Large,
+    gates: u32,
+    word: &str,
+) -> Result<Option<usize>, Memory> {
+    let text = module_text(alloc, large, gates)?;
+    cells_of(alloc, text.as_slice(), word)
+}
+
 /// How many cells are left of the large modules.
 #[derive(Drop)]
 pub struct Left {
     pub cleaned: Option<usize>,
     pub folded: Option<usize>,
     pub merged: Option<usize>,
+    /// How many cells the large memory becomes: a match, a choice and a register for each word, and the read tree.
+    pub expanded: Option<usize>,
 }
 
 /// How many cells are left of 100,000 gates in a chain to nothing, cleaned, of 200,000 gates that pass a bit on, folded, and
-/// of 50,000 gates that are the same, merged.
+/// of 50,000 gates that are the same, merged; and how many a memory becomes.
 pub fn left_of(alloc: Global) -> Result<Left, Memory> {
     Ok(Left {
         cleaned: cells_after(alloc, Large::IdleChain, 100_000, "opt_clean")?,
         folded: cells_after(alloc, Large::Passing, 200_000, "opt_expr")?,
         merged: cells_after(alloc, Large::Equal, 50_000, "opt_merge")?,
+        expanded: cells_of(alloc, MEMORY, "memory")?,
     })
 }

@@ -26,9 +26,10 @@ fn main(rt: HostRuntime) -> ExitCode {
         cleaned,
         folded,
         merged,
+        expanded,
     } = left;
     match println!(rt;
-        "{rows} rows of passes, {bad} of them otherwise than told; of large modules are left: {cleaned:?}, {folded:?}, {merged:?}"
+        "{rows} rows of passes, {bad} of them otherwise than told; of large modules are left: {cleaned:?}, {folded:?}, {merged:?}; a large memory becomes {expanded:?}"
     ) {
         Ok(()) => ExitCode::SUCCESS,
         Err(_) => ExitCode::FAILURE,

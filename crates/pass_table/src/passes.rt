@@ -16,12 +16,13 @@ use std::alloc::Global;
 struct Builds;
 
 /// The words that have a pass, by their names.
-const WORDS: [(&str, Word); 6] = [
+const WORDS: [(&str, Word); 7] = [
     ("proc", Word::Proc),
     ("opt_expr", Word::OptExpr),
     ("opt_merge", Word::OptMerge),
     ("opt_clean", Word::OptClean),
     ("opt", Word::Opt),
+    ("memory", Word::Memory),
     ("techmap", Word::Techmap),
 ];
 
@@ -40,9 +41,14 @@ fn has_pass(word: Word) -> bool
     ensures there { result ≡ true → HasPass word }
 {
     match word {
-        Word::Proc | Word::OptExpr | Word::OptMerge | Word::OptClean | Word::Opt | Word::Techmap =>
-            { true }
-        Word::Fsm | Word::Memory => false,
+        Word::Proc
+        | Word::OptExpr
+        | Word::OptMerge
+        | Word::OptClean
+        | Word::Opt
+        | Word::Memory
+        | Word::Techmap => true,
+        Word::Fsm => false,
     }
 }
 

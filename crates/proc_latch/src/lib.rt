@@ -11,17 +11,17 @@ mod side;
 mod sources;
 mod walk;
 
-ghost use Rattle.std.specs.Prelude.{◌≡◌, Bool, Err, IfOk, OnOk, true};
+ghost use Rattle.std.specs.Prelude.{◌≡◌, Err, IfOk, OnOk};
 ghost use Rattle.rtl_ir.specs.Flat.Cell.{Ports, instances};
 ghost use Rattle.rtl_ir.specs.Ports.{ports_of};
+ghost use Rattle.rtl_ir.specs.Scope.{with_processes};
 ghost use Rattle.rtl_ir.specs.Types.{table_ports};
 ghost use Rattle.net_index.specs.Builder.{IsInLimits};
 ghost use Rattle.net_model.specs.Proc.Latch.{proc_latch_of};
 ghost use Rattle.net_model.specs.Refine.{IsWellDriven, RefinesIn};
-ghost use Rattle.proc_laws.specs.Ready.{AreRuled, HaveNoStarts, IsReady, with_processes};
-ghost use Rattle.proc_laws.specs.Rebuilds.{KeepsEnds};
+ghost use Rattle.proc_laws.specs.Ready.{AreRuled, HaveNoStarts, IsReady};
+ghost use Rattle.proc_laws.specs.Step.{StaysReady};
 ghost use Rattle.sync_laws.specs.Kinds.{HaveNoAlways, HaveNoTwoEdges, HaveNoWrites};
-ghost use Rattle.latch_forms.specs.Lines.{LinesHold};
 ghost use Rattle.proc_latch.specs.Limits.{LatchPassesLimit, latched};
 
 use crate::process::{latches_step, without_always};
@@ -33,22 +33,17 @@ use std::alloc::Global;
 
 /// The module in which the bits that processes always update are latches, or connections where they never hold.
 /// `Over` comes where the module would pass a limit on cells, on bits of wires or on fresh names. In the Yosys manual,
-/// the command `proc_dlatch`. It may be given on as long as no process had two rules at edges, and clocks of write
-/// ports that follow to one end still do, since a new connection may close a loop.
+/// the command `proc_dlatch`. It may be given on as long as no process had two rules at edges.
 pub fn apply(alloc: Global, module: &Module, ports: &PortTable) -> Result<Module, PassFault>
-    requires ready { IsReady (with_processes true) (table_ports ports.now.modules) «module».now }
+    requires ready { IsReady with_processes (table_ports ports.now.modules) «module».now }
     requires ruled { AreRuled «module».now }
     ensures exact { IfOk result (λ after. after ≡ proc_latch_of «module».now) }
     ensures over { result ≡ Err PassFault.Over → LatchPassesLimit «module».now }
     ensures within { OnOk result (IsInLimits (latched «module».now)) }
     ensures refines { IfOk result (λ after. HaveNoTwoEdges «module».now → RefinesIn «module».now after ports.now) }
     ensures well_driven { IfOk result (λ after. (over : Ports) → HaveNoTwoEdges «module».now →
-        LinesHold «module».now → IsWellDriven over «module».now → IsWellDriven over after) }
-    ensures well_formed { IfOk result (λ after. (memories : Bool) →
-        IsReady (with_processes memories) (table_ports ports.now.modules) «module».now →
-        HaveNoTwoEdges «module».now → LinesHold «module».now →
-        (memories ≡ true → KeepsEnds «module».now.links after.links) →
-        IsReady (with_processes memories) (table_ports ports.now.modules) after) }
+        IsWellDriven over «module».now → IsWellDriven over after) }
+    ensures well_formed { IfOk result (λ after. HaveNoTwoEdges «module».now → StaysReady ports.now «module».now after) }
     ensures same_id { IfOk result (λ after. after.id ≡ «module».now.id) }
     ensures same_ports { IfOk result (λ after. ports_of after.wires ≡ ports_of «module».now.wires) }
     ensures same_instances { IfOk result (λ after. instances after.cells ≡ instances «module».now.cells) }

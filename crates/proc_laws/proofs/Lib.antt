@@ -10,4 +10,3 @@ pub mod RebuildMemories
 pub mod RebuildFaults
 pub mod RebuildProcesses
 pub mod Taking
-pub mod RebuildScopes

@@ -1,24 +1,23 @@
 -- A module without faults has none after a step that builds.
-use Rattle.std.proofs.Common.{◌≡◌, ◌≤◌, ◌<◌, ℕ, ◌+◌, Bool, true, false, List, [], ◌∷◌, ◌++◌, length, inl, inr, refl, sym, ◌∙◌, ap, append_assoc, arith, length-append}
+use Rattle.std.proofs.Common.{◌≡◌, ◌≤◌, ◌<◌, ℕ, ◌+◌, true, false, List, [], ◌∷◌, ◌++◌, length, inl, inr, refl, sym, ◌∙◌, ap, append_assoc, arith, length-append}
 use Rattle.std.specs.Prelude.{ℤ, flat_map, int_lt, pos, not, ◌&&◌, ◌||◌}
 use Rattle.std.specs.List.{list_any}
 use Rattle.std.specs.Ordering.{int_eq}
 use Rattle.cell_types.specs.declared.kind.CellKind.TheVariants as Cells
-use Rattle.cell_types.specs.declared.memory.MemoryKind.{MemoryKind}
 use Rattle.rtl_sig.specs.declared.sig.WireBit.{WireBit}
 use Rattle.rtl_ir.specs.Assigns.{tree_bits}
 use Rattle.rtl_ir.specs.Drivers.{Drive, FromRules, FromTree, Source, all_by, cell_drives, drive_count, drives_of, link_drives, port_drives, rule_drives, tree_drives}
-use Rattle.rtl_ir.specs.Fault.{BadMemory, BadPort, Fault, UnsupportedCell, fault_if, spot}
+use Rattle.rtl_ir.specs.Fault.{BadMemory, BadPort, Fault, Spot, UnsupportedCell, fault_if, spot}
 use Rattle.rtl_ir.specs.Faults.Bits.{bits_faults}
-use Rattle.rtl_ir.specs.Faults.Cells.{cell_faults, faults_by_type, memory_faults, misfit, output_faults, shape_fault}
+use Rattle.rtl_ir.specs.Faults.Cells.{cell_faults, faults_by_type, misfit, output_faults, shape_fault}
 use Rattle.rtl_ir.specs.Faults.Links.{link_faults}
 use Rattle.rtl_ir.specs.Faults.MemoryCells.{is_bad_memory_cell}
-use Rattle.rtl_ir.specs.Faults.Processes.{process_faults, faults_of_process}
-use Rattle.rtl_ir.specs.Faults.Stores.{store_faults}
+use Rattle.rtl_ir.specs.Faults.Processes.{process_faults}
+use Rattle.rtl_ir.specs.Faults.Stores.{is_bad_store, store_faults}
 use Rattle.rtl_ir.specs.Faults.Wires.{is_bad_port, is_inout, wire_faults, with_number}
 use Rattle.rtl_ir.specs.Ports.{is_port}
 use Rattle.rtl_ir.specs.Rules.{updated_bits}
-use Rattle.rtl_ir.specs.Scope.{Scope, cells_alone}
+use Rattle.rtl_ir.specs.Scope.{Scope, cells_alone, with_processes, without_processes}
 use Rattle.rtl_ir.specs.Types.{CellType, Instance, Library, Ports, Unknown, Unsupported, cell_type}
 use Rattle.rtl_ir.specs.declared.cell.Cell.{Cell}
 use Rattle.rtl_ir.specs.declared.module.Link.{Link}
@@ -30,18 +29,18 @@ use Rattle.rtl_ir.specs.declared.wire.Wire.{Wire}
 use Rattle.net_model.proofs.Ranges.{each_both}
 use Rattle.net_model.specs.Within.{AreInner, CellIn, Each, LinkIn}
 use Rattle.map_laws.specs.Expansion.{bits_from}
-use Rattle.pass_laws.proofs.Alone.{is_false, links_even, no_link_faults}
+use Rattle.pass_laws.proofs.Alone.{links_even, no_link_faults}
 use Rattle.pass_laws.proofs.Counting.{bits_of, bits_more, cell_drives_bits, cells_more, count, count_more, counted, link_drives_bits, links_more}
 use Rattle.pass_laws.proofs.Faultless.{HasNoFaults, no_faults, none_left, none_right}
 use Rattle.pass_laws.proofs.Forming.{all_none}
 use Rattle.pass_laws.proofs.Widening.{cell_wider, link_wider}
 use Rattle.pass_laws.specs.Bits.{cells_bits, links_bits}
 use Rattle.pass_laws.specs.Replaces.{IsEven, IsFaultless}
-use Rattle.proc_laws.specs.Ready.{IsReady, with_processes, without_processes}
-use Rattle.proc_laws.specs.Rebuilds.{KeepsEnds, Rebuilds, checked_bits, rebuilt}
+use Rattle.proc_laws.specs.Ready.{IsReady}
+use Rattle.proc_laws.specs.Rebuilds.{Rebuilds, checked_bits, rebuilt}
 use Rattle.proc_laws.proofs.CountingBits.{cells_below, count_beyond, fewer, fresh_below, fresh_once, links_below, no_two, ports_below, ports_further}
 use Rattle.proc_laws.proofs.RebuildBits.{checked_below}
-use Rattle.proc_laws.proofs.RebuildMemories.{memory_good}
+use Rattle.proc_laws.proofs.RebuildMemories.{memory_alike}
 
 -- wires that are no ports have no faults
 inner_faults : (id : List ℕ) (numbers : List ℤ) (fs : List Wire) → AreInner fs → wire_faults id numbers fs ≡ []
@@ -91,17 +90,12 @@ drives_count ports m even b =
     two : (xs ys : List Drive) → count b (bits_of (xs ++ ys)) ≡ count b (bits_of xs) + count b (bits_of ys)
     two xs ys = ap (count b) (bits_more xs ys) ∙ count_more b (bits_of xs) (bits_of ys)
 
--- which processes are taken does not matter to those that are
-pub taken_alike : (x y : Bool) (ports : Ports) (m : Module) (earlier qs : List Process) → process_faults (with_processes x) ports m earlier qs ≡ process_faults (with_processes y) ports m earlier qs
-taken_alike x y ports m earlier [] = refl
-taken_alike x y ports m earlier (q ∷ qs) = ap (λ z. faults_of_process (with_processes x) ports m earlier q ++ z) (taken_alike x y ports m (earlier ++ q ∷ []) qs)
-
-module _ (ports : Ports) (m : Module) (fresh : List Wire) (new : List Cell) (more : List Link) (changed : List Process) (memories : Bool) (ready : IsReady (with_processes memories) ports m) (r : Rebuilds ports m fresh new more changed) (keeps : memories ≡ true → KeepsEnds m.links (m.links ++ more)) where
+module _ (ports : Ports) (m : Module) (fresh : List Wire) (new : List Cell) (more : List Link) (changed : List Process) (ready : IsReady with_processes ports m) (r : Rebuilds ports m fresh new more changed) where
   abbrev after : Module
   after = rebuilt fresh new more changed m
 
-  none : HasNoFaults (with_processes memories) ports m
-  none = no_faults (with_processes memories) ports m ready.faultless
+  none : HasNoFaults with_processes ports m
+  none = no_faults with_processes ports m ready.faultless
 
   even : Each IsEven m.links
   even = links_even m.id 1 m.links none.links
@@ -112,41 +106,27 @@ module _ (ports : Ports) (m : Module) (fresh : List Wire) (new : List Cell) (mor
   longer : length m.wires ≤ length (m.wires ++ fresh)
   longer = omega (arith, length-append m.wires fresh)
 
-  -- cells, where the same memories are taken
-  module _ (scope : Scope) (same : memories ≡ scope.memories) where
-    memory_none : (earlier : List Cell) (c : Cell) (kind : MemoryKind) → (t : Bool) → memories ≡ t → faults_by_type (with_processes memories) m earlier c (Library (Cells.Memory kind)) ≡ [] → memory_faults m earlier c (Cells.Memory kind) ≡ [] → memory_faults after earlier c (Cells.Memory kind) ≡ []
-    memory_none earlier c kind true e all own =
-        let good : is_bad_memory_cell m earlier c kind ≡ false = is_false (is_bad_memory_cell m earlier c kind) (BadMemory (spot m.id c.name)) own in
-        ap (λ t. fault_if t (BadMemory (spot m.id c.name))) (memory_good m.links more (keeps e) m after refl refl refl earlier c kind good)
-    memory_none earlier c kind false e all own =
-        let unknown : fault_if (not memories) (UnsupportedCell (spot m.id c.name)) ≡ UnsupportedCell (spot m.id c.name) ∷ [] = ap (λ t. fault_if (not t) (UnsupportedCell (spot m.id c.name))) e in
-        let shape : List Fault = shape_fault (spot m.id c.name) (misfit (Cells.Memory kind) c) in
-        let output : List Fault = output_faults (spot m.id c.name) (Library (Cells.Memory kind)) c.pins in
-        let some : fault_if (not memories) (UnsupportedCell (spot m.id c.name)) ≡ [] = none_left _ shape (none_left _ output (none_left _ (memory_faults m earlier c (Cells.Memory kind)) all)) in
-        absurd (cc)
+  -- cells, where memories are taken and clocks are not compared
+  module _ (scope : Scope) (taken : scope.memories ≡ true) (alike : scope.clocks ≡ false) where
+    -- those of the module, which has the same memories still
+    by_type : (earlier : List Cell) (c : Cell) (t : CellType) → faults_by_type scope after earlier c t ≡ faults_by_type with_processes m earlier c t
+    by_type earlier c (Library (Cells.Word kind)) = refl
+    by_type earlier c (Library (Cells.Gate kind)) = refl
+    by_type earlier c (Library (Cells.Storage kind)) = refl
+    by_type earlier c (Library (Cells.StorageGate kind)) = refl
+    by_type earlier c (Library (Cells.Memory kind)) =
+        let here : Spot = spot m.id c.name in
+        λ i.
+        (fault_if (not (taken i)) (UnsupportedCell here) ++ shape_fault here (misfit (Cells.Memory kind) c) ++ output_faults here (Library (Cells.Memory kind)) c.pins)
+        ++ fault_if ((ap (λ z. is_bad_memory_cell z after earlier c kind) alike ∙ memory_alike after m refl earlier c kind) i) (BadMemory here)
+    by_type earlier c (Instance lines) = refl
+    by_type earlier c Unsupported = refl
+    by_type earlier c Unknown = refl
 
-    by_type : (earlier : List Cell) (c : Cell) (t : CellType) → faults_by_type (with_processes memories) m earlier c t ≡ [] → faults_by_type scope after earlier c t ≡ []
-    by_type earlier c (Library (Cells.Word kind)) e = e
-    by_type earlier c (Library (Cells.Gate kind)) e = e
-    by_type earlier c (Library (Cells.Storage kind)) e = e
-    by_type earlier c (Library (Cells.StorageGate kind)) e = e
-    by_type earlier c (Library (Cells.Memory kind)) e =
-        let shape : List Fault = shape_fault (spot m.id c.name) (misfit (Cells.Memory kind) c) in
-        let output : List Fault = output_faults (spot m.id c.name) (Library (Cells.Memory kind)) c.pins in
-        let known : Bool → List Fault = λ t. (fault_if (not t) (UnsupportedCell (spot m.id c.name)) ++ shape) ++ output in
-        let first : known memories ≡ [] = none_left (known memories) (memory_faults m earlier c (Cells.Memory kind)) e in
-        let last : memory_faults after earlier c (Cells.Memory kind) ≡ [] = memory_none earlier c kind memories refl e (none_right (known memories) (memory_faults m earlier c (Cells.Memory kind)) e) in
-        (λ i. known (sym same i) ++ memory_faults after earlier c (Cells.Memory kind)) ∙ (λ i. first i ++ last i)
-    by_type earlier c (Instance lines) e = e
-    by_type earlier c Unsupported e = e
-    by_type earlier c Unknown e = e
-
-    cells_stay : (earlier cs : List Cell) → cell_faults (with_processes memories) ports m earlier cs ≡ [] → cell_faults scope ports after earlier cs ≡ []
-    cells_stay earlier [] e = refl
-    cells_stay earlier (c ∷ cs) e =
-        let here : List Fault = faults_by_type (with_processes memories) m earlier c (cell_type ports c.kind_name) in
-        let later : List Fault = cell_faults (with_processes memories) ports m (earlier ++ c ∷ []) cs in
-        λ i. by_type earlier c (cell_type ports c.kind_name) (none_left here later e) i ++ cells_stay (earlier ++ c ∷ []) cs (none_right here later e) i
+    cells_stay : (earlier cs : List Cell) → cell_faults scope ports after earlier cs ≡ cell_faults with_processes ports m earlier cs
+    cells_stay earlier [] = refl
+    cells_stay earlier (c ∷ cs) =
+        λ i. by_type earlier c (cell_type ports c.kind_name) i ++ cells_stay (earlier ++ c ∷ []) cs i
 
     -- new cells, which have no faults wherever they stand, are none of a memory
     new_type : (earlier : List Cell) (c : Cell) (t : CellType) → faults_by_type cells_alone after earlier c t ≡ [] → faults_by_type scope after earlier c t ≡ []
@@ -177,10 +157,15 @@ module _ (ports : Ports) (m : Module) (fresh : List Wire) (new : List Cell) (mor
 
     cells_none : cell_faults scope ports after [] (m.cells ++ new) ≡ []
     cells_none =
-        split [] m.cells new ∙ (λ i. cells_stay [] m.cells none.cells i ++ cells_new m.cells new r.cells i)
+        split [] m.cells new ∙ (λ i. (cells_stay [] m.cells ∙ none.cells) i ++ cells_new m.cells new r.cells i)
 
-    stores_none : (ss : List Store) → flat_map (store_faults (with_processes memories) m.id) ss ≡ [] → flat_map (store_faults scope m.id) ss ≡ []
-    stores_none ss e = ap (λ t. flat_map (store_faults (with_processes t) m.id) ss) (sym same) ∙ e
+    stores_none : (ss : List Store) → flat_map (store_faults with_processes m.id) ss ≡ [] → flat_map (store_faults scope m.id) ss ≡ []
+    stores_none [] e = refl
+    stores_none (s ∷ ss) e =
+        let here : List Fault = store_faults with_processes m.id s in
+        let later : List Fault = flat_map (store_faults with_processes m.id) ss in
+        let told : store_faults scope m.id s ≡ here = ap (λ t. fault_if (not t) (UnsupportedCell (spot m.id s.name)) ++ fault_if (is_bad_store s) (BadMemory (spot m.id s.name))) taken in
+        λ i. (told ∙ none_left here later e) i ++ stores_none ss (none_right here later e) i
 
     module _ (processes : process_faults scope ports after [] changed ≡ []) where
       links_none : link_faults m.id 1 (m.links ++ more) ≡ []
@@ -231,9 +216,9 @@ module _ (ports : Ports) (m : Module) (fresh : List Wire) (new : List Cell) (mor
       }
 
   -- with processes taken
-  pub still_ready : IsReady (with_processes memories) ports (rebuilt fresh new more changed m)
-  still_ready = ready_after (with_processes memories) refl (taken_alike memories true ports after [] changed ∙ r.processes)
+  pub still_ready : IsReady with_processes ports (rebuilt fresh new more changed m)
+  still_ready = ready_after with_processes refl refl r.processes
 
   -- and without, where none is left
-  pub last_ready : changed ≡ [] → IsReady (without_processes memories) ports (rebuilt fresh new more changed m)
-  last_ready e = ready_after (without_processes memories) refl (ap (process_faults (without_processes memories) ports after []) e)
+  pub last_ready : changed ≡ [] → IsReady without_processes ports (rebuilt fresh new more changed m)
+  last_ready e = ready_after without_processes refl refl (ap (process_faults without_processes ports after []) e)

@@ -1,5 +1,5 @@
 -- What a module has that a step of `proc` is given.
-use Rattle.std.specs.Prelude.{◌≡◌, ◌<◌, Bool, true, false, List, [], map, slice_get, IsSomeAnd}
+use Rattle.std.specs.Prelude.{◌≡◌, ◌<◌, false, List, slice_get, IsSomeAnd}
 use Rattle.rtl_sig.specs.declared.sig.SigBit.{SigBit}
 use Rattle.rtl_sig.specs.declared.sig.SigBit.TheVariants.{Fixed, Wire as OnWire}
 use Rattle.rtl_ir.specs.declared.cell.Cell.{Cell}
@@ -9,28 +9,16 @@ use Rattle.rtl_ir.specs.declared.module.Module.{Module}
 use Rattle.rtl_ir.specs.declared.process.Process.{Process}
 use Rattle.rtl_ir.specs.declared.process.SyncRule.{SyncRule}
 use Rattle.rtl_ir.specs.declared.wire.Wire.{Wire}
-use Rattle.rtl_ir.specs.Faults.{module_faults}
 use Rattle.rtl_ir.specs.Rules.{has_line, is_init}
 use Rattle.rtl_ir.specs.Scope.{Scope}
 use Rattle.rtl_ir.specs.SwitchRules.{root_by_rules}
 use Rattle.rtl_ir.specs.Types.{Ports}
-use Rattle.net_model.specs.Lists.{Distinct}
-use Rattle.net_model.specs.Within.{Each, IsWithin}
+use Rattle.net_model.specs.Within.{Each}
+use Rattle.pass_laws.specs.Ready.{IsReadyWithin}
 
--- processes are taken, and memories where it is said
-abbrev pub with_processes : Bool → Scope
-with_processes memories = record { memories = memories; processes = λ p. true }
-
--- no process is taken, and memories where it is said
-abbrev pub without_processes : Bool → Scope
-without_processes memories = record { memories = memories; processes = λ p. false }
-
--- a module that a step of `proc` may be given: no fault as far as it is taken, over the ports of these modules; no two wires
--- of one name; each of its signals names wires that it has
-pub record IsReady (scope : Scope) (ports : Ports) (m : Module) : Type 0 where
-  pub faultless : module_faults scope ports m ≡ []
-  pub named : Distinct (map (λ (w : Wire). w.name) m.wires)
-  pub within : IsWithin m
+-- a module that a step of `proc` may be given, or that a pass may be given where no process is taken
+abbrev pub IsReady : Scope → Ports → Module → Type 0
+IsReady scope ports m = IsReadyWithin scope ports m
 
 -- a place of a signal is a constant, or a bit that one of these wires has
 abbrev pub IsBitOf : List Wire → SigBit → Type 0

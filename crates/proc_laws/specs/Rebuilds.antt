@@ -1,7 +1,6 @@
 -- Steps of `proc` that build: fresh wires, cells and connections go last, and the processes become others.
-use Rattle.std.specs.Prelude.{◌≡◌, ◌≤◌, true, not, List, [], ◌∷◌, ◌++◌, length, map, filter, flat_map, count_by, Option, Some}
+use Rattle.std.specs.Prelude.{◌≡◌, ◌≤◌, not, List, [], ◌∷◌, ◌++◌, length, map, filter, flat_map, count_by, Option, Some}
 use Rattle.std.specs.Option.{is_some}
-use Rattle.rtl_sig.specs.declared.sig.SigBit.{SigBit}
 use Rattle.rtl_sig.specs.declared.sig.WireBit.{WireBit}
 use Rattle.rtl_ir.specs.declared.cell.Cell.{Cell}
 use Rattle.rtl_ir.specs.declared.module.Link.{Link}
@@ -16,7 +15,7 @@ use Rattle.rtl_ir.specs.Faults.Processes.{process_faults}
 use Rattle.rtl_ir.specs.Faults.TwoEdges.{EdgeBit, edge_bit}
 use Rattle.rtl_ir.specs.Flat.Cell.{instances}
 use Rattle.rtl_ir.specs.Flat.Process.{Trigger, edge_trigger, level_trigger}
-use Rattle.rtl_ir.specs.Follow.{Join, all_joins, follow, source_at}
+use Rattle.rtl_ir.specs.Follow.{Join, all_joins, source_at}
 use Rattle.rtl_ir.specs.Rules.{acting_rules, updated_bits}
 use Rattle.rtl_ir.specs.Signals.{same_bit}
 use Rattle.rtl_ir.specs.Types.{Ports}
@@ -25,7 +24,7 @@ use Rattle.net_model.specs.Within.{AreInner, CellIn, Each, LinkIn, ProcessIn}
 use Rattle.map_laws.specs.Expansion.{bits_from}
 use Rattle.pass_laws.specs.Bits.{cells_bits, links_bits}
 use Rattle.pass_laws.specs.Replaces.{IsEven, IsFaultless}
-use Rattle.proc_laws.specs.Ready.{with_processes}
+use Rattle.rtl_ir.specs.Scope.{with_processes}
 
 -- the module with fresh wires, cells and connections behind its own, and with these processes
 abbrev pub rebuilt : List Wire → List Cell → List Link → List Process → Module → Module
@@ -82,10 +81,6 @@ driven_bits p = tree_bits p.root ++ rules_bits (acting_rules p.syncs)
 abbrev pub AreAmong : List WireBit → List WireBit → Type 0
 AreAmong xs ys = (b : WireBit) → count_by (λ x. same_bit x b) xs ≤ count_by (λ y. same_bit y b) ys
 
--- bits that follow to one end over some connections do so over others
-abbrev pub KeepsEnds : List Link → List Link → Type 0
-KeepsEnds links links' = (a b : SigBit) → follow links a ≡ follow links b → follow links' a ≡ follow links' b
-
 -- what is owed of what is added to a module, and of the processes that it has then
 pub record Rebuilds (ports : Ports) (m : Module) (fresh : List Wire) (new : List Cell) (more : List Link) (changed : List Process) : Type 0 where
   -- the fresh wires are no ports, and have new names
@@ -96,7 +91,7 @@ pub record Rebuilds (ports : Ports) (m : Module) (fresh : List Wire) (new : List
   pub cells : Each (IsFaultless ports) new
   pub links : Each IsEven more
   -- nor have the processes, in the new module
-  pub processes : process_faults (with_processes true) ports (rebuilt fresh new more changed m) [] changed ≡ []
+  pub processes : process_faults with_processes ports (rebuilt fresh new more changed m) [] changed ≡ []
   -- all name wires of the new module
   pub cells_within : Each (CellIn (length (m.wires ++ fresh))) new
   pub links_within : Each (LinkIn (length (m.wires ++ fresh))) more

@@ -1,5 +1,5 @@
 -- What a step of `proc` promises.
-use Rattle.std.specs.Prelude.{◌≡◌, Bool}
+use Rattle.std.specs.Prelude.{◌≡◌}
 use Rattle.rtl_ir.specs.Flat.Cell as flat
 use Rattle.rtl_ir.specs.Flat.Tree as tree
 use Rattle.rtl_ir.specs.Ports.{ports_of}
@@ -7,7 +7,8 @@ use Rattle.rtl_ir.specs.Types as types
 use Rattle.rtl_ir.specs.declared.module.Module.{Module}
 use Rattle.rtl_ir.specs.declared.ports.PortTable.{PortTable}
 use Rattle.net_model.specs.Refine.{AgreeOn, IsWellDriven, RefinesIn}
-use Rattle.proc_laws.specs.Ready.{IsReady, with_processes, without_processes}
+use Rattle.rtl_ir.specs.Scope.{with_processes}
+use Rattle.proc_laws.specs.Ready.{IsReady}
 
 -- what each step promises over the ports of the modules that are instantiated: name, ports and instances stay, no bit gets a
 -- second driver in whatever design has these ports for the instances, and no known output bit is lost
@@ -20,14 +21,8 @@ pub record IsStep (table : PortTable) (before after : Module) : Type 0 where
       IsWellDriven over before → IsWellDriven over after
   pub refines : RefinesIn before after table
 
--- the answer of a step may be given to the next one, with memories or without
+-- the answer of a step may be given to the next one
 abbrev pub StaysReady : PortTable → Module → Module → Type 0
 StaysReady table before after =
-    (memories : Bool) → IsReady (with_processes memories) (types.table_ports table.modules) before →
-    IsReady (with_processes memories) (types.table_ports table.modules) after
-
--- the answer of the last step may be given to passes that take no process
-abbrev pub BecomesReady : PortTable → Module → Module → Type 0
-BecomesReady table before after =
-    (memories : Bool) → IsReady (with_processes memories) (types.table_ports table.modules) before →
-    IsReady (without_processes memories) (types.table_ports table.modules) after
+    IsReady with_processes (types.table_ports table.modules) before →
+    IsReady with_processes (types.table_ports table.modules) after

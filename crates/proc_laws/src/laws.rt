@@ -1,14 +1,16 @@
 //! Laws of the steps of `proc`. Each is the contract of a function that does nothing.
 
-ghost use Rattle.std.specs.Prelude.{◌≡◌, Bool, true, false, List, [], ◌++◌};
+ghost use Rattle.std.specs.Prelude.{◌≡◌, List, [], ◌++◌};
 ghost use Rattle.rtl_ir.specs.Flat.Cell as flat;
 ghost use Rattle.rtl_ir.specs.Flat.Cell.{instances};
+ghost use Rattle.rtl_ir.specs.Faults.{module_faults};
 ghost use Rattle.rtl_ir.specs.Ports.{ports_of};
+ghost use Rattle.rtl_ir.specs.Scope.{everything, with_processes, without_processes};
 ghost use Rattle.rtl_ir.specs.Types.{Ports};
 ghost use Rattle.net_model.specs.Refine.{IsWellDriven};
 ghost use Rattle.net_model.specs.Within.{IsWithin};
-ghost use Rattle.proc_laws.specs.Ready.{IsReady, with_processes, without_processes};
-ghost use Rattle.proc_laws.specs.Rebuilds.{KeepsEnds, Rebuilds, rebuilt};
+ghost use Rattle.proc_laws.specs.Ready.{IsReady};
+ghost use Rattle.proc_laws.specs.Rebuilds.{Rebuilds, rebuilt};
 ghost use Rattle.proc_laws.specs.Step.{IsStep};
 
 use rtl_ir::{Cell, Link, Module, PortTable, Process, Wire};
@@ -23,17 +25,14 @@ pub fn steps_in_turn()
 /// Fresh wires, cells and connections may go last, and the processes may become others, where the new
 /// items have no faults and drive no more than bits of fresh wires and what processes drove: the module
 /// may still be given to a step, or to a pass where no process is left, it has the same ports and
-/// instances, and no bit gets a second driver. Where memories are taken, clocks that follow to one end
-/// over the connections have to do so with the new ones.
+/// instances, and no bit gets a second driver.
 pub fn steps_may_build()
     ensures ready { (ports : Ports) (m : Module) (fresh : List Wire) (new : List Cell) (more : List Link)
-        (changed : List Process) (memories : Bool) → IsReady (with_processes memories) ports m →
-        Rebuilds ports m fresh new more changed → (memories ≡ true → KeepsEnds m.links (m.links ++ more)) →
-        IsReady (with_processes memories) ports (rebuilt fresh new more changed m) }
-    ensures last { (ports : Ports) (m : Module) (fresh : List Wire) (new : List Cell) (more : List Link)
-        (memories : Bool) → IsReady (with_processes memories) ports m → Rebuilds ports m fresh new more [] →
-        (memories ≡ true → KeepsEnds m.links (m.links ++ more)) →
-        IsReady (without_processes memories) ports (rebuilt fresh new more [] m) }
+        (changed : List Process) → IsReady with_processes ports m → Rebuilds ports m fresh new more changed →
+        IsReady with_processes ports (rebuilt fresh new more changed m) }
+    ensures last { (ports : Ports) (m : Module) (fresh : List Wire) (new : List Cell) (more : List Link) →
+        IsReady with_processes ports m → Rebuilds ports m fresh new more [] →
+        IsReady without_processes ports (rebuilt fresh new more [] m) }
     ensures driven { (ports : Ports) (over : flat.Ports) (m : Module) (fresh : List Wire) (new : List Cell)
         (more : List Link) (changed : List Process) → IsWithin m → Rebuilds ports m fresh new more changed →
         IsWellDriven over m → IsWellDriven over (rebuilt fresh new more changed m) }
@@ -45,13 +44,15 @@ pub fn steps_may_build()
         instances m.cells ≡ instances (m.cells ++ new) }
 {}
 
-/// Where no connection is added, all keep their ends.
-pub fn nothing_keeps_ends()
-    ensures ends { (links : List Link) → KeepsEnds links (links ++ []) }
+/// What the check accepts has no fault where the clocks of write ports are not compared, and so it may be given
+/// to a step.
+pub fn accepted_modules_are_faultless()
+    ensures faultless { (ports : Ports) (m : Module) → module_faults everything ports m ≡ [] →
+        module_faults with_processes ports m ≡ [] }
 {}
 
-/// A module that may be given where no memory is taken may be given where memories are.
-pub fn memories_may_be_taken()
-    ensures ready { (ports : Ports) (m : Module) → IsReady (with_processes false) ports m →
-        IsReady (with_processes true) ports m }
+/// What has no process may be given to a pass.
+pub fn modules_without_processes_may_be_given()
+    ensures ready { (ports : Ports) (m : Module) → m.processes ≡ [] → IsReady with_processes ports m →
+        IsReady without_processes ports m }
 {}

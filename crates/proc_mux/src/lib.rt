@@ -8,15 +8,15 @@ mod process;
 mod runs;
 mod walk;
 
-ghost use Rattle.std.specs.Prelude.{◌≡◌, Bool, Err, IfOk, OnOk, true};
+ghost use Rattle.std.specs.Prelude.{◌≡◌, Err, IfOk, OnOk};
 ghost use Rattle.rtl_ir.specs.Flat.Cell.{Ports, instances};
 ghost use Rattle.rtl_ir.specs.Ports.{ports_of};
+ghost use Rattle.rtl_ir.specs.Scope.{with_processes, without_processes};
 ghost use Rattle.rtl_ir.specs.Types.{table_ports};
 ghost use Rattle.net_index.specs.Builder.{IsInLimits, PassesLimit};
 ghost use Rattle.net_model.specs.Proc.Mux.{proc_mux_of};
 ghost use Rattle.net_model.specs.Refine.{IsWellDriven, RefinesIn};
-ghost use Rattle.proc_laws.specs.Ready.{AreRuled, HaveNoLines, IsReady, with_processes, without_processes};
-ghost use Rattle.proc_laws.specs.Rebuilds.{KeepsEnds};
+ghost use Rattle.proc_laws.specs.Ready.{AreRuled, HaveNoLines, IsReady};
 ghost use Rattle.proc_mux.specs.Limits.{MuxPassesLimit, muxed};
 
 use crate::process::processes_step;
@@ -28,10 +28,9 @@ use std::alloc::Global;
 
 /// The module in which the trees of all processes are multiplexers. It has no process. `Over` comes where the
 /// module would pass a limit on cells, on bits of wires or on fresh names. In the Yosys manual, the command
-/// `proc_mux`. Where memories are taken, it may be given on as long as clocks of write ports that follow to one
-/// end still do, since a new connection may close a loop.
+/// `proc_mux`.
 pub fn apply(alloc: Global, module: &Module, ports: &PortTable) -> Result<Module, PassFault>
-    requires ready { IsReady (with_processes true) (table_ports ports.now.modules) «module».now }
+    requires ready { IsReady with_processes (table_ports ports.now.modules) «module».now }
     requires ruled { AreRuled «module».now }
     requires no_lines { HaveNoLines «module».now }
     ensures exact { IfOk result (λ after. after ≡ proc_mux_of «module».now) }
@@ -39,10 +38,7 @@ pub fn apply(alloc: Global, module: &Module, ports: &PortTable) -> Result<Module
     ensures within { OnOk result (IsInLimits (muxed «module».now)) }
     ensures refines { IfOk result (λ after. RefinesIn «module».now after ports.now) }
     ensures well_driven { IfOk result (λ after. (over : Ports) → IsWellDriven over «module».now → IsWellDriven over after) }
-    ensures well_formed { IfOk result (λ after. (memories : Bool) →
-        IsReady (with_processes memories) (table_ports ports.now.modules) «module».now →
-        (memories ≡ true → KeepsEnds «module».now.links after.links) →
-        IsReady (without_processes memories) (table_ports ports.now.modules) after) }
+    ensures well_formed { IfOk result (λ after. IsReady without_processes (table_ports ports.now.modules) after) }
     ensures same_id { IfOk result (λ after. after.id ≡ «module».now.id) }
     ensures same_ports { IfOk result (λ after. ports_of after.wires ≡ ports_of «module».now.wires) }
     ensures same_instances { IfOk result (λ after. instances after.cells ≡ instances «module».now.cells) }

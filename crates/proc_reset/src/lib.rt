@@ -12,14 +12,15 @@ mod rule;
 mod sets;
 mod signals;
 
-ghost use Rattle.std.specs.Prelude.{◌≡◌, IfOk, true};
+ghost use Rattle.std.specs.Prelude.{◌≡◌, IfOk};
 ghost use Rattle.rtl_ir.specs.Flat.Cell.{Ports, instances};
 ghost use Rattle.rtl_ir.specs.Ports.{ports_of};
+ghost use Rattle.rtl_ir.specs.Scope.{with_processes};
 ghost use Rattle.rtl_ir.specs.Types.{table_ports};
 ghost use Rattle.event_tests.specs.Fitting.{DoCellsFit};
 ghost use Rattle.net_model.specs.Proc.Reset.{proc_reset_of};
 ghost use Rattle.net_model.specs.Refine.{IsWellDriven, RefinesIn};
-ghost use Rattle.proc_laws.specs.Ready.{AreRuled, HasItsBits, HaveNoStarts, IsReady, with_processes};
+ghost use Rattle.proc_laws.specs.Ready.{AreRuled, HasItsBits, HaveNoStarts, IsReady};
 ghost use Rattle.proc_laws.specs.Step.{IsStep, StaysReady};
 ghost use Rattle.sync_laws.specs.Kinds.{HaveNoTwoEdges};
 ghost use Rattle.reset_laws.specs.Trees.{TreesHaveBits};
@@ -36,7 +37,7 @@ use std::alloc::Global;
 /// The module in which of each process with two edges the one that is tested is a level: the reset sets the bits to which it
 /// gives one constant, and where no other bit needs its tests these go. In the Yosys manual, the command `proc_arst`.
 pub fn apply(alloc: Global, module: &Module, ports: &PortTable) -> Result<Module, Memory>
-    requires ready { IsReady (with_processes true) (table_ports ports.now.modules) «module».now }
+    requires ready { IsReady with_processes (table_ports ports.now.modules) «module».now }
     requires ruled { AreRuled «module».now }
     ensures exact { IfOk result (λ after. after ≡ proc_reset_of (table_ports ports.now.modules) «module».now) }
     ensures refines { HaveNoStarts «module».now → HasItsBits «module».now → TreesHaveBits «module».now → IfOk result (λ after. RefinesIn «module».now after ports.now) }

@@ -4,6 +4,7 @@ use Rattle.std.specs.Prelude.{◌&&◌, IfOk, OnOk}
 use Rattle.rtl_ir.specs.declared.module.Module.{Module}
 use Rattle.rtl_ir.specs.declared.ports.PortTable.{PortTable}
 use Rattle.rtl_ir.specs.Build.{Building, building_of}
+use Rattle.rtl_ir.specs.Scope.{with_processes}
 use Rattle.rtl_ir.specs.Types.{Ports, table_ports}
 use Rattle.net_index.specs.Builder.{IsInLimits, PassesLimit}
 use Rattle.net_index.specs.declared.builder_fault.PassFault.{PassFault}
@@ -13,12 +14,11 @@ use Rattle.net_model.specs.Proc.Reset.{proc_reset_of}
 use Rattle.net_model.specs.Proc.Start.{proc_tree_of}
 use Rattle.net_model.specs.Proc.Steps.{proc_of}
 use Rattle.net_model.specs.Proc.Sync.{proc_sync_of, sync_step}
-use Rattle.proc_laws.specs.Ready.{AreRuled, HaveNoStarts, IsReady, with_processes}
-use Rattle.proc_laws.proofs.Taking.{taken_whole}
+use Rattle.proc_laws.specs.Ready.{AreRuled, HaveNoStarts, IsReady}
 use Rattle.sync_laws.specs.Kinds.{HaveNoTwoEdges}
 use Rattle.proc_steps.specs.Limits.{is_within}
 use Rattle.proc_steps.specs.Steps.{Gives, MayBegin, clocked, clocking, latched, latching, leveled, muxing, proc_result}
-use Rattle.proc_steps.proofs.Giving.{clocked_alone, first_whole, latched_alone, latched_edges, latched_starts, level, proc_gives, ruled_alone}
+use Rattle.proc_steps.proofs.Giving.{clocked_ready, latched_edges, latched_ready, latched_starts, level, proc_gives, ruled_ready as tree_ready}
 use Rattle.proc_steps.proofs.Limits.{limits_passed, limits_within}
 
 module _ (table : PortTable) (m : Module) (h : MayBegin table m) where
@@ -26,15 +26,15 @@ module _ (table : PortTable) (m : Module) (h : MayBegin table m) where
   P = table_ports table.modules
 
   module _ (ruled : Module) (is_ruled : ruled ≡ proc_tree_of m) where
-    pub ruled_ready : IsReady (with_processes true) P ruled
-    ruled_ready = subst (IsReady (with_processes true) P) (sym is_ruled) (taken_whole (with_processes false) P (proc_tree_of m) (ruled_alone table m h))
+    pub ruled_ready : IsReady with_processes P ruled
+    ruled_ready = subst (IsReady with_processes P) (sym is_ruled) (tree_ready table m h)
 
     module _ (to : Module) (is_to : to ≡ proc_reset_of P ruled) where
       pub level_is : to ≡ leveled P m
       level_is = is_to ∙ ap (proc_reset_of P) is_ruled
 
-      pub level_ready : IsReady (with_processes true) P to
-      level_ready = subst (IsReady (with_processes true) P) (sym level_is) (taken_whole (with_processes false) P (leveled P m) (level table m h).ready)
+      pub level_ready : IsReady with_processes P to
+      level_ready = subst (IsReady with_processes P) (sym level_is) (level table m h).ready
 
       pub level_ruled : AreRuled to
       level_ruled = subst AreRuled (sym level_is) (level table m h).ruled
@@ -46,8 +46,8 @@ module _ (table : PortTable) (m : Module) (h : MayBegin table m) where
         pub latching_inside : IsInLimits (latching P m)
         latching_inside = subst (λ (n : Module). IsInLimits (latches_step n.processes (building_of n))) level_is inside
 
-        pub next_ready : IsReady (with_processes true) P next
-        next_ready = subst (IsReady (with_processes true) P) (sym next_is) (taken_whole (with_processes false) P (latched P m) (latched_alone table m h latching_inside.names))
+        pub next_ready : IsReady with_processes P next
+        next_ready = subst (IsReady with_processes P) (sym next_is) (latched_ready table m h latching_inside.names)
 
         pub next_starts : HaveNoStarts next
         next_starts = subst HaveNoStarts (sym next_is) (latched_starts table m h latching_inside.names)
@@ -62,8 +62,8 @@ module _ (table : PortTable) (m : Module) (h : MayBegin table m) where
           pub clocking_inside : IsInLimits (clocking P m)
           clocking_inside = subst (λ (n : Module). IsInLimits (sync_step n (building_of n))) next_is within
 
-          pub last_ready : IsReady (with_processes true) P last
-          last_ready = subst (IsReady (with_processes true) P) (sym last_is) (taken_whole (with_processes false) P (clocked P m) (clocked_alone table m h latching_inside.names))
+          pub last_ready : IsReady with_processes P last
+          last_ready = subst (IsReady with_processes P) (sym last_is) (clocked_ready table m h latching_inside.names)
 
 -- ---- the limits
 module _ (P : Ports) (m : Module) where

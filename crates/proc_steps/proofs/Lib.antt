@@ -4,9 +4,6 @@ pub mod RenamingReset
 pub mod RenamingSync
 pub mod Renaming
 pub mod Limits
-pub mod Alone
-pub mod Taken
-pub mod Writes
 pub mod Trees
 pub mod Leveling
 pub mod Giving

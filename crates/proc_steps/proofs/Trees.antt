@@ -12,11 +12,10 @@ use Rattle.rtl_ir.specs.Tree.{Switches, NoSwitch, OneSwitch, Cases, NoCase, OneC
 use Rattle.net_model.specs.Lists.{In}
 use Rattle.net_model.specs.Proc.Start.{begun_wires, proc_tree_of, ruled_process}
 use Rattle.net_model.specs.Within.{Each}
-use Rattle.net_model.proofs.Members.{In-cases, In-left, In-right}
+use Rattle.net_model.proofs.Members.{In-cases, In-left, In-mapped, In-right}
 use Rattle.proc_laws.specs.Ready.{IsBitOf}
 use Rattle.proc_tree.proofs.Lines.{begun_lines, same_bits}
 use Rattle.reset_laws.specs.Trees.{TreesHaveBits}
-use Rattle.proc_steps.proofs.Writes.{from_process}
 
 module _ (l : Link) where
   -- what stands in one of two lists stands in one of two longer ones
@@ -59,6 +58,6 @@ module _ (l : Link) where
 
 pub tree_trees : (m : Module) → TreesHaveBits m → TreesHaveBits (proc_tree_of m)
 tree_trees m h q i =
-    let from = from_process m.processes q i in
+    let from = In-mapped ruled_process q m.processes i in
     subst (λ (p : Process). Each (λ (l : Link). Each (IsBitOf (begun_wires m 0 m.wires)) l.left) (case_assigns p.root)) (sym from.2)
     (λ l j b k. same_bits (begun_wires m 0 m.wires) m.wires (begun_lines m 0 m.wires) b (h from.0 from.1 l (ruled_root l from.0.root j) b k))

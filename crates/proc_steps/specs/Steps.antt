@@ -1,10 +1,10 @@
 -- The pass `proc`, and what a module has that it may be given.
-use Rattle.std.specs.Prelude.{Bool, ◌&&◌, List, [], ◌∷◌, Option, Some, None, if◌then◌else◌}
+use Rattle.std.specs.Prelude.{◌≡◌, Bool, ◌&&◌, List, [], ◌∷◌, Option, Some, None, if◌then◌else◌}
 use Rattle.rtl_ir.specs.declared.module.Module.{Module}
 use Rattle.rtl_ir.specs.declared.ports.PortTable.{PortTable}
 use Rattle.rtl_ir.specs.declared.process.Process.{Process}
 use Rattle.rtl_ir.specs.Build.{Building, building_of}
-use Rattle.rtl_ir.specs.Scope.{no_memories}
+use Rattle.rtl_ir.specs.Scope.{with_processes}
 use Rattle.rtl_ir.specs.Types.{Ports, table_ports}
 use Rattle.net_model.specs.Proc.Steps.{proc_of}
 use Rattle.net_model.specs.Proc.Latch.{latches_step, proc_latch_of}
@@ -16,14 +16,16 @@ use Rattle.pass_laws.specs.Ready as passes
 use Rattle.proc_laws.specs.Ready.{HasItsBits, IsReady}
 use Rattle.proc_laws.specs.Step.{IsStep}
 use Rattle.reset_laws.specs.Trees.{TreesHaveBits}
+use Rattle.write_laws.specs.Lines.{WritesHaveBits}
 use Rattle.proc_steps.specs.Limits.{is_within}
 
--- a module may be given to `proc`, over the ports of a table: it has no fault, where no memory and no process is taken that writes
--- one, and each storage bit and each tree bit is one that its wire has
+-- a module may be given to `proc`, over the ports of a table: it has no fault, each storage bit and each tree bit is one that
+-- its wire has, and the address and the word of each line that writes have bits
 pub record MayBegin (table : PortTable) (m : Module) : Type 0 where
-  pub ready : IsReady no_memories (table_ports table.modules) m
+  pub ready : IsReady with_processes (table_ports table.modules) m
   pub placed : HasItsBits m
   pub trees : TreesHaveBits m
+  pub writes : WritesHaveBits m
 
 -- the module with its switches by the rules, its start values in the attributes of wires, and its resets as levels
 abbrev pub leveled : Ports → Module → Module
@@ -60,7 +62,8 @@ abbrev pub proc_within : Ports → Module → List Process → Option Module
 proc_within ports m [] = Some m
 proc_within ports m (p ∷ processes) = proc_result ports m
 
--- a step whose answer may be given to each pass
+-- a step whose answer may be given to each pass, with the same memories
 pub record Gives (table : PortTable) (m n : Module) : Type 0 where
   pub step : IsStep table m n
+  pub stores : n.memories ≡ m.memories
   pub ready : passes.IsReady (table_ports table.modules) n

@@ -1,4 +1,3 @@
-mod Fits
 mod Turning
 mod Growing
 mod Exact

@@ -1,20 +1,24 @@
 -- What the step promises of what it answers.
-use Rattle.std.proofs.Common.{◌≡◌, true, [], ◌++◌, Result, Ok, Err, sym, ◌∙◌, ap, subst, append-nil}
+use Rattle.std.proofs.Common.{◌≡◌, [], ◌++◌, Result, Ok, Err, sym, ◌∙◌, ap, subst, append-nil}
 use Rattle.std.specs.Prelude.{IfOk}
 use Rattle.rtl_ir.specs.Build.{building_of}
 use Rattle.rtl_ir.specs.Flat.Cell.{Ports, instances}
 use Rattle.rtl_ir.specs.Ports.{ports_of}
+use Rattle.rtl_ir.specs.Scope.{with_processes}
 use Rattle.rtl_ir.specs.Types.{table_ports}
 use Rattle.rtl_ir.specs.declared.module.Module.{Module}
 use Rattle.rtl_ir.specs.declared.ports.PortTable.{PortTable}
 use Rattle.net_index.specs.declared.builder_fault.PassFault.{PassFault}
 use Rattle.net_model.specs.Proc.Sync.{proc_sync_of}
 use Rattle.net_model.specs.Refine.{IsWellDriven, RefinesIn}
-use Rattle.proc_laws.specs.Ready.{AreRuled, HaveNoLines, HaveNoStarts, IsReady, with_processes}
+use Rattle.proc_laws.specs.Ready.{AreRuled, HaveNoLines, HaveNoStarts, IsReady}
 use Rattle.proc_laws.specs.Step.{StaysReady}
-use Rattle.sync_laws.specs.Kinds.{HaveNoAlways, HaveNoTwoEdges, HaveNoWrites}
+use Rattle.sync_laws.specs.Kinds.{HaveNoAlways, HaveNoTwoEdges}
 use Rattle.sync_laws.proofs.Formed as formed
-use Rattle.sync_laws.proofs.Refined as refined
+use Rattle.write_laws.proofs.Formed as storage
+use Rattle.write_laws.proofs.Steps as steps
+use Rattle.write_laws.proofs.Written as written
+use Rattle.write_laws.specs.Lines.{WritesHaveBits}
 use Rattle.net_model.proofs.Swapping.{instances-append}
 use Rattle.proc_sync.specs.Limits.{synced}
 use Rattle.proc_sync.proofs.Stepping.{steps_grow}
@@ -49,14 +53,14 @@ module _ (m : Module) (r : Result Module PassFault) (is : IfOk r (λ after. afte
       so (λ after. instances after.cells ≡ instances m.cells)
       (ap (λ (b : Module). instances b.cells) grown.body ∙ instances-append m.cells grown.added ∙ ap (λ z. instances m.cells ++ z) grown.plain ∙ append-nil (instances m.cells))
 
-  module _ (table : PortTable) (ready : IsReady (with_processes true) (table_ports table.modules) m) (starts : HaveNoStarts m) (acts : HaveNoAlways m) (edges : HaveNoTwoEdges m) (quiet : HaveNoWrites m) where
-    pub refines : IfOk r (λ after. RefinesIn m after table)
-    refines = so (λ after. RefinesIn m after table) (refined.refines table m ready acts edges quiet starts)
+  module _ (table : PortTable) (ready : IsReady with_processes (table_ports table.modules) m) (acts : HaveNoAlways m) (edges : HaveNoTwoEdges m) where
+    pub refines : HaveNoStarts m → IfOk r (λ after. RefinesIn m after table)
+    refines starts = so (λ after. RefinesIn m after table) (written.refines table m ready acts edges starts)
 
     pub well_driven : IfOk r (λ after. (over : Ports) → IsWellDriven over m → IsWellDriven over after)
     well_driven =
         so (λ after. (over : Ports) → IsWellDriven over m → IsWellDriven over after)
-        (λ over. formed.sync_driven (table_ports table.modules) m true ready acts edges quiet over)
+        (λ over. steps.same_driven table over m ready acts edges)
 
-    pub well_formed : IfOk r (λ after. StaysReady table m after)
-    well_formed = so (λ after. StaysReady table m after) (formed.stays_ready table m acts edges quiet)
+    pub well_formed : WritesHaveBits m → IfOk r (λ after. StaysReady table m after)
+    well_formed bits = so (λ after. StaysReady table m after) (storage.stays_ready table m acts edges bits)

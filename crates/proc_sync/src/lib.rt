@@ -5,7 +5,6 @@ mod cells;
 mod control;
 mod counts;
 mod joins;
-mod limits;
 mod masks;
 mod parts;
 mod process;
@@ -15,24 +14,26 @@ mod sources;
 mod writer;
 mod writes;
 
-ghost use Rattle.std.specs.Prelude.{◌≡◌, [], Err, IfOk, OnOk, map, true};
+ghost use Rattle.std.specs.Prelude.{◌≡◌, [], Err, IfOk, OnOk, map};
 ghost use Rattle.rtl_ir.specs.Flat.Cell.{Ports, instances};
 ghost use Rattle.rtl_ir.specs.Ports.{ports_of};
+ghost use Rattle.rtl_ir.specs.Scope.{with_processes};
 ghost use Rattle.rtl_ir.specs.Types.{table_ports};
 ghost use Rattle.rtl_ir.specs.declared.process.Process.{Process};
 ghost use Rattle.net_index.specs.Builder.{IsInLimits, PassesLimit};
 ghost use Rattle.net_model.specs.Proc.Sync.{proc_sync_of};
 ghost use Rattle.net_model.specs.Refine.{IsWellDriven, RefinesIn};
-ghost use Rattle.proc_laws.specs.Ready.{AreRuled, HaveNoLines, HaveNoStarts, IsReady, with_processes};
+ghost use Rattle.proc_laws.specs.Ready.{AreRuled, HaveNoLines, HaveNoStarts, IsReady};
 ghost use Rattle.proc_laws.specs.Step.{StaysReady};
-ghost use Rattle.sync_laws.specs.Kinds.{HaveNoAlways, HaveNoTwoEdges, HaveNoWrites};
+ghost use Rattle.sync_laws.specs.Kinds.{HaveNoAlways, HaveNoTwoEdges};
+ghost use Rattle.write_laws.specs.Lines.{WritesHaveBits};
 ghost use Rattle.proc_sync.specs.Limits.{SyncPassesLimit, steps_of, synced};
 ghost use Rattle.proc_sync.specs.Writer.{body_of, done_of};
 
-use crate::limits::check_limits;
 use crate::process::processes_step;
 use crate::writer::Writer;
 use crate::writes::writes_step;
+use match_cells::check_limits;
 use net_index::{Builder, PassFault};
 use rtl_bits::{Copied, Memory, Seq};
 use rtl_ir::{Module, PortTable, Process};
@@ -40,10 +41,10 @@ use std::alloc::Global;
 
 /// The module in which the rules of all processes are flip-flops and latches, and the lines that write are write
 /// ports. Its processes have no rule. `Over` comes where the module would pass a limit on cells, on bits of wires
-/// or on fresh names. In the Yosys manual, the commands `proc_dff` and `proc_memwr`. That nothing is lost is
-/// promised where no rule writes a memory.
+/// or on fresh names. In the Yosys manual, the commands `proc_dff` and `proc_memwr`. It may be given on where the
+/// address and the word of each line that writes have bits, as those of a port must; each line of a text has.
 pub fn apply(alloc: Global, module: &Module, ports: &PortTable) -> Result<Module, PassFault>
-    requires ready { IsReady (with_processes true) (table_ports ports.now.modules) «module».now }
+    requires ready { IsReady with_processes (table_ports ports.now.modules) «module».now }
     requires ruled { AreRuled «module».now }
     requires no_starts { HaveNoStarts «module».now }
     requires no_always { HaveNoAlways «module».now }
@@ -51,9 +52,9 @@ pub fn apply(alloc: Global, module: &Module, ports: &PortTable) -> Result<Module
     ensures exact { IfOk result (λ after. after ≡ proc_sync_of «module».now) }
     ensures over { result ≡ Err PassFault.Over → SyncPassesLimit «module».now }
     ensures within { OnOk result (IsInLimits (synced «module».now)) }
-    ensures refines { HaveNoWrites «module».now → IfOk result (λ after. RefinesIn «module».now after ports.now) }
-    ensures well_driven { HaveNoWrites «module».now → IfOk result (λ after. (over : Ports) → IsWellDriven over «module».now → IsWellDriven over after) }
-    ensures well_formed { HaveNoWrites «module».now → IfOk result (λ after. StaysReady ports.now «module».now after) }
+    ensures refines { IfOk result (λ after. RefinesIn «module».now after ports.now) }
+    ensures well_driven { IfOk result (λ after. (over : Ports) → IsWellDriven over «module».now → IsWellDriven over after) }
+    ensures well_formed { WritesHaveBits «module».now → IfOk result (λ after. StaysReady ports.now «module».now after) }
     ensures same_id { IfOk result (λ after. after.id ≡ «module».now.id) }
     ensures same_ports { IfOk result (λ after. ports_of after.wires ≡ ports_of «module».now.wires) }
     ensures same_instances { IfOk result (λ after. instances after.cells ≡ instances «module».now.cells) }

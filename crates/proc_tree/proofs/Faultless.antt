@@ -86,7 +86,7 @@ pub record IsFine (scope : Scope) (ports : Ports) (m : Module) (earlier : List P
   pub reading : reads_itself (root_by_rules p.root) (tree_bits p.root) ≡ false
   pub starts : starts_stand (root_by_rules p.root) (tree_bits p.root) p ≡ true
   pub edges : two_edges_stand ports m (root_by_rules p.root) (tree_bits p.root) (acting_rules p.syncs) ≡ true
-  pub lines : has_bad_line m (flat_map write_lines earlier) (write_lines p) ≡ false
+  pub lines : has_bad_line scope.clocks m (flat_map write_lines earlier) (write_lines p) ≡ false
 
 is_so : (t : Bool) → not t ≡ false → t ≡ true
 is_so true e = refl
@@ -100,7 +100,7 @@ is_fine scope ports m earlier p e =
     let v : List Fault = fault_if (has_uneven p) (Width here) in
     let g : List Fault = fault_if (gives_to_constant p) (BadPort here) in
     let b : List Fault = fault_if (is_bad_process ports m p) (BadProcess here) in
-    let l : List Fault = fault_if (has_bad_line m (flat_map write_lines earlier) (write_lines p)) (BadMemory here) in
+    let l : List Fault = fault_if (has_bad_line scope.clocks m (flat_map write_lines earlier) (write_lines p)) (BadMemory here) in
     let eb : (((u ++ w) ++ v) ++ g) ++ b ≡ [] = none_left ((((u ++ w) ++ v) ++ g) ++ b) l e in
     let eg : ((u ++ w) ++ v) ++ g ≡ [] = none_left (((u ++ w) ++ v) ++ g) b eb in
     let ev : (u ++ w) ++ v ≡ [] = none_left ((u ++ w) ++ v) g eg in

@@ -141,7 +141,7 @@ module _ (scope : Scope) (ports : Ports) (m : Module) (takes : (p : Process) →
     reading = (λ i. reads_itself (root_again p.root i) (tree_bits_again p.root i)) ∙ h.reading;
     starts = starts_stay p;
     edges = (λ i. two_edges_stand ports m (root_again p.root i) (tree_bits_again p.root i) (acting_left p.syncs i)) ∙ h.edges;
-    lines = (λ i. has_bad_line m (all_written_left earlier quiet i) (written_left p.syncs (stand_write p.syncs h.rules) i)) ∙ h.lines;
+    lines = (λ i. has_bad_line scope.clocks m (all_written_left earlier quiet i) (written_left p.syncs (stand_write p.syncs h.rules) i)) ∙ h.lines;
   }
 
   processes_stay : (earlier ps : List Process) → Each IsQuiet earlier → process_faults scope ports m earlier ps ≡ [] → process_faults scope ports (proc_tree_of m) (map ruled_process earlier) (map ruled_process ps) ≡ []

@@ -11,7 +11,7 @@ use Rattle.rtl_ir.specs.Flat.Cell as flat
 use Rattle.rtl_ir.specs.Flat.Tree as tree
 use Rattle.rtl_ir.specs.Ports.{ports_of}
 use Rattle.rtl_ir.specs.Rules.{has_line, is_init}
-use Rattle.rtl_ir.specs.Scope.{Scope}
+use Rattle.rtl_ir.specs.Scope.{Scope, with_processes}
 use Rattle.rtl_ir.specs.SwitchRules.{root_by_rules}
 use Rattle.rtl_ir.specs.Types as types
 use Rattle.net_model.specs.Lists.{Distinct, In}
@@ -21,7 +21,7 @@ use Rattle.net_model.specs.Proc.Start.{begun_wires, proc_tree_of, ruled_process}
 use Rattle.net_model.proofs.Lifted.{lifted}
 use Rattle.net_model.proofs.Ranges.{RootIn, root_in}
 use Rattle.net_model.proofs.Members.{In-mapped}
-use Rattle.proc_laws.specs.Ready.{AreRuled, HasItsBits, HaveNoLines, HaveNoStarts, IsReady, UpdatesHaveBits, with_processes}
+use Rattle.proc_laws.specs.Ready.{AreRuled, HasItsBits, HaveNoLines, HaveNoStarts, IsReady, UpdatesHaveBits}
 use Rattle.proc_laws.specs.Step.{IsStep, StaysReady}
 use Rattle.proc_tree.proofs.Faultless.{all_write, no_faults}
 use Rattle.proc_tree.proofs.Forming.{rules_among, tree_faultless}
@@ -147,11 +147,11 @@ module _ (m : Module) (r : Result Module Memory) (is : IfOk r (λ after. after �
 
   module _ (table : PortTable) where
     pub well_formed : IfOk r (λ after. StaysReady table m after)
-    well_formed = so (λ after. StaysReady table m after) (λ memories. tree_ready m (with_processes memories) (λ p e. e) (types.table_ports table.modules))
+    well_formed = so (λ after. StaysReady table m after) (tree_ready m with_processes (λ p e. e) (types.table_ports table.modules))
 
-    module _ (placed : HasItsBits m) (h : IsReady (with_processes true) (types.table_ports table.modules) m) where
+    module _ (placed : HasItsBits m) (h : IsReady with_processes (types.table_ports table.modules) m) where
       quiet : Each WritesNoStart (syncs_of m.processes)
-      quiet = quiet_all (with_processes true) (types.table_ports table.modules) m h
+      quiet = quiet_all with_processes (types.table_ports table.modules) m h
 
       pub refines : IfOk r (λ after. RefinesIn m after table)
       refines = so (λ after. RefinesIn m after table) (tree_refines m placed quiet (tree.table_ports table))

@@ -9,13 +9,14 @@ mod starts;
 mod tree;
 mod wires;
 
-ghost use Rattle.std.specs.Prelude.{◌≡◌, IfOk, true};
+ghost use Rattle.std.specs.Prelude.{◌≡◌, IfOk};
 ghost use Rattle.rtl_ir.specs.Flat.Cell.{Ports, instances};
 ghost use Rattle.rtl_ir.specs.Ports.{ports_of};
+ghost use Rattle.rtl_ir.specs.Scope.{with_processes};
 ghost use Rattle.rtl_ir.specs.Types.{table_ports};
 ghost use Rattle.net_model.specs.Proc.Start.{proc_tree_of};
 ghost use Rattle.net_model.specs.Refine.{IsWellDriven, RefinesIn};
-ghost use Rattle.proc_laws.specs.Ready.{AreRuled, HasItsBits, HaveNoLines, HaveNoStarts, IsReady, with_processes};
+ghost use Rattle.proc_laws.specs.Ready.{AreRuled, HasItsBits, HaveNoLines, HaveNoStarts, IsReady};
 ghost use Rattle.proc_laws.specs.Step.{IsStep, StaysReady};
 
 use crate::processes::ruled_processes;
@@ -28,7 +29,7 @@ use std::alloc::Global;
 /// The module whose processes have their switches by the rules, and give no start values: those stand in the attributes `\init`
 /// of the wires. In the Yosys manual, the commands `proc_rmdead` and `proc_init`.
 pub fn apply(alloc: Global, module: &Module, ports: &PortTable) -> Result<Module, Memory>
-    requires ready { IsReady (with_processes true) (table_ports ports.now.modules) «module».now }
+    requires ready { IsReady with_processes (table_ports ports.now.modules) «module».now }
     requires placed { HasItsBits «module».now }
     ensures exact { IfOk result (λ after. after ≡ proc_tree_of «module».now) }
     ensures refines { IfOk result (λ after. RefinesIn «module».now after ports.now) }

@@ -1,12 +1,12 @@
 -- The module in which each reset has become a level may be given on.
-use Rattle.std.proofs.Common.{◌≡◌, ◌≤◌, Bool, true, List, [], ◌∷◌, ◌++◌, append_assoc, length, inl, inr, ⊎_elim, refl, sym, ◌∙◌, ap, subst, arith}
+use Rattle.std.proofs.Common.{◌≡◌, ◌≤◌, List, [], ◌∷◌, ◌++◌, append_assoc, length, inl, inr, ⊎_elim, refl, sym, ◌∙◌, ap, subst, arith}
 use Rattle.std.specs.Prelude.{flat_map, map}
 use Rattle.std.proofs.lemmas.List.{append-nil}
 use Rattle.rtl_sig.specs.declared.sig.WireBit.{WireBit}
 use Rattle.rtl_ir.specs.Fault.{Fault}
 use Rattle.rtl_ir.specs.Faults.Processes.{faults_of_process, process_faults}
-use Rattle.rtl_ir.specs.Follow.{follow}
 use Rattle.rtl_ir.specs.Rules.{acting_rules}
+use Rattle.rtl_ir.specs.Scope.{with_processes}
 use Rattle.rtl_ir.specs.Types.{Ports}
 use Rattle.rtl_ir.specs.WritePorts.{write_lines}
 use Rattle.rtl_ir.specs.declared.module.Module.{Module}
@@ -19,10 +19,10 @@ use Rattle.net_model.specs.Within.{Each, ProcessIn}
 use Rattle.pass_laws.proofs.Counting.{count, count_more}
 use Rattle.pass_laws.proofs.Faultless.{no_faults, none_left, none_right}
 use Rattle.proc_laws.proofs.CountingBits.{among, fewer}
-use Rattle.proc_laws.proofs.RebuildFaults.{still_ready, taken_alike}
+use Rattle.proc_laws.proofs.RebuildFaults.{still_ready}
 use Rattle.proc_laws.proofs.RebuildProcesses.{IsGoodProcess, good_of, of_good}
-use Rattle.proc_laws.specs.Ready.{AreRuled, HasItsBits, HaveNoStarts, IsReady, with_processes}
-use Rattle.proc_laws.specs.Rebuilds.{AreAmong, KeepsEnds, Rebuilds, checked_bits, driven_bits, rebuilt}
+use Rattle.proc_laws.specs.Ready.{AreRuled, HasItsBits, HaveNoStarts, IsReady}
+use Rattle.proc_laws.specs.Rebuilds.{AreAmong, Rebuilds, checked_bits, driven_bits, rebuilt}
 use Rattle.reset_laws.specs.Trees.{TreesHaveBits}
 use Rattle.reset_laws.proofs.AfterRace.{edge_count}
 use Rattle.reset_laws.proofs.FormTurn.{IsTurn, stays, turn}
@@ -53,15 +53,15 @@ turns_few ports m f h x (q ∷ qs) (s ∷ ss) t =
 turns_few ports m f h x [] (s ∷ ss) t = absurd t
 turns_few ports m f h x (q ∷ qs) [] t = absurd t
 
-module _ (ports : Ports) (m : Module) (memories : Bool) (ready : IsReady (with_processes memories) ports m) (placed : HasItsBits m) (trees : TreesHaveBits m) (no_starts : HaveNoStarts m) (ruled_all : AreRuled m) where
+module _ (ports : Ports) (m : Module) (ready : IsReady with_processes ports m) (placed : HasItsBits m) (trees : TreesHaveBits m) (no_starts : HaveNoStarts m) (ruled_all : AreRuled m) where
   original : (q : Process) → In q m.processes → IsKept m q
   original q i = record { ruled = ruled_all q i; within = ready.within.processes q i }
 
   one : (done post : List Process) (kept : Each (IsKept m) (done ++ post)) (q : Process) (i : In q m.processes) → IsTurn ports m q (reset_process ports m (done ++ post) q (acting_rules q.syncs))
   one done post kept q i =
-      becomes ports m memories ready placed trees no_starts ruled_all done post kept q i (IsTurn ports m q)
+      becomes ports m ready placed trees no_starts ruled_all done post kept q i (IsTurn ports m q)
       (λ e. stays ports m q (original q i) (no_starts q i) e (placed.updates q i) (trees q i))
-      (λ race. turn ports m memories ready placed trees no_starts q i (ruled_all q i) (ready.within.processes q i) (done ++ post) race)
+      (λ race. turn ports m ready placed trees no_starts q i (ruled_all q i) (ready.within.processes q i) (done ++ post) race)
 
   both : (xs ys : List Process) → Each (IsKept m) xs → Each (IsKept m) ys → Each (IsKept m) (xs ++ ys)
   both xs ys h k s i = ⊎_elim (h s) (k s) (In-cases s xs ys i)
@@ -85,14 +85,14 @@ module _ (ports : Ports) (m : Module) (memories : Bool) (ready : IsReady (with_p
   changed = (proc_reset_of ports m).processes
 
   -- they have no faults
-  turned_faults : (earlier before : List Process) → flat_map write_lines before ≡ flat_map write_lines earlier → (qs ss : List Process) → Turns ports m qs ss → process_faults (with_processes memories) ports m earlier qs ≡ [] → process_faults (with_processes memories) ports (with_all m changed) before ss ≡ []
+  turned_faults : (earlier before : List Process) → flat_map write_lines before ≡ flat_map write_lines earlier → (qs ss : List Process) → Turns ports m qs ss → process_faults with_processes ports m earlier qs ≡ [] → process_faults with_processes ports (with_all m changed) before ss ≡ []
   turned_faults earlier before same [] [] t e = refl
   turned_faults earlier before same (q ∷ qs) (s ∷ ss) t e =
-      let here : List Fault = faults_of_process (with_processes memories) ports m earlier q in
-      let later : List Fault = process_faults (with_processes memories) ports m (earlier ++ q ∷ []) qs in
-      let g : IsGoodProcess ports m (flat_map write_lines earlier) s = t.0.good (flat_map write_lines earlier) (good_of memories ports m earlier q (none_left here later e)) in
+      let here : List Fault = faults_of_process with_processes ports m earlier q in
+      let later : List Fault = process_faults with_processes ports m (earlier ++ q ∷ []) qs in
+      let g : IsGoodProcess ports m (flat_map write_lines earlier) s = t.0.good (flat_map write_lines earlier) (good_of ports m earlier q (none_left here later e)) in
       let h : IsGoodProcess ports m (flat_map write_lines before) s = subst (λ z. IsGoodProcess ports m z s) (sym same) g in
-      let first : faults_of_process (with_processes memories) ports (with_all m changed) before s ≡ [] = of_good memories ports (with_all m changed) before s (record { narrow = h.narrow; even = h.even; wires = h.wires; rules = h.rules; acyclic = h.acyclic; starts = h.starts; edges = h.edges; lines = h.lines }) in
+      let first : faults_of_process with_processes ports (with_all m changed) before s ≡ [] = of_good ports (with_all m changed) before s (record { narrow = h.narrow; even = h.even; wires = h.wires; rules = h.rules; acyclic = h.acyclic; starts = h.starts; edges = h.edges; lines = h.lines }) in
       let rest = turned_faults (earlier ++ q ∷ []) (before ++ s ∷ []) (more before s ∙ (λ i. same i ++ (t.0.lines i ++ [])) ∙ sym (more earlier q)) qs ss t.1 (none_right here later e) in
       λ i. first i ++ rest i
     where
@@ -113,7 +113,7 @@ module _ (ports : Ports) (m : Module) (memories : Bool) (ready : IsReady (with_p
     plain = refl;
     cells = λ c i. absurd i;
     links = λ l i. absurd i;
-    processes = subst (λ z. process_faults (with_processes true) ports z [] changed ≡ []) (sym nothing) (taken_alike true memories ports (with_all m changed) [] changed ∙ turned_faults [] [] refl m.processes changed turns (no_faults (with_processes memories) ports m ready.faultless).processes);
+    processes = subst (λ z. process_faults with_processes ports z [] changed ≡ []) (sym nothing) (turned_faults [] [] refl m.processes changed turns (no_faults with_processes ports m ready.faultless).processes);
     cells_within = λ c i. absurd i;
     links_within = λ l i. absurd i;
     processes_within = subst (λ ws. Each (ProcessIn (length ws)) changed) (sym (append-nil m.wires)) (each_turn ports m (ProcessIn (length m.wires)) (λ q s t. t.kept.within) m.processes changed turns);
@@ -121,12 +121,9 @@ module _ (ports : Ports) (m : Module) (memories : Bool) (ready : IsReady (with_p
     driven = among (flat_map driven_bits changed) (flat_map driven_bits m.processes) (λ x. turns_few ports m driven_bits (λ q s t. t.driven) x m.processes changed turns);
   }
 
-  keeps : KeepsEnds m.links (m.links ++ [])
-  keeps a b e = ap (λ ls. follow ls a) (append-nil m.links) ∙ e ∙ sym (ap (λ ls. follow ls b) (append-nil m.links))
-
-  pub reset_ready : IsReady (with_processes memories) ports (proc_reset_of ports m)
+  pub reset_ready : IsReady with_processes ports (proc_reset_of ports m)
   reset_ready =
-      subst (IsReady (with_processes memories) ports) nothing (still_ready ports m [] [] [] changed memories ready rebuilds (λ e. keeps))
+      subst (IsReady with_processes ports) nothing (still_ready ports m [] [] [] changed ready rebuilds)
 
   pub reset_placed : HasItsBits (proc_reset_of ports m)
   reset_placed = record {

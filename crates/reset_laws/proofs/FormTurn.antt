@@ -16,6 +16,7 @@ use Rattle.rtl_ir.specs.Faults.SelfReading.{assigns_read, bits_read, reads_itsel
 use Rattle.rtl_ir.specs.Faults.TwoEdges.{are_one_constant}
 use Rattle.rtl_ir.specs.Follow.{Join, all_joins, joins}
 use Rattle.rtl_ir.specs.Rules.{acting_rules, is_init, updated_bits, updated_by}
+use Rattle.rtl_ir.specs.Scope.{with_processes}
 use Rattle.rtl_ir.specs.Signals.{has_constant}
 use Rattle.rtl_ir.specs.SwitchRules.{root_by_rules}
 use Rattle.rtl_ir.specs.Tree.{CaseView}
@@ -33,7 +34,7 @@ use Rattle.net_model.specs.Within.{Each, ProcessIn}
 use Rattle.pass_laws.proofs.Counting.{count, count_more}
 use Rattle.proc_laws.proofs.CountingBits.{among, fewer}
 use Rattle.proc_laws.proofs.RebuildProcesses.{IsGoodProcess}
-use Rattle.proc_laws.specs.Ready.{HasItsBits, HaveNoStarts, IsBitOf, IsReady, UpdatesHaveBits, with_processes}
+use Rattle.proc_laws.specs.Ready.{HasItsBits, HaveNoStarts, IsBitOf, IsReady, UpdatesHaveBits}
 use Rattle.proc_laws.specs.Rebuilds.{AreAmong, checked_bits, driven_bits}
 use Rattle.reset_laws.specs.Trees.{TreesHaveBits}
 use Rattle.reset_laws.proofs.AfterBits.{place_from}
@@ -88,27 +89,27 @@ joined (Fixed c ∷ ls) (y ∷ rs) j i = inr (joined ls rs j i)
 joined (OnWire b ∷ ls) (y ∷ rs) j (inl e) = inl (ap (λ (x : Join). OnWire x.bit) e)
 joined (OnWire b ∷ ls) (y ∷ rs) j (inr i) = inr (joined ls rs j i)
 
-module _ (ports : Ports) (m : Module) (memories : Bool) (ready : IsReady (with_processes memories) ports m) (placed : HasItsBits m) (trees : TreesHaveBits m) (no_starts : HaveNoStarts m) (q : Process) (there : In q m.processes) (ruled : root_by_rules q.root ≡ q.root) (within : ProcessIn (length m.wires) q) (others : List Process) (race : IsRace ports m others q) where
+module _ (ports : Ports) (m : Module) (ready : IsReady with_processes ports m) (placed : HasItsBits m) (trees : TreesHaveBits m) (no_starts : HaveNoStarts m) (q : Process) (there : In q m.processes) (ruled : root_by_rules q.root ≡ q.root) (within : ProcessIn (length m.wires) q) (others : List Process) (race : IsRace ports m others q) where
   abbrev s : Process
   s = with_level ports m others q race.reset race.lines
 
   abbrev leaves : Join → List SigBit
-  leaves = StepOne.leaves ports m memories ready placed trees no_starts q there ruled within others race
+  leaves = StepOne.leaves ports m ready placed trees no_starts q there ruled within others race
 
   abbrev rule : SyncRule
-  rule = StepOne.rule ports m memories ready placed trees no_starts q there ruled within others race
+  rule = StepOne.rule ports m ready placed trees no_starts q there ruled within others race
 
   abbrev root : CaseView
-  root = StepOne.root ports m memories ready placed trees no_starts q there ruled within others race
+  root = StepOne.root ports m ready placed trees no_starts q there ruled within others race
 
   writes : WriteNothing s.syncs
-  writes = writes_after ports m memories ready placed trees no_starts q there ruled within others race
+  writes = writes_after ports m ready placed trees no_starts q there ruled within others race
 
   of_root : (P : CaseView → Type 0) → P root → P q.root → P s.root
-  of_root = by_root ports m memories ready placed trees no_starts q there ruled within others race
+  of_root = by_root ports m ready placed trees no_starts q there ruled within others race
 
   of_rules : (P : SyncRule → Type 0) → P rule → Each P q.syncs → Each P s.syncs
-  of_rules = rule_cases ports m memories ready placed trees no_starts q there ruled within others race
+  of_rules = rule_cases ports m ready placed trees no_starts q there ruled within others race
 
   -- its assigns are among those that were there
   assigns_in : (l : Link) → In l (case_assigns s.root) → In l (case_assigns q.root)
@@ -139,7 +140,7 @@ module _ (ports : Ports) (m : Module) (memories : Bool) (ready : IsReady (with_p
       (In-cases (OnWire c) own after (wire_bit (own ++ after) c i)))
 
   trees_in : (b : WireBit) → In b (tree_bits s.root) → In b (tree_bits q.root)
-  trees_in b i = among_in (tree_bits s.root) (tree_bits q.root) (trees_among ports m memories ready placed trees no_starts q there ruled within others race) b i
+  trees_in b i = among_in (tree_bits s.root) (tree_bits q.root) (trees_among ports m ready placed trees no_starts q there ruled within others race) b i
 
   good_after : (before : List EventLine) → IsGoodProcess ports m before q → IsGoodProcess ports m before s
   good_after before g = record {
@@ -152,9 +153,9 @@ module _ (ports : Ports) (m : Module) (memories : Bool) (ready : IsReady (with_p
         || updates_none (λ (l : Link). has_constant l.left) (λ l j. (rule_lines leaves race.reset race.lines l j).1) wires_q.1 i;
     rules = rules_after leaves race.reset race.lines race.other race.clock race.other_edge s.syncs (race.acts_after leaves) writes;
     acyclic = of_root (λ z. reads_itself (root_by_rules z) (tree_bits z) ≡ false) freed_acyclic g.acyclic;
-    starts = ap (λ ls. list_all (λ (j : Join). are_one_constant (leaves_of (expanded (root_by_rules s.root) (tree_bits s.root) j.source))) (all_joins ls)) (no_begin s.syncs (starts_after ports m memories ready placed trees no_starts q there ruled within others race));
+    starts = ap (λ ls. list_all (λ (j : Join). are_one_constant (leaves_of (expanded (root_by_rules s.root) (tree_bits s.root) j.source))) (all_joins ls)) (no_begin s.syncs (starts_after ports m ready placed trees no_starts q there ruled within others race));
     edges = edges_after leaves race.reset race.lines race.other race.clock race.other_edge ports m (root_by_rules s.root) (tree_bits s.root) (acting_rules s.syncs) (race.acts_after leaves);
-    lines = ap (has_bad_line m before) (no_lines s writes);
+    lines = ap (has_bad_line false m before) (no_lines s writes);
   }
     where
       narrow_q : switches_pass q.root.switches ≡ false
@@ -172,12 +173,12 @@ module _ (ports : Ports) (m : Module) (memories : Bool) (ready : IsReady (with_p
 
       freed_acyclic : reads_itself (root_by_rules root) (tree_bits root) ≡ false
       freed_acyclic =
-          ap (λ z. reads_itself z (tree_bits root)) (root_ruled ports m memories ready placed trees no_starts q there ruled within others race)
+          ap (λ z. reads_itself z (tree_bits root)) (root_ruled ports m ready placed trees no_starts q there ruled within others race)
           ∙ still_acyclic q.root root (tree_bits q.root) (tree_bits root) reads_of freed_in (tree_distinct root) (ap (λ z. reads_itself z (tree_bits q.root)) (sym ruled) ∙ g.acyclic)
         where
           freed_in : (b : WireBit) → In b (tree_bits root) → In b (tree_bits q.root)
           freed_in b i =
-              in_tree q.root ruled b (bits_fewer (switch_test ports m race.reset.bit) (not race.reset.level) q.root b (tree_in root (root_ruled ports m memories ready placed trees no_starts q there ruled within others race) b i))
+              in_tree q.root ruled b (bits_fewer (switch_test ports m race.reset.bit) (not race.reset.level) q.root b (tree_in root (root_ruled ports m ready placed trees no_starts q there ruled within others race) b i))
 
   checked_after : AreAmong (checked_bits s) (checked_bits q)
   checked_after =
@@ -185,7 +186,7 @@ module _ (ports : Ports) (m : Module) (memories : Bool) (ready : IsReady (with_p
       let n : ℕ = count x (updated_bits q.syncs) in
       let lines : count x (left_bits race.lines) ≤ count x (updated_bits q.syncs) = omega (arith, ap (λ z. count x (left_bits z)) race.given, ap (λ z. count x (updated_by z)) race.acting, updated_first x race.first (race.second ∷ [])) in
       let few = updates_few x (count x (updated_bits q.syncs)) rule race.other (acting_rules s.syncs) (race.acts_after leaves) (omega (arith, rule_few leaves race.reset x race.lines, lines)) (omega (arith, lines, ap (λ z. count x (left_bits z)) race.other_lines)) in
-      omega (arith, few, count_more x (tree_bits s.root) (updated_bits s.syncs), count_more x (tree_bits q.root) (updated_bits q.syncs), fewer (tree_bits s.root) (tree_bits q.root) (trees_among ports m memories ready placed trees no_starts q there ruled within others race) x))
+      omega (arith, few, count_more x (tree_bits s.root) (updated_bits s.syncs), count_more x (tree_bits q.root) (updated_bits q.syncs), fewer (tree_bits s.root) (tree_bits q.root) (trees_among ports m ready placed trees no_starts q there ruled within others race) x))
 
   -- bits of lines that the reset's rule updates
   rule_has : UpdatesHaveBits m.wires rule
@@ -208,15 +209,15 @@ module _ (ports : Ports) (m : Module) (memories : Bool) (ready : IsReady (with_p
   pub turn : IsTurn ports m q s
   turn = record {
     kept = record {
-      ruled = after_ruled ports m memories ready placed trees no_starts q there ruled within others race;
-      within = after_within ports m memories ready placed trees no_starts q there ruled within others race;
+      ruled = after_ruled ports m ready placed trees no_starts q there ruled within others race;
+      within = after_within ports m ready placed trees no_starts q there ruled within others race;
     };
-    starts = starts_after ports m memories ready placed trees no_starts q there ruled within others race;
+    starts = starts_after ports m ready placed trees no_starts q there ruled within others race;
     edges = few_edges leaves race.reset race.lines race.other race.clock race.other_edge (acting_rules s.syncs) (race.acts_after leaves);
     good = good_after;
-    lines = no_lines s writes ∙ sym (no_lines q (writes_before ports m memories ready placed trees no_starts q there ruled within others race));
+    lines = no_lines s writes ∙ sym (no_lines q (writes_before ports m ready placed trees no_starts q there ruled within others race));
     checked = checked_after;
-    driven = drives_among ports m memories ready placed trees no_starts q there ruled within others race;
+    driven = drives_among ports m ready placed trees no_starts q there ruled within others race;
     updates = of_rules (UpdatesHaveBits m.wires) rule_has (placed.updates q there);
     trees = λ l i. trees q there l (assigns_in l i);
   }

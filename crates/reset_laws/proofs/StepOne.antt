@@ -17,6 +17,7 @@ use Rattle.rtl_ir.specs.Flat.Cell as flat
 use Rattle.rtl_ir.specs.Flat.Cell.{cell_kind, instances}
 use Rattle.rtl_ir.specs.Follow.{Join, all_joins, joins}
 use Rattle.rtl_ir.specs.Rules.{acting_rules, is_init}
+use Rattle.rtl_ir.specs.Scope.{with_processes}
 use Rattle.rtl_ir.specs.SwitchRules.{root_by_rules}
 use Rattle.rtl_ir.specs.Tree.{CaseView}
 use Rattle.rtl_ir.specs.Types.{Ports}
@@ -34,7 +35,7 @@ use Rattle.pass_laws.proofs.Counting.{count, count_more}
 use Rattle.pass_laws.proofs.Faultless.{AreFit, all_fine, fits, no_cell_faults, no_faults}
 use Rattle.proc_laws.proofs.CountingBits.{among, fewer}
 use Rattle.proc_laws.proofs.RebuildProcesses.{IsGoodProcess, each_good}
-use Rattle.proc_laws.specs.Ready.{HasItsBits, HaveNoStarts, IsReady, with_processes}
+use Rattle.proc_laws.specs.Ready.{HasItsBits, HaveNoStarts, IsReady}
 use Rattle.proc_laws.specs.Rebuilds.{AreAmong, driven_bits, rules_bits}
 use Rattle.reset_laws.specs.Trees.{TreesHaveBits}
 use Rattle.reset_laws.proofs.AfterRace.{IsRace, SameTests}
@@ -63,17 +64,17 @@ pub record IsGood (over : flat.Ports) (b c : Module) : Type 0 where
   pub driven : (own : flat.Ports) → IsWellDriven own b → IsWellDriven own c
   pub refines : RefinesOver b c over
 
-module _ (ports : Ports) (m : Module) (memories : Bool) (ready : IsReady (with_processes memories) ports m) (placed : HasItsBits m) (trees : TreesHaveBits m) (no_starts : HaveNoStarts m) where
+module _ (ports : Ports) (m : Module) (ready : IsReady with_processes ports m) (placed : HasItsBits m) (trees : TreesHaveBits m) (no_starts : HaveNoStarts m) where
   pub fit : AreFit m.cells
   fit c i kind own =
-      let f = all_fine (with_processes memories) ports m [] m.cells (no_faults (with_processes memories) ports m ready.faultless).cells c i in
-      fits _ c kind (no_cell_faults (with_processes memories) ports m f.0 c kind own f.1).shape
+      let f = all_fine with_processes ports m [] m.cells (no_faults with_processes ports m ready.faultless).cells c i in
+      fits _ c kind (no_cell_faults with_processes ports m f.0 c kind own f.1).shape
 
   pub tests : SameTests ports m
-  tests = same_tests ports m (cells_once ports m memories ready placed.pins)
+  tests = same_tests ports m (cells_once ports m ready placed.pins)
 
   pub good : (q : Process) → In q m.processes → (before : List EventLine) × IsGoodProcess ports m before q
-  good q i = each_good memories ports m [] m.processes (no_faults (with_processes memories) ports m ready.faultless).processes q i
+  good q i = each_good ports m [] m.processes (no_faults with_processes ports m ready.faultless).processes q i
 
   module _ (q : Process) (there : In q m.processes) (ruled : root_by_rules q.root ≡ q.root) (within : ProcessIn (length m.wires) q) (others : List Process) (race : IsRace ports m others q) where
     abbrev pub r : Process

@@ -36,6 +36,7 @@ use Rattle.rtl_ir.specs.Signals.{wire_bits}
 use Rattle.rtl_ir.specs.SwitchRules.{root_by_rules}
 use Rattle.rtl_ir.specs.Types.{Ports}
 use Rattle.rtl_ir.specs.EventTests.{switch_test}
+use Rattle.rtl_ir.specs.Scope.{with_processes}
 use Rattle.rtl_ir.specs.Tree.{CaseView}
 use Rattle.rtl_ir.specs.declared.module.Link.{Link}
 use Rattle.rtl_ir.specs.declared.module.Module.{Module}
@@ -54,7 +55,7 @@ use Rattle.pass_laws.specs.Bits.{cells_bits}
 use Rattle.proc_laws.proofs.CountingBits.{AreBelow}
 use Rattle.proc_laws.proofs.RebuildBits.{driven_below, not_both}
 use Rattle.proc_laws.proofs.RebuildFaults.{drives_count}
-use Rattle.proc_laws.specs.Ready.{AreRuled, HasItsBits, HaveNoStarts, IsBitOf, IsReady, with_processes}
+use Rattle.proc_laws.specs.Ready.{AreRuled, HasItsBits, HaveNoStarts, IsBitOf, IsReady}
 use Rattle.proc_laws.specs.Rebuilds.{checked_bits, driven_bits, rules_bits}
 use Rattle.reset_laws.specs.Trees.{TreesHaveBits}
 use Rattle.reset_laws.proofs.AfterRace.{IsRace, edge_count, race_or}
@@ -71,7 +72,7 @@ use Rattle.reset_laws.proofs.StepOne.{IsGood, IsKept, after_ruled, after_within,
 use Rattle.reset_laws.proofs.StepWrites.{even_of, none_begun}
 use Rattle.reset_laws.proofs.TestOnce.{count_in, driven_once, wire_bit}
 
-module _ (ports : Ports) (m : Module) (memories : Bool) (ready : IsReady (with_processes memories) ports m) (placed : HasItsBits m) (trees : TreesHaveBits m) (no_starts : HaveNoStarts m) (ruled_all : AreRuled m) where
+module _ (ports : Ports) (m : Module) (ready : IsReady with_processes ports m) (placed : HasItsBits m) (trees : TreesHaveBits m) (no_starts : HaveNoStarts m) (ruled_all : AreRuled m) where
   -- tree bits lie within their wires, and no cell drives one
   tree_bit : (q : Process) → In q m.processes → (b : WireBit) → In b (tree_bits q.root) → IsBitOf m.wires (OnWire b)
   tree_bit q i b j =
@@ -80,8 +81,8 @@ module _ (ports : Ports) (m : Module) (memories : Bool) (ready : IsReady (with_p
 
   not_of_cells : (q : Process) → In q m.processes → (b : WireBit) → In b (tree_bits q.root) → In b (cells_bits ports m.cells) → ⊥
   not_of_cells q i b j k =
-      let once = driven_once ports m memories ready b (tree_bit q i b j) in
-      let all = drives_count ports m (links_even m.id 1 m.links (no_faults (with_processes memories) ports m ready.faultless).links) b in
+      let once = driven_once ports m ready b (tree_bit q i b j) in
+      let all = drives_count ports m (links_even m.id 1 m.links (no_faults with_processes ports m ready.faultless).links) b in
       let tree = count_in b (flat_map checked_bits m.processes) (in_flat checked_bits m.processes q b i (In-left b (tree_bits q.root) _ j)) in
       absurd (omega (arith, once, all, tree, count_in b (cells_bits ports m.cells) k))
 
@@ -117,12 +118,12 @@ module _ (ports : Ports) (m : Module) (memories : Bool) (ready : IsReady (with_p
 
       race_driven : (own : flat.Ports) → IsWellDriven own before → IsWellDriven own after
       race_driven own h =
-          still_driven m done post q r (drives_among ports m memories ready placed trees no_starts q there ruled within (done ++ post) race) ready.named low_all own h
+          still_driven m done post q r (drives_among ports m ready placed trees no_starts q there ruled within (done ++ post) race) ready.named low_all own h
 
       module _ (own : flat.Ports) (fine : IsWellDriven own before) where
         all_once : Distinct (flat_map driven_bits (done ++ q ∷ post))
         all_once =
-            bits_distinct m done post q r (drives_among ports m memories ready placed trees no_starts q there ruled within (done ++ post) race) ready.named low_all own fine
+            bits_distinct m done post q r (drives_among ports m ready placed trees no_starts q there ruled within (done ++ post) race) ready.named low_all own fine
 
         -- the bits of the processes before, of this one and of those behind
         split : flat_map driven_bits (done ++ q ∷ post) ≡ flat_map driven_bits done ++ (driven_bits q ++ flat_map driven_bits post)
@@ -154,23 +155,23 @@ module _ (ports : Ports) (m : Module) (memories : Bool) (ready : IsReady (with_p
 
         starts : start_of m.wires (done ++ q ∷ post) ≡ start_of m.wires (done ++ r ∷ post)
         starts =
-            starts_stay done post q r m.wires (none_begun q (no_starts q there)) (none_begun r (starts_after ports m memories ready placed trees no_starts q there ruled within (done ++ post) race))
+            starts_stay done post q r m.wires (none_begun q (no_starts q there)) (none_begun r (starts_after ports m ready placed trees no_starts q there ruled within (done ++ post) race))
 
         accesses : SameAccesses (done ++ q ∷ post) (done ++ r ∷ post)
         accesses =
-            accesses_stay done post q r (writes_before ports m memories ready placed trees no_starts q there ruled within (done ++ post) race) (writes_after ports m memories ready placed trees no_starts q there ruled within (done ++ post) race)
+            accesses_stay done post q r (writes_before ports m ready placed trees no_starts q there ruled within (done ++ post) race) (writes_after ports m ready placed trees no_starts q there ruled within (done ++ post) race)
 
-        g : IsGoodProcess ports m (good ports m memories ready placed trees no_starts q there).0 q
-        g = (good ports m memories ready placed trees no_starts q there).1
+        g : IsGoodProcess ports m (good ports m ready placed trees no_starts q there).0 q
+        g = (good ports m ready placed trees no_starts q there).1
 
         even : EvenSwitches q.root.switches
         even = even_of q g.even
 
         abbrev same_tests : SameTests ports m
-        same_tests = tests ports m memories ready placed trees no_starts
+        same_tests = tests ports m ready placed trees no_starts
 
         abbrev fits : AreFit m.cells
-        fits = fit ports m memories ready placed trees no_starts
+        fits = fit ports m ready placed trees no_starts
 
         q_low : AreBelow (length m.wires) (driven_bits q)
         q_low b i = low_all b (in_flat driven_bits (done ++ q ∷ post) q b q_in i)
@@ -194,12 +195,12 @@ module _ (ports : Ports) (m : Module) (memories : Bool) (ready : IsReady (with_p
           cells = not_of_cells q there;
           apart = apart;
           driven_low = s_low;
-          writes = writes_before ports m memories ready placed trees no_starts q there ruled within (done ++ post) race;
+          writes = writes_before ports m ready placed trees no_starts q there ruled within (done ++ post) race;
         }
 
         no_port : is_free ports m (done ++ post) q race.reset (all_joins race.lines) ≡ true → (n : PortLine) → In n (ports_of m.wires) → (at : ℕ) → IsNone m gone (OfWire n.name at)
         no_port free =
-            ports_clear m gone ready.named (tree_bit q there) hidden given (single m.id [] m.wires (no_faults (with_processes memories) ports m ready.faultless).wires)
+            ports_clear m gone ready.named (tree_bit q there) hidden given (single m.id [] m.wires (no_faults with_processes ports m ready.faultless).wires)
           where
             hidden : (b : WireBit) → In b gone → In b (output_bits 0 m.wires) → ⊥
             hidden b i j =
@@ -246,7 +247,7 @@ module _ (ports : Ports) (m : Module) (memories : Bool) (ready : IsReady (with_p
     -- a process that stays, or one with two edges
     sorts : ((changed ≡ q) × (edge_count (acting_rules q.syncs) ≤ 1)) ⊎ IsRace ports m (done ++ post) q
     sorts =
-        race_or ports m (done ++ post) q (good ports m memories ready placed trees no_starts q there).0 (good ports m memories ready placed trees no_starts q there).1 ruled (tests ports m memories ready placed trees no_starts)
+        race_or ports m (done ++ post) q (good ports m ready placed trees no_starts q there).0 (good ports m ready placed trees no_starts q there).1 ruled (tests ports m ready placed trees no_starts)
 
     -- what becomes of a property of processes
     pub becomes : (P : Process → Type 0) → (edge_count (acting_rules q.syncs) ≤ 1 → P q) → ((race : IsRace ports m (done ++ post) q) → P (with_level ports m (done ++ post) q race.reset race.lines)) → P changed
@@ -260,8 +261,8 @@ module _ (ports : Ports) (m : Module) (memories : Bool) (ready : IsReady (with_p
     changed_kept =
         becomes (IsKept m) (λ _. record { ruled = ruled; within = within })
         (λ race. record {
-          ruled = after_ruled ports m memories ready placed trees no_starts q there ruled within (done ++ post) race;
-          within = after_within ports m memories ready placed trees no_starts q there ruled within (done ++ post) race;
+          ruled = after_ruled ports m ready placed trees no_starts q there ruled within (done ++ post) race;
+          within = after_within ports m ready placed trees no_starts q there ruled within (done ++ post) race;
         })
 
     pub one_turn : (over : flat.Ports) → IsGood over before (with_all m (done ++ changed ∷ post))

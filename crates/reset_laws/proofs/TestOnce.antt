@@ -10,6 +10,7 @@ use Rattle.rtl_ir.specs.Drivers.{Drive, Source, drive_count, driver_in, drives_o
 use Rattle.rtl_ir.specs.Fault.{BadPort, Fault, TwoDrivers, fault_if, spot}
 use Rattle.rtl_ir.specs.Faults.Bits.{bit_faults, bits_faults, faults_of_two}
 use Rattle.rtl_ir.specs.Outputs.{drives_pin}
+use Rattle.rtl_ir.specs.Scope.{with_processes}
 use Rattle.rtl_ir.specs.Signals.{same_bit, wire_bits}
 use Rattle.rtl_ir.specs.Types.{CellType, Ports, cell_type}
 use Rattle.rtl_ir.specs.declared.cell.Cell.{Cell}
@@ -26,7 +27,7 @@ use Rattle.pass_laws.proofs.Counting.{bits_of, count}
 use Rattle.pass_laws.proofs.Faultless.{no_faults, none_left, none_right}
 use Rattle.pass_laws.specs.Bits.{cells_bits, pin_bits}
 use Rattle.proc_laws.proofs.RebuildFaults.{drives_count}
-use Rattle.proc_laws.specs.Ready.{IsBitOf, IsReady, PinsHaveBits, with_processes}
+use Rattle.proc_laws.specs.Ready.{IsBitOf, IsReady, PinsHaveBits}
 use Rattle.reset_laws.proofs.TestSteps.{driver_found}
 
 pub count_in : (b : WireBit) (xs : List WireBit) → In b xs → 1 ≤ count b xs
@@ -103,7 +104,7 @@ pin_bit type (p ∷ pins) b i =
     by true j = (p, inl refl, wire_bit p.sig b j)
     by false j = absurd j
 
-module _ (ports : Ports) (m : Module) (memories : Bool) (ready : IsReady (with_processes memories) ports m) where
+module _ (ports : Ports) (m : Module) (ready : IsReady with_processes ports m) where
   -- each bit that a wire has is driven once at most
   pub driven_once : (b : WireBit) → IsBitOf m.wires (OnWire b) → drive_count (drives_of ports m) b ≤ 1
   driven_once b h = by (slice_get m.wires b.wire) refl h
@@ -112,7 +113,7 @@ module _ (ports : Ports) (m : Module) (memories : Bool) (ready : IsReady (with_p
       by None e k = absurd k
       by (Some w) e k =
           let z : 0 + b.wire ≡ b.wire = omega arith in
-          subst (λ n. drive_count (drives_of ports m) (record { wire = n; at = b.at }) ≤ 1) z (once_in m.id (drives_of ports m) 0 m.wires b.wire w (no_faults (with_processes memories) ports m ready.faultless).bits e b.at k)
+          subst (λ n. drive_count (drives_of ports m) (record { wire = n; at = b.at }) ≤ 1) z (once_in m.id (drives_of ports m) 0 m.wires b.wire w (no_faults with_processes ports m ready.faultless).bits e b.at k)
 
   -- and each bit of a pin once by the cells
   pub cells_once : Each (PinsHaveBits m.wires) m.cells → (b : WireBit) → count b (cells_bits ports m.cells) ≤ 1
@@ -122,7 +123,7 @@ module _ (ports : Ports) (m : Module) (memories : Bool) (ready : IsReady (with_p
       some i =
           let c = cell_bit ports m.cells b i in
           let pin = pin_bit (cell_type ports c.0.kind_name) c.0.pins b c.2 in
-          omega (arith, driven_once b (pins c.0 c.1 pin.0 pin.1 (OnWire b) pin.2), drives_count ports m (links_even m.id 1 m.links (no_faults (with_processes memories) ports m ready.faultless).links) b)
+          omega (arith, driven_once b (pins c.0 c.1 pin.0 pin.1 (OnWire b) pin.2), drives_count ports m (links_even m.id 1 m.links (no_faults with_processes ports m ready.faultless).links) b)
 
 -- what drives a bit first among several
 pub driver_more : (ds es : List Drive) (b : WireBit) (s : Source) → driver_in ds b ≡ Some s → driver_in (ds ++ es) b ≡ Some s

@@ -1,11 +1,11 @@
 //! The module with its resets as levels is well formed. Each law is the contract of a function that does
 //! nothing.
 
-ghost use Rattle.std.specs.Prelude.{Bool};
+ghost use Rattle.rtl_ir.specs.Scope.{with_processes};
 ghost use Rattle.rtl_ir.specs.Types.{Ports, table_ports};
 ghost use Rattle.net_model.specs.Proc.Reset.{proc_reset_of};
 ghost use Rattle.net_model.specs.Proc.Start.{proc_tree_of};
-ghost use Rattle.proc_laws.specs.Ready.{AreRuled, HasItsBits, HaveNoStarts, IsReady, with_processes};
+ghost use Rattle.proc_laws.specs.Ready.{AreRuled, HasItsBits, HaveNoStarts, IsReady};
 ghost use Rattle.proc_laws.specs.Step.{StaysReady};
 ghost use Rattle.sync_laws.specs.Kinds.{HaveNoTwoEdges};
 ghost use Rattle.reset_laws.specs.Trees.{TreesHaveBits};
@@ -18,21 +18,24 @@ use rtl_ir::{Module, PortTable};
 pub fn resets_stay_ready()
     ensures stays { (table : PortTable) (m : Module) → AreRuled m → HaveNoStarts m → HasItsBits m →
         TreesHaveBits m → StaysReady table m (proc_reset_of (table_ports table.modules) m) }
-    ensures ruled { (ports : Ports) (m : Module) (memories : Bool) → IsReady (with_processes memories) ports m →
-        AreRuled m → HaveNoStarts m → HasItsBits m → TreesHaveBits m → AreRuled (proc_reset_of ports m) }
-    ensures no_starts { (ports : Ports) (m : Module) (memories : Bool) →
-        IsReady (with_processes memories) ports m → AreRuled m → HaveNoStarts m → HasItsBits m →
+    ensures ruled { (ports : Ports) (m : Module) →
+        IsReady with_processes ports m → AreRuled m → HaveNoStarts m → HasItsBits m →
+        TreesHaveBits m → AreRuled (proc_reset_of ports m) }
+    ensures no_starts { (ports : Ports) (m : Module) →
+        IsReady with_processes ports m → AreRuled m → HaveNoStarts m → HasItsBits m →
         TreesHaveBits m → HaveNoStarts (proc_reset_of ports m) }
-    ensures placed { (ports : Ports) (m : Module) (memories : Bool) → IsReady (with_processes memories) ports m →
-        AreRuled m → HaveNoStarts m → HasItsBits m → TreesHaveBits m → HasItsBits (proc_reset_of ports m) }
-    ensures trees { (ports : Ports) (m : Module) (memories : Bool) → IsReady (with_processes memories) ports m →
-        AreRuled m → HaveNoStarts m → HasItsBits m → TreesHaveBits m → TreesHaveBits (proc_reset_of ports m) }
+    ensures placed { (ports : Ports) (m : Module) →
+        IsReady with_processes ports m → AreRuled m → HaveNoStarts m → HasItsBits m →
+        TreesHaveBits m → HasItsBits (proc_reset_of ports m) }
+    ensures trees { (ports : Ports) (m : Module) →
+        IsReady with_processes ports m → AreRuled m → HaveNoStarts m → HasItsBits m →
+        TreesHaveBits m → TreesHaveBits (proc_reset_of ports m) }
 {}
 
 /// And no process has two edges any more.
 pub fn resets_leave_one_edge()
-    ensures no_two_edges { (ports : Ports) (m : Module) (memories : Bool) →
-        IsReady (with_processes memories) ports m → AreRuled m → HaveNoStarts m → HasItsBits m →
+    ensures no_two_edges { (ports : Ports) (m : Module) →
+        IsReady with_processes ports m → AreRuled m → HaveNoStarts m → HasItsBits m →
         TreesHaveBits m → HaveNoTwoEdges (proc_reset_of ports m) }
 {}
 

@@ -1,3 +1,4 @@
+pub mod LibraryCells
 pub mod Firsts
 pub mod CellLemmas
 pub mod Tallying

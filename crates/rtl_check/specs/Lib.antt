@@ -1,6 +1,6 @@
-pub mod Taken
 pub mod Words
 pub mod Finds
+pub mod Named
 pub mod Numbers
 pub mod Tallies
 pub mod Places

@@ -1,47 +1,70 @@
 //! The faults of cells: of their types, parameters and pins.
 
-ghost use Rattle.std.specs.Prelude.{◌≡◌, List, [], OnOk, option_map};
+ghost use Rattle.std.specs.Prelude.{◌≡◌, ◌++◌, ◌∷◌, List, [], IfOk, OnOk, Some, true, option_map};
 ghost use Rattle.std.specs.List.{list_any};
 ghost use Rattle.rtl_ir.specs.declared.cell.Cell.{Cell};
 ghost use Rattle.rtl_ir.specs.declared.module.Module.{Module};
 ghost use Rattle.rtl_ir.specs.declared.ports.PortLine.{PortLine};
 ghost use Rattle.rtl_ir.specs.Fault.{spot};
+ghost use Rattle.cell_types.specs.declared.kind.CellKind.TheVariants as Cells;
+ghost use Rattle.cell_types.specs.Bounds.{KeepsBounds};
+ghost use Rattle.cell_types.specs.Kind.{kind_of};
 ghost use Rattle.rtl_ir.specs.Faults.Cells as cells;
-ghost use Rattle.rtl_check.specs.Taken.{taken};
+ghost use Rattle.rtl_ir.specs.Flat.Cell.{cell_shape};
+ghost use Rattle.rtl_ir.specs.Scope.{everything};
 ghost use Rattle.rtl_ir.specs.Types as rtl;
 ghost use Rattle.net_index.specs.Types.{AreTypes, IsTable, IsType};
 ghost use Rattle.event_tests.specs.Fitting.{DoCellsFit};
+ghost use Rattle.memory_check.specs.Memories.{KnowsCells};
+ghost use Rattle.memory_check.specs.Shapes.{HasShape};
 ghost use Rattle.rtl_check.specs.Finds.{Finds};
+ghost use Rattle.rtl_check.specs.Named.{Names};
 
 use crate::fault::CheckFault;
 use crate::wires::spot;
-use cell_types::{CellFault, CellKind};
+use cell_types::{CellFault, CellKind, MemoryKind, Shape};
+use memory_check::Memories;
 use net_index::{CellType, PortNames, Types, cell_shape, drives_pin};
 use process_check::has_constant;
 use rtl_bits::Text;
 use rtl_ir::{Cell, Module, Pin};
 use std::alloc::Global;
 
-/// The first fault of the cells of a module, over the types of its design. There are no cells of memories so far.
-pub(crate) fn check_cells(alloc: Global, types: &Types, body: &Module) -> Result<(), CheckFault>
+/// The first fault of the cells of a module, over the types of its design. Those of memories are noted.
+pub(crate) fn check_cells<'a>(
+    alloc: Global,
+    types: &Types,
+    memories: &mut Memories<'a>,
+    body: &'a Module,
+) -> Result<(), CheckFault>
+    requires known { KnowsCells memories.old body.now [] }
     ensures first { (ports : rtl.Ports) → AreTypes types.now ports →
-        Finds result (cells.cell_faults taken ports body.now [] body.now.cells) }
+        Finds result (cells.cell_faults everything ports body.now [] body.now.cells) }
     ensures fit { OnOk result ((ports : rtl.Ports) → AreTypes types.now ports → DoCellsFit ports body.now) }
+    ensures noted { OnOk result ((ports : rtl.Ports) → AreTypes types.now ports → KnowsCells memories.new body.now body.now.cells) }
 {
     for cell in body.cells.as_slice() {
         let cell_type = types.find(cell.kind_name.as_slice());
-        check_cell(alloc, &body.id, cell, &cell_type)?;
+        check_cell(alloc, memories, &body.id, cell, &cell_type)?;
     }
     Ok(())
 }
 
-/// The first fault of a cell of this type.
-fn check_cell(alloc: Global, id: &Text, cell: &Cell, cell_type: &CellType) -> Result<(), CheckFault>
-    ensures first { (type : rtl.CellType) → IsType cell_type.now type → (m : Module) → m.id ≡ id.now → (earlier : List Cell) →
-        Finds result (cells.faults_by_type taken m earlier cell.now type) }
+/// The first fault of a cell of this type. If it is one of a memory, it is noted.
+fn check_cell<'a>(
+    alloc: Global,
+    memories: &mut Memories<'a>,
+    id: &Text,
+    cell: &'a Cell,
+    cell_type: &CellType,
+) -> Result<(), CheckFault>
+    ensures first { (type : rtl.CellType) → IsType cell_type.now type → (m : Module) → m.id ≡ id.now → (earlier : List Cell) → KnowsCells memories.old m earlier →
+        Finds result (cells.faults_by_type everything m earlier cell.now type) }
+    ensures noted { OnOk result ((type : rtl.CellType) → IsType cell_type.now type → Names cell.now.kind_name type → (m : Module) (earlier : List Cell) → KnowsCells memories.old m earlier →
+        KnowsCells memories.new m (earlier ++ cell.now ∷ [])) }
 {
     match cell_type {
-        CellType::Library(kind) => check_library_cell(alloc, id, cell, *kind),
+        CellType::Library(kind) => check_library_cell(alloc, memories, id, cell, *kind),
         CellType::Instance(ports) => check_instance(id, cell, ports),
         CellType::Unsupported => Err(CheckFault::UnsupportedCell(spot(id, &cell.name)?)),
         CellType::Unknown => Err(CheckFault::UnknownCell(spot(id, &cell.name)?)),
@@ -49,28 +72,54 @@ fn check_cell(alloc: Global, id: &Text, cell: &Cell, cell_type: &CellType) -> Re
 }
 
 /// The first fault of a cell of the library.
-fn check_library_cell(
+fn check_library_cell<'a>(
     alloc: Global,
+    memories: &mut Memories<'a>,
     id: &Text,
-    cell: &Cell,
+    cell: &'a Cell,
     kind: CellKind,
 ) -> Result<(), CheckFault>
-    ensures first { (m : Module) → m.id ≡ id.now → (earlier : List Cell) →
-        Finds result (cells.faults_by_type taken m earlier cell.now (rtl.Library kind)) }
+    ensures first { (m : Module) → m.id ≡ id.now → (earlier : List Cell) → KnowsCells memories.old m earlier →
+        Finds result (cells.faults_by_type everything m earlier cell.now (rtl.Library kind)) }
+    ensures noted { OnOk result (kind_of cell.now.kind_name ≡ Some kind → (m : Module) (earlier : List Cell) → KnowsCells memories.old m earlier →
+        KnowsCells memories.new m (earlier ++ cell.now ∷ [])) }
 {
-    if is_memory(kind) {
-        return Err(CheckFault::UnsupportedCell(spot(id, &cell.name)?));
+    let shape = check_shape(alloc, id, cell, kind)?;
+    check_outputs(id, cell, &CellType::Library(kind))?;
+    match kind {
+        CellKind::Memory(kind) => check_memory_cell(alloc, memories, id, cell, kind, &shape),
+        _ => Ok(()),
     }
-    check_shape(alloc, id, cell, kind)?;
-    check_outputs(id, cell, &CellType::Library(kind))
 }
 
-/// The first fault of a cell's parameters and pins.
-fn check_shape(alloc: Global, id: &Text, cell: &Cell, kind: CellKind) -> Result<(), CheckFault>
+/// The fault of a cell of this kind and shape as one of a memory. If it has none, it is noted.
+fn check_memory_cell<'a>(
+    alloc: Global,
+    memories: &mut Memories<'a>,
+    id: &Text,
+    cell: &'a Cell,
+    kind: MemoryKind,
+    shape: &Shape,
+) -> Result<(), CheckFault>
+    ensures first { (m : Module) → m.id ≡ id.now → (earlier : List Cell) → KnowsCells memories.old m earlier → HasShape shape.now kind cell.now →
+        Finds result (cells.memory_faults true m earlier cell.now (Cells.Memory kind)) }
+    ensures noted { OnOk result (kind_of cell.now.kind_name ≡ Some (Cells.Memory kind) → HasShape shape.now kind cell.now → (m : Module) (earlier : List Cell) → KnowsCells memories.old m earlier →
+        KnowsCells memories.new m (earlier ++ cell.now ∷ [])) }
+{
+    if memories.is_bad_cell(alloc, cell, kind, shape)? {
+        return Err(CheckFault::BadMemory(spot(id, &cell.name)?));
+    }
+    Ok(())
+}
+
+/// The shape of a cell, or the first fault of its parameters and pins.
+fn check_shape(alloc: Global, id: &Text, cell: &Cell, kind: CellKind) -> Result<Shape, CheckFault>
     ensures first { Finds result (cells.shape_fault (spot id.now cell.now.name) (cells.misfit kind cell.now)) }
+    ensures shape { IfOk result (λ shape. shape ≡ cell_shape kind cell.now.params) }
+    ensures bounds { IfOk result KeepsBounds }
 {
     match cell_shape(alloc, kind, cell) {
-        Ok(_) => Ok(()),
+        Ok(shape) => Ok(shape),
         Err(CellFault::Bad) => Err(CheckFault::BadParameterOrPort(spot(id, &cell.name)?)),
         Err(CellFault::Wide) => Err(CheckFault::TooWide(spot(id, &cell.name)?)),
         Err(CellFault::Width) => Err(CheckFault::Width(spot(id, &cell.name)?)),
@@ -94,7 +143,7 @@ fn check_outputs(id: &Text, cell: &Cell, cell_type: &CellType) -> Result<(), Che
 /// The first fault of an instance of a module with these ports.
 fn check_instance(id: &Text, cell: &Cell, ports: &PortNames) -> Result<(), CheckFault>
     ensures first { (lines : List PortLine) → IsTable ports.now lines → (m : Module) → m.id ≡ id.now → (earlier : List Cell) →
-        Finds result (cells.faults_by_type taken m earlier cell.now (rtl.Instance lines)) }
+        Finds result (cells.faults_by_type everything m earlier cell.now (rtl.Instance lines)) }
 {
     if !cell.params.as_slice().is_empty() || lacks_port(cell.pins.as_slice(), ports) {
         return Err(CheckFault::BadParameterOrPort(spot(id, &cell.name)?));
@@ -145,11 +194,4 @@ fn is_misfit(pin: &Pin, ports: &PortNames) -> bool
         Some(port) => width != 0 && width != port.width as usize,
         None => false,
     }
-}
-
-/// Whether it is a cell of a memory.
-fn is_memory(kind: CellKind) -> bool
-    ensures value { result ≡ cells.is_memory_kind kind }
-{
-    matches!(kind, CellKind::Memory(_))
 }

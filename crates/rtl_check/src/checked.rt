@@ -1,8 +1,7 @@
 //! A design without faults.
 
 ghost use Rattle.std.specs.Prelude.{◌≡◌, []};
-ghost use Rattle.rtl_ir.specs.Faults.{faults_within};
-ghost use Rattle.rtl_check.specs.Taken.{taken};
+ghost use Rattle.rtl_ir.specs.Faults.{check_faults};
 
 use rtl_ir::Design;
 
@@ -10,13 +9,13 @@ use rtl_ir::Design;
 #[derive(Drop)]
 pub struct Checked {
     design: Design,
-    ghost faultless: { faults_within taken design.modules ≡ [] },
+    ghost faultless: { check_faults design.modules ≡ [] },
 }
 
 impl Checked {
     /// Takes a design that has no fault.
     pub(crate) fn make(design: Design) -> Checked
-        requires faultless { faults_within taken design.modules ≡ [] }
+        requires faultless { check_faults design.modules ≡ [] }
         ensures value { result.design ≡ design }
     {
         Checked { design }
@@ -25,7 +24,7 @@ impl Checked {
     /// The design.
     pub fn design(&self) -> &Design
         ensures value { result.now ≡ self.now.design }
-        ensures faultless { faults_within taken result.now.modules ≡ [] }
+        ensures faultless { check_faults result.now.modules ≡ [] }
     {
         &self.design
     }
@@ -33,7 +32,7 @@ impl Checked {
     /// The design, given away.
     pub fn into_design(self) -> Design
         ensures value { result ≡ self.design }
-        ensures faultless { faults_within taken result.modules ≡ [] }
+        ensures faultless { check_faults result.modules ≡ [] }
     {
         self.design
     }

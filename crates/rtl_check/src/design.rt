@@ -1,8 +1,8 @@
 //! The faults of a design.
 
 ghost use Rattle.std.specs.Prelude.{flat_map};
-ghost use Rattle.rtl_ir.specs.Faults.{faults_within, module_faults};
-ghost use Rattle.rtl_check.specs.Taken.{taken};
+ghost use Rattle.rtl_ir.specs.Faults.{check_faults, module_faults};
+ghost use Rattle.rtl_ir.specs.Scope.{everything};
 ghost use Rattle.rtl_ir.specs.Types.{design_ports};
 ghost use Rattle.rtl_check.specs.Finds.{Finds};
 
@@ -15,7 +15,7 @@ use std::alloc::Global;
 
 /// The first fault of a design of these modules.
 pub(crate) fn check_design(alloc: Global, modules: &[Module]) -> Result<(), CheckFault>
-    ensures first { Finds result (faults_within taken modules.now) }
+    ensures first { Finds result (check_faults modules.now) }
 {
     check_modules(alloc, modules)?;
     check_recursion(alloc, modules)
@@ -23,7 +23,7 @@ pub(crate) fn check_design(alloc: Global, modules: &[Module]) -> Result<(), Chec
 
 /// The first fault in one of the modules.
 fn check_modules(alloc: Global, modules: &[Module]) -> Result<(), CheckFault>
-    ensures first { Finds result (flat_map (module_faults taken (design_ports modules.now)) modules.now) }
+    ensures first { Finds result (flat_map (module_faults everything (design_ports modules.now)) modules.now) }
 {
     let types = Types::of_design(alloc, modules)?;
     for body in modules {

@@ -34,7 +34,7 @@ pub enum CheckFault {
     Width(Spot),
     /// The type of a cell names no cell of the library and no module.
     UnknownCell(Spot),
-    /// A cell or a process that is known and not taken, or a memory as long as there are none.
+    /// A cell that is known and not taken.
     UnsupportedCell(Spot),
     /// A parameter is missing, unknown or without meaning, or a pin is missing or unknown.
     BadParameterOrPort(Spot),

@@ -4,25 +4,31 @@ use Rattle.std.specs.Prelude.{Bool, true, false, not}
 use Rattle.std.specs.List.{list_any}
 use Rattle.rtl_ir.specs.declared.process.Process.{Process}
 use Rattle.rtl_ir.specs.declared.process.SyncRule.{SyncRule}
-use Rattle.rtl_ir.specs.Rules.{has_item, has_line}
+use Rattle.rtl_ir.specs.Rules.{has_item}
 
--- whether memories and their cells are taken, and which processes are
+-- whether memories and their cells are taken, which processes are, and whether the clocks of the write ports of a memory are
+-- compared
 pub record Scope : Type 0 where
   pub memories : Bool
   pub processes : Process → Bool
+  pub clocks : Bool
 
 -- everything is taken
 abbrev pub everything : Scope
-everything = record { memories = true; processes = λ p. true }
+everything = record { memories = true; processes = λ p. true; clocks = true }
 
 -- cells and instances are taken, and neither memories nor processes
 abbrev pub cells_alone : Scope
-cells_alone = record { memories = false; processes = λ p. false }
+cells_alone = record { memories = false; processes = λ p. false; clocks = false }
 
--- cells, instances and the processes in which no rule has a line are taken
-abbrev pub trees_alone : Scope
-trees_alone = record { memories = false; processes = λ p. not (list_any has_line p.syncs) }
+-- all but processes is taken, and clocks are not compared
+abbrev pub without_processes : Scope
+without_processes = record { memories = true; processes = λ p. false; clocks = false }
+
+-- everything is taken, and clocks are not compared
+abbrev pub with_processes : Scope
+with_processes = record { memories = true; processes = λ p. true; clocks = false }
 
 -- cells, instances and the processes in which no rule writes a memory are taken
 abbrev pub no_memories : Scope
-no_memories = record { memories = false; processes = λ p. not (list_any (λ (r : SyncRule). has_item r.writes) p.syncs) }
+no_memories = record { memories = false; processes = λ p. not (list_any (λ (r : SyncRule). has_item r.writes) p.syncs); clocks = true }

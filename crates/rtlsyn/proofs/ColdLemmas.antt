@@ -10,7 +10,7 @@ use Rattle.script_core.specs.declared.key.Key.{Key}
 use Rattle.script_core.specs.declared.outcome.Outcome.{Outcome}
 use Rattle.script_core.specs.declared.outcome.Outcome.TheVariants.{Done, Over}
 use Rattle.script_core.specs.declared.word.Word.{Word}
-use Rattle.script_core.specs.declared.word.Word.TheVariants.{Proc, Opt, Techmap}
+use Rattle.script_core.specs.declared.word.Word.TheVariants.{Proc, Opt, Techmap, Memory as MemoryWord}
 use Rattle.script_core.specs.Words.{IsScript}
 use Rattle.script_core.specs.Built.{IsValueOf}
 use Rattle.script_core.specs.Cold.{named, outcome_of}
@@ -19,13 +19,19 @@ use Rattle.script_core.proofs.Refining.{value_named}
 use Rattle.rtlsyn.specs.Cold.{done_modules, first_over}
 
 -- the script of this stage is one, and so are its fronts
-pub is_first : IsScript (Proc ∷ Opt ∷ [])
-is_first = record { first = refl; count = omega arith }
+pub one_word : IsScript (Proc ∷ Opt ∷ [])
+one_word = record { first = refl; count = omega arith }
 
-pub is_second : IsScript (Proc ∷ Opt ∷ Techmap ∷ [])
-is_second = record { first = refl; count = omega arith }
+pub two_words : IsScript (Proc ∷ Opt ∷ MemoryWord ∷ [])
+two_words = record { first = refl; count = omega arith }
 
-pub is_script : IsScript (Proc ∷ Opt ∷ Techmap ∷ Opt ∷ [])
+pub three_words : IsScript (Proc ∷ Opt ∷ MemoryWord ∷ Opt ∷ [])
+three_words = record { first = refl; count = omega arith }
+
+pub four_words : IsScript (Proc ∷ Opt ∷ MemoryWord ∷ Opt ∷ Techmap ∷ [])
+four_words = record { first = refl; count = omega arith }
+
+pub is_script : IsScript (Proc ∷ Opt ∷ MemoryWord ∷ Opt ∷ Techmap ∷ Opt ∷ [])
 is_script = record { first = refl; count = omega arith }
 
 next : (f : Module → Outcome) (ms : List Module) (at : ℕ) (o : Outcome) → at < length ms → ((m : Module) → slice_get ms at ≡ Some m → o ≡ f m) → map f (take at ms) ++ o ∷ [] ≡ map f (take (suc at) ms)

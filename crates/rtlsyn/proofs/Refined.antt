@@ -5,8 +5,7 @@ use Rattle.std.specs.Io.KnownBytes.{Appends}
 use Rattle.synth_io.specs.declared.input.TheConstants.{LIMIT}
 use Rattle.rtl_ir.specs.declared.module.Design.{Design}
 use Rattle.rtl_ir.specs.Fault.{Fault}
-use Rattle.rtl_ir.specs.Faults.{faults_within}
-use Rattle.rtl_check.specs.Taken.{taken}
+use Rattle.rtl_ir.specs.Faults.{check_faults}
 use Rattle.rtl_check.specs.declared.fault.CheckFault.{CheckFault}
 use Rattle.rtl_check.specs.Finds.{first_answer}
 use Rattle.rtl_read.specs.declared.read_fault.ReadFault.{ReadFault}
@@ -14,9 +13,11 @@ use Rattle.rtl_read.specs.declared.read_fault.ReadFault.TheVariants as faults
 use Rattle.rtl_read.specs.Reads.{Reads}
 use Rattle.rtl_trip.proofs.Kept.{readable}
 use Rattle.rtl_write.specs.Text.{text_of}
+use Rattle.net_model.specs.Gates.{is_gate_netlist}
 use Rattle.net_model.specs.Refine.{Refines}
 use Rattle.script_core.specs.Cold.{cold, outcome_of}
-use Rattle.script_core.proofs.Refining.{cold_refines}
+use Rattle.script_core.specs.Fold.{IsStageScript}
+use Rattle.script_core.proofs.Refining.{cold_gates, cold_refines}
 use Rattle.rtlsyn.specs.declared.over.Overrun.{Overrun}
 use Rattle.rtlsyn.specs.declared.program.Mode.{Mode}
 use Rattle.rtlsyn.specs.declared.program.Mode.TheVariants.{Synth}
@@ -31,9 +32,10 @@ record IsNetlistText (input text : List ℕ) : Type 0 where
   design : Design
   netlist : Design
   reads : Reads input design
-  faultless : faults_within taken design.modules ≡ []
+  faultless : check_faults design.modules ≡ []
   whole : text ≡ text_of netlist
   refines : Refines design netlist
+  gates : is_gate_netlist netlist ≡ true
 
 fault_error : (fault : ReadFault) → (fault_reply fault).error ≡ true
 fault_error (faults.Lex place) = refl
@@ -49,30 +51,36 @@ no_fault : (all : List Fault) → first_answer all ≡ None → all ≡ []
 no_fault [] e = refl
 no_fault (fault ∷ all) e = absurd cc
 
+-- each word of the script has a pass
+stage : IsStageScript stage_script
+stage = (refl, (tt, (tt, (tt, (tt, (tt, tt))))))
+
 -- the reply to a design without faults
-of_cold : (input : List ℕ) (d : Design) → Reads input d → faults_within taken d.modules ≡ [] → (cold_reply d).error ≡ false → IsNetlistText input (cold_reply d).text
+of_cold : (input : List ℕ) (d : Design) → Reads input d → check_faults d.modules ≡ [] → (cold_reply d).error ≡ false → IsNetlistText input (cold_reply d).text
 unfolding cold_reply
 of_cold input d reads fine = by (first_over d.modules (cold stage_script d)) refl
   where
     by : (o : Option Overrun) → first_over d.modules (cold stage_script d) ≡ o → (outcomes_reply d (cold stage_script d) o).error ≡ false → IsNetlistText input (outcomes_reply d (cold stage_script d) o).text
     by None e h =
         let n : Design = record { modules = done_modules (cold stage_script d) } in
+        let run = none_over (outcome_of stage_script d.modules) d.modules e in
         record {
           design = d;
           netlist = n;
           reads = reads;
           faultless = fine;
           whole = refl;
-          refines = cold_refines d (readable input d reads) fine stage_script (refl, (tt, (tt, (tt, tt)))) n (none_over (outcome_of stage_script d.modules) d.modules e);
+          refines = cold_refines d (readable input d reads) fine stage_script stage n run;
+          gates = cold_gates d (readable input d reads) fine stage_script stage refl n run;
         }
     by (Some over) e h = absurd cc
 
 of_design : (input : List ℕ) (d : Design) → Reads input d → (design_reply d).error ≡ false → IsNetlistText input (design_reply d).text
 unfolding design_reply
-of_design input d reads = by (first_answer (faults_within taken d.modules)) refl
+of_design input d reads = by (first_answer (check_faults d.modules)) refl
   where
-    by : (o : Option CheckFault) → first_answer (faults_within taken d.modules) ≡ o → (checked_reply d o).error ≡ false → IsNetlistText input (checked_reply d o).text
-    by None e h = of_cold input d reads (no_fault (faults_within taken d.modules) e) h
+    by : (o : Option CheckFault) → first_answer (check_faults d.modules) ≡ o → (checked_reply d o).error ≡ false → IsNetlistText input (checked_reply d o).text
+    by None e h = of_cold input d reads (no_fault (check_faults d.modules) e) h
     by (Some fault) e h = absurd cc
 
 of_text : (input : List ℕ) (said : Said) → IsTextReply input said → said.error ≡ false → IsNetlistText input said.text
@@ -103,4 +111,5 @@ refined_done mode (Some input) had has reply is written fine =
       faultless = n.faultless;
       written = subst (Appends had has) n.whole written;
       refines = n.refines;
+      gates = n.gates;
     }

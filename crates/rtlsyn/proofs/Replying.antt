@@ -8,8 +8,7 @@ use Rattle.synth_io.specs.declared.input.TheConstants.{LIMIT}
 use Rattle.synth_io.specs.declared.input.InputError.{InputError}
 use Rattle.rtl_ir.specs.declared.module.Design.{Design}
 use Rattle.rtl_ir.specs.Fault.{Fault}
-use Rattle.rtl_ir.specs.Faults.{faults_within}
-use Rattle.rtl_check.specs.Taken.{taken}
+use Rattle.rtl_ir.specs.Faults.{check_faults}
 use Rattle.rtl_check.specs.declared.fault.CheckFault.{CheckFault}
 use Rattle.rtl_check.specs.declared.fault.CheckFault.TheVariants as check
 use Rattle.rtl_check.specs.Finds.{IsFirst, first_answer}
@@ -62,7 +61,7 @@ of_design text design (Ok reply) reads is = inl (design, reads, is)
 of_design text design (Err memory) reads is = tt
 
 -- a design without faults has the reply to its cold run
-pub of_accepted : (design given : Design) (r : Result Reply Memory) → given ≡ design → faults_within taken design.modules ≡ []
+pub of_accepted : (design given : Design) (r : Result Reply Memory) → given ≡ design → check_faults design.modules ≡ []
     → IfOk r (λ reply. said_of reply ≡ cold_reply given) → IfOk r (λ reply. said_of reply ≡ design_reply design)
 unfolding design_reply
 of_accepted design given (Ok reply) same fine is =
@@ -83,11 +82,11 @@ first_is (check.Recursion id) all first other = first
 first_is check.Memory all first other = absurd (other refl)
 
 -- a design with a first fault has the reply with its line
-pub of_refused : (design : Design) (fault : CheckFault) (r : Result Reply Memory) → IsFirst fault (faults_within taken design.modules)
+pub of_refused : (design : Design) (fault : CheckFault) (r : Result Reply Memory) → IsFirst fault (check_faults design.modules)
     → IfOk r (λ reply. fault ≢ check.Memory) → IfOk r (λ reply. said_of reply ≡ error_line (fault_number fault) (fault_words fault))
     → IfOk r (λ reply. said_of reply ≡ design_reply design)
 unfolding design_reply
-of_refused design fault (Ok reply) first other is = is ∙ sym (ap (checked_reply design) (first_is fault (faults_within taken design.modules) first other))
+of_refused design fault (Ok reply) first other is = is ∙ sym (ap (checked_reply design) (first_is fault (check_faults design.modules) first other))
 of_refused design fault (Err memory) first other is = tt
 
 -- a fault that is no want of memory is the first

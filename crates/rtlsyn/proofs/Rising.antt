@@ -4,8 +4,7 @@ use Rattle.std.specs.Prelude.{IfSome}
 use Rattle.std.specs.Io.KnownBytes.{Consumes, IsAtEnd}
 use Rattle.rtl_bits.specs.Counts.{risen}
 use Rattle.rtl_ir.specs.declared.module.Design.{Design}
-use Rattle.rtl_ir.specs.Faults.{faults_within}
-use Rattle.rtl_check.specs.Taken.{taken}
+use Rattle.rtl_ir.specs.Faults.{check_faults}
 use Rattle.rtl_read.specs.Reads.{Reads}
 use Rattle.rtlsyn.specs.Builds.{RisesUpTo, CountsBuilds}
 
@@ -39,7 +38,7 @@ rises_within a b m n f le = record { steps = f.steps; few = omega (arith, f.few,
 
 -- the builds for a text that is read as a design
 pub of_design : (text : List ℕ) (design : Design) (m n : ℕ) → Reads text design
-    → (n ≡ m) ⊎ ((faults_within taken design.modules ≡ []) × RisesUpTo (length design.modules) m n) → CountsBuilds text m n
+    → (n ≡ m) ⊎ ((check_faults design.modules ≡ []) × RisesUpTo (length design.modules) m n) → CountsBuilds text m n
 of_design text design m n reads (inl same) = inl same
 of_design text design m n reads (inr built) = inr (record { design = design; reads = reads; faultless = built.0; builds = built.1 })
 

@@ -2,8 +2,7 @@
 use Rattle.std.specs.Prelude.{◌≡◌, ◌≤◌, ◌⊎◌, ℕ, List, [], length}
 use Rattle.rtl_bits.specs.Counts.{risen}
 use Rattle.rtl_ir.specs.declared.module.Design.{Design}
-use Rattle.rtl_ir.specs.Faults.{faults_within}
-use Rattle.rtl_check.specs.Taken.{taken}
+use Rattle.rtl_ir.specs.Faults.{check_faults}
 use Rattle.rtl_read.specs.Reads.{Reads}
 
 -- a counter has risen by at most so many steps
@@ -16,7 +15,7 @@ pub record RisesUpTo (most before after : ℕ) : Type 0 where
 pub record IsBuilt (input : List ℕ) (before after : ℕ) : Type 0 where
   pub design : Design
   pub reads : Reads input design
-  pub faultless : faults_within taken design.modules ≡ []
+  pub faultless : check_faults design.modules ≡ []
   pub builds : RisesUpTo (length design.modules) before after
 
 -- the builds for an input: none where it is no accepted design

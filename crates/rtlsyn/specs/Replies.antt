@@ -8,12 +8,12 @@ use Rattle.rtl_lex.specs.Place.{place_text}
 use Rattle.rtl_read.specs.declared.read_fault.ReadFault.{ReadFault}
 use Rattle.rtl_read.specs.declared.read_fault.ReadFault.TheVariants as faults
 use Rattle.rtl_read.specs.Reads.{Reads, IsFirstFault}
-use Rattle.rtl_ir.specs.Faults.{faults_within}
-use Rattle.rtl_check.specs.Taken.{taken}
+use Rattle.rtl_ir.specs.Faults.{check_faults}
 use Rattle.rtl_check.specs.declared.fault.CheckFault.{CheckFault}
 use Rattle.rtl_check.specs.Finds.{first_answer}
 use Rattle.rtl_check.specs.Words.{fault_number, fault_words}
 use Rattle.rtl_write.specs.Text.{text_of}
+use Rattle.net_model.specs.Gates.{is_gate_netlist}
 use Rattle.net_model.specs.Refine.{Refines}
 use Rattle.script_core.specs.declared.outcome.Outcome.{Outcome}
 use Rattle.script_core.specs.declared.word.Word.{Word}
@@ -84,7 +84,7 @@ checked_reply design None = cold_reply design
 checked_reply design (Some fault) = error_line (fault_number fault) (fault_words fault)
 
 unfoldable pub design_reply : Design → Said
-design_reply design = checked_reply design (first_answer (faults_within taken design.modules))
+design_reply design = checked_reply design (first_answer (check_faults design.modules))
 
 -- the reply to a text: that to the design that it reads as, or its first fault
 abbrev pub IsTextReply : List ℕ → Said → Type 0
@@ -116,14 +116,16 @@ abbrev pub HasBegun : Mode → Option (List ℕ) → Option (List ℕ) → Optio
 HasBegun mode before had has =
     IfSome before (λ input. (said : Said) × IsReply mode input said × ((n : ℕ) × Appends had has (take n said.text)))
 
--- the netlist of the accepted design that an input is was written, and it refines the design
+-- the netlist of the accepted design that an input is was written; it refines the design, and each of its cells is a gate or an
+-- instance of one of its modules
 pub record IsRefinedBy (input : List ℕ) (had has : Option (List ℕ)) : Type 0 where
   pub design : Design
   pub netlist : Design
   pub reads : Reads input design
-  pub faultless : faults_within taken design.modules ≡ []
+  pub faultless : check_faults design.modules ≡ []
   pub written : Appends had has (text_of netlist)
   pub refines : Refines design netlist
+  pub gates : is_gate_netlist netlist ≡ true
 
 -- the whole reply was written, or memory was wanting
 abbrev pub IsCompleted : Status → Type 0

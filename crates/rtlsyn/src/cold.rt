@@ -15,11 +15,13 @@ use script_core::{Outcome, Script, Word, build, key_of};
 use std::alloc::Global;
 
 /// The script of this stage.
-#[tactic(auto, using(crate::proofs::ColdLemmas::is_first, crate::proofs::ColdLemmas::is_second, crate::proofs::ColdLemmas::is_script))]
+#[tactic(auto, using(crate::proofs::ColdLemmas::one_word, crate::proofs::ColdLemmas::two_words, crate::proofs::ColdLemmas::three_words, crate::proofs::ColdLemmas::four_words, crate::proofs::ColdLemmas::is_script))]
 pub fn stage_script(alloc: Global) -> Result<Script, Memory>
     ensures value { IfOk result (λ script. script ≡ stage_script) }
 {
     let mut script = Script::make(alloc)?;
+    script.push(Word::Opt)?;
+    script.push(Word::Memory)?;
     script.push(Word::Opt)?;
     script.push(Word::Techmap)?;
     script.push(Word::Opt)?;

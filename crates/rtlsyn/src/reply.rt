@@ -2,8 +2,7 @@
 
 ghost use Rattle.std.specs.Prelude.{◌≡◌, ◌≢◌, ◌⊎◌, [], IfOk, codes, false, length, string_bytes};
 ghost use Rattle.rtl_lex.specs.Place.{place_text};
-ghost use Rattle.rtl_ir.specs.Faults.{faults_within};
-ghost use Rattle.rtl_check.specs.Taken.{taken};
+ghost use Rattle.rtl_ir.specs.Faults.{check_faults};
 ghost use Rattle.rtl_trip.specs.Readable.{IsReadable};
 ghost use Rattle.rtl_check.specs.Words.{fault_number, fault_words};
 ghost use Rattle.rtl_write.specs.Text.{text_of};
@@ -139,7 +138,7 @@ fn refused_reply(alloc: Global, fault: &CheckFault) -> Result<Reply, Memory>
 fn design_reply<L>(alloc: Global, design: Design, meter: &mut Steps<L>) -> Result<Reply, Memory>
     requires readable { IsReadable design }
     ensures value { IfOk result (λ reply. said_of reply ≡ design_reply design) }
-    ensures builds { (meter.new ≡ meter.old) ⊎ ((faults_within taken design.modules ≡ []) × RisesUpTo (length design.modules) meter.old meter.new) }
+    ensures builds { (meter.new ≡ meter.old) ⊎ ((check_faults design.modules ≡ []) × RisesUpTo (length design.modules) meter.old meter.new) }
 {
     match check(alloc, design) {
         Ok(checked) => cold_reply(alloc, &checked, meter),

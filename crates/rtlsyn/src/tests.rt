@@ -1,10 +1,13 @@
 //! The top call over memory.
 
-mod cell_text;
 mod faults;
 mod limits;
+mod mapped_text;
+mod memories;
+mod memory_text;
 mod processes;
 mod whole_text;
+mod width_text;
 
 ghost use Rattle.std.specs.Prelude.{◌≡◌};
 ghost use Rattle.rtlsyn.specs.Replies.{IsCompleted};
@@ -36,7 +39,7 @@ fn call(
 ) -> Result<(Status, MemSink), Fail> {
     let text = Text::from_slice(alloc, input)?;
     let mut source = MemSource::make(text, Vec::from_slice(alloc, reads)?);
-    let mut sink = MemSink::make(alloc, 2_000_000, Vec::from_slice(alloc, writes)?)?;
+    let mut sink = MemSink::make(alloc, 8_000_000, Vec::from_slice(alloc, writes)?)?;
     let (status, _builds) = count_builds(alloc, &mut source, &mut sink);
     Ok((status, sink))
 }
@@ -83,21 +86,6 @@ fn run_rows(rt: &impl Abort, alloc: Global, table: &[u8]) -> Result<(u32, u32), 
 }
 
 #[test]
-fn first_texts_of_cells_have_their_netlists(rt: HostRuntime) -> Result<(), Fail> {
-    assert_eq!(rt; run_rows(&rt, rt.alloc(), cell_text::FIRST_ROWS)?, (73, 73));
-    Ok(())
-}
-
-#[test]
-fn second_texts_of_cells_have_their_netlists(rt: HostRuntime) -> Result<(), Fail> {
-    assert_eq!(rt;
-        run_rows(&rt, rt.alloc(), cell_text::SECOND_ROWS)?,
-        (67, 67)
-    );
-    Ok(())
-}
-
-#[test]
 fn first_texts_have_their_netlists(rt: HostRuntime) -> Result<(), Fail> {
     assert_eq!(rt;
         run_rows(&rt, rt.alloc(), whole_text::FIRST_ROWS)?,
@@ -108,10 +96,7 @@ fn first_texts_have_their_netlists(rt: HostRuntime) -> Result<(), Fail> {
 
 #[test]
 fn second_texts_have_their_netlists(rt: HostRuntime) -> Result<(), Fail> {
-    assert_eq!(rt;
-        run_rows(&rt, rt.alloc(), whole_text::SECOND_ROWS)?,
-        (29, 28)
-    );
+    assert_eq!(rt; run_rows(&rt, rt.alloc(), whole_text::SECOND_ROWS)?, (5, 4));
     Ok(())
 }
 
@@ -119,7 +104,7 @@ fn second_texts_have_their_netlists(rt: HostRuntime) -> Result<(), Fail> {
 fn third_texts_have_their_netlists(rt: HostRuntime) -> Result<(), Fail> {
     assert_eq!(rt;
         run_rows(&rt, rt.alloc(), whole_text::THIRD_ROWS)?,
-        (59, 59)
+        (41, 41)
     );
     Ok(())
 }
@@ -128,9 +113,85 @@ fn third_texts_have_their_netlists(rt: HostRuntime) -> Result<(), Fail> {
 fn fourth_texts_have_their_netlists(rt: HostRuntime) -> Result<(), Fail> {
     assert_eq!(rt;
         run_rows(&rt, rt.alloc(), whole_text::FOURTH_ROWS)?,
-        (57, 57)
+        (42, 42)
     );
     Ok(())
+}
+
+#[test]
+fn first_designs_become_gates(rt: HostRuntime) -> Result<(), Fail> {
+    assert_eq!(rt;
+        run_rows(&rt, rt.alloc(), mapped_text::FIRST_ROWS)?,
+        (50, 50)
+    );
+    Ok(())
+}
+
+#[test]
+fn second_designs_become_gates(rt: HostRuntime) -> Result<(), Fail> {
+    assert_eq!(rt;
+        run_rows(&rt, rt.alloc(), mapped_text::SECOND_ROWS)?,
+        (45, 45)
+    );
+    Ok(())
+}
+
+#[test]
+fn third_designs_become_gates(rt: HostRuntime) -> Result<(), Fail> {
+    assert_eq!(rt;
+        run_rows(&rt, rt.alloc(), mapped_text::THIRD_ROWS)?,
+        (45, 45)
+    );
+    Ok(())
+}
+
+#[test]
+fn designs_with_memories_become_gates(rt: HostRuntime) -> Result<(), Fail> {
+    assert_eq!(rt; run_rows(&rt, rt.alloc(), memory_text::ROWS)?, (2, 2));
+    Ok(())
+}
+
+#[test]
+fn word_cells_become_gates_that_are_folded(rt: HostRuntime) -> Result<(), Fail> {
+    let alloc = rt.alloc();
+    assert_eq!(rt; run_rows(&rt, alloc, width_text::LOGIC_ROWS)?, (16, 16));
+    assert_eq!(rt; run_rows(&rt, alloc, width_text::NUMBER_ROWS)?, (9, 9));
+    Ok(())
+}
+
+#[test]
+fn divisions_and_shifts_become_gates_that_are_folded(rt: HostRuntime) -> Result<(), Fail> {
+    assert_eq!(rt;
+        run_rows(&rt, rt.alloc(), width_text::DIVISION_AND_SHIFT_ROWS)?,
+        (10, 10)
+    );
+    Ok(())
+}
+
+#[test]
+fn storage_cells_become_gates(rt: HostRuntime) -> Result<(), Fail> {
+    assert_eq!(rt;
+        run_rows(&rt, rt.alloc(), width_text::STORAGE_ROWS)?,
+        (16, 16)
+    );
+    Ok(())
+}
+
+/// How many lines of what is written for the text begin with these bytes.
+fn lines_beginning(
+    rt: &impl Abort,
+    alloc: Global,
+    text: &str,
+    start: &[u8],
+) -> Result<usize, Fail> {
+    let (ended, sink) = call(alloc, text.as_bytes(), &[], &[])?;
+    assert_eq!(rt; ended, Status::Done);
+    Ok(
+        sink.bytes()
+            .split(|byte| *byte == b'\n')
+            .filter(|line| line.starts_with(start))
+            .count(),
+    )
 }
 
 /// The text of an `$and` cell: its name, and the widths and wires of A, B and Y.

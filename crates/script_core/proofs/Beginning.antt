@@ -14,8 +14,8 @@ use Rattle.script_core.specs.Fold.{MayBeGiven}
 
 module _ (table : PortTable) (m : Module) (some : m.processes ≡ [] → ⊥) where
   pub begins : MayBeGiven table Proc m → MayBegin table m
-  begins (inl h) = h
-  begins (inr h) = absurd (some ((plain (table_ports table.modules) m h.faultless).processes))
+  begins (inl h) = h.begins
+  begins (inr h) = absurd (some ((plain (table_ports table.modules) m h.ready.faultless).processes))
 
   within : (P : (List Process → Type 0)) → ((p : Process) (ps : List Process) → P (p ∷ ps)) → P m.processes
   within P h = by m.processes refl

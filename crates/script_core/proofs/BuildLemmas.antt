@@ -5,8 +5,7 @@ use Rattle.std.specs.List.{All}
 use Rattle.std.specs.Option.{option_map}
 use Rattle.std.proofs.lemmas.List.Elements.{All-head, All-tail}
 use Rattle.rtl_ir.specs.declared.module.Design.{Design}
-use Rattle.rtl_ir.specs.Faults.{faults_within}
-use Rattle.rtl_check.specs.Taken.{taken}
+use Rattle.rtl_ir.specs.Faults.{check_faults}
 use Rattle.rtl_trip.specs.Readable.{IsReadable}
 use Rattle.rtl_ir.specs.declared.module.Module.{Module}
 use Rattle.rtl_ir.specs.Ports.{instances_of, ports_by_module, port_table_of}
@@ -47,7 +46,7 @@ readable_in P (n ∷ ns) all m (inl e) = subst P (sym e) (All-head P n ns all)
 readable_in P (n ∷ ns) all m (inr i) = readable_in P ns (All-tail P n ns all) m i
 
 -- the key of a module of an accepted design is accepted
-pub accepted_answer : {E : Type 0} (d : Design) (at : ℕ) (script : List Word) → faults_within taken d.modules ≡ [] → at < length d.modules → IsReadable d → (r : Result Key E) → IfOk r (λ key. key ≡ key_of d.modules at script) → IfOk r IsAcceptedKey
+pub accepted_answer : {E : Type 0} (d : Design) (at : ℕ) (script : List Word) → check_faults d.modules ≡ [] → at < length d.modules → IsReadable d → (r : Result Key E) → IfOk r (λ key. key ≡ key_of d.modules at script) → IfOk r IsAcceptedKey
 accepted_answer d at script none inside readable (Ok key) e = record {
   design = d;
   at = at;

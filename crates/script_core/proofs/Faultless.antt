@@ -235,7 +235,7 @@ process_none scope P Q m name earlier p same e =
     let here = spot m.id p.name in
     let there = spot name p.name in
     let taken = not (scope.processes p) in
-    let line = has_bad_line m (flat_map write_lines earlier) (write_lines p) in
+    let line = has_bad_line scope.clocks m (flat_map write_lines earlier) (write_lines p) in
     let five = none_parts (fault_if taken (UnsupportedCell here) ++ fault_if (is_too_wide p) (TooWide here) ++ fault_if (has_uneven p) (Width here) ++ fault_if (gives_to_constant p) (BadPort here) ++ fault_if (is_bad_process P m p) (BadProcess here)) (fault_if line (BadMemory here)) e in
     let four = none_parts (fault_if taken (UnsupportedCell here) ++ fault_if (is_too_wide p) (TooWide here) ++ fault_if (has_uneven p) (Width here) ++ fault_if (gives_to_constant p) (BadPort here)) (fault_if (is_bad_process P m p) (BadProcess here)) five.first in
     let three = none_parts (fault_if taken (UnsupportedCell here) ++ fault_if (is_too_wide p) (TooWide here) ++ fault_if (has_uneven p) (Width here)) (fault_if (gives_to_constant p) (BadPort here)) four.first in
@@ -291,12 +291,12 @@ shape_none here there (Some cell.Wide) e = absurd cc
 shape_none here there (Some cell.Width) e = absurd cc
 shape_none here there (Some cell.Memory) e = refl
 
-memory_none : (m : Module) (name : List ℕ) (earlier : List Cell) (c : Cell) (kind : CellKind) → memory_faults m earlier c kind ≡ [] → memory_faults (record m { id = name }) earlier c kind ≡ []
-memory_none m name earlier c (kinds.Word kind) e = refl
-memory_none m name earlier c (kinds.Gate kind) e = refl
-memory_none m name earlier c (kinds.Storage kind) e = refl
-memory_none m name earlier c (kinds.StorageGate gate) e = refl
-memory_none m name earlier c (kinds.Memory kind) e = if_none (is_bad_memory_cell m earlier c kind) _ _ e
+memory_none : (clocks : Bool) (m : Module) (name : List ℕ) (earlier : List Cell) (c : Cell) (kind : CellKind) → memory_faults clocks m earlier c kind ≡ [] → memory_faults clocks (record m { id = name }) earlier c kind ≡ []
+memory_none clocks m name earlier c (kinds.Word kind) e = refl
+memory_none clocks m name earlier c (kinds.Gate kind) e = refl
+memory_none clocks m name earlier c (kinds.Storage kind) e = refl
+memory_none clocks m name earlier c (kinds.StorageGate gate) e = refl
+memory_none clocks m name earlier c (kinds.Memory kind) e = if_none (is_bad_memory_cell clocks m earlier c kind) _ _ e
 
 type_none : (scope : Scope) (m : Module) (name : List ℕ) (earlier : List Cell) (c : Cell) (t : CellType) → faults_by_type scope m earlier c t ≡ [] → faults_by_type scope (record m { id = name }) earlier c t ≡ []
 type_none scope m name earlier c (Library kind) e =
@@ -304,14 +304,14 @@ type_none scope m name earlier c (Library kind) e =
     let there = spot name c.name in
     let n : Module = record m { id = name } in
     let memories = is_memory_kind kind && not scope.memories in
-    let last = none_parts (fault_if memories (UnsupportedCell here) ++ shape_fault here (misfit kind c) ++ fault_if (has_constant_output (Library kind) c.pins) (BadPort here)) (memory_faults m earlier c kind) e in
+    let last = none_parts (fault_if memories (UnsupportedCell here) ++ shape_fault here (misfit kind c) ++ fault_if (has_constant_output (Library kind) c.pins) (BadPort here)) (memory_faults scope.clocks m earlier c kind) e in
     let third = none_parts (fault_if memories (UnsupportedCell here) ++ shape_fault here (misfit kind c)) (fault_if (has_constant_output (Library kind) c.pins) (BadPort here)) last.first in
     let second = none_parts (fault_if memories (UnsupportedCell here)) (shape_fault here (misfit kind c)) third.first in
-    both (fault_if memories (UnsupportedCell there) ++ shape_fault there (misfit kind c) ++ fault_if (has_constant_output (Library kind) c.pins) (BadPort there)) (memory_faults n earlier c kind)
+    both (fault_if memories (UnsupportedCell there) ++ shape_fault there (misfit kind c) ++ fault_if (has_constant_output (Library kind) c.pins) (BadPort there)) (memory_faults scope.clocks n earlier c kind)
     (both (fault_if memories (UnsupportedCell there) ++ shape_fault there (misfit kind c)) (fault_if (has_constant_output (Library kind) c.pins) (BadPort there))
     (both (fault_if memories (UnsupportedCell there)) (shape_fault there (misfit kind c)) (if_none memories _ _ second.first) (shape_none here there (misfit kind c) second.second))
     (if_none (has_constant_output (Library kind) c.pins) _ _ third.second))
-    (memory_none m name earlier c kind last.second)
+    (memory_none scope.clocks m name earlier c kind last.second)
 type_none scope m name earlier c (Instance ports) e =
     let here = spot m.id c.name in
     let there = spot name c.name in

@@ -1,19 +1,16 @@
 -- Words one after another.
-use Rattle.std.proofs.Common.{◌≡◌, ℕ, ◌+◌, ◌<◌, ◌≤◌, List, ◌∷◌, length, drop, get_or, Bool, true, false, Some, None, Result, Ok, Err, refl, sym, ap, subst, ◌∙◌, arith, add-one, cond}
+use Rattle.std.proofs.Common.{◌≡◌, ℕ, ◌+◌, ◌<◌, ◌≤◌, List, ◌∷◌, length, drop, get_or, Bool, Some, None, Result, Ok, Err, sym, ap, subst, ◌∙◌, add-one, cond}
 use Rattle.std.specs.Prelude.{IfOk, OnOk}
 use Rattle.std.proofs.Math.Seq.{drop-cons}
 use Rattle.std.proofs.lemmas.List.{drop_all}
-use Rattle.std.proofs.lemmas.Bool.Decides.{nat_tests}
 use Rattle.rtl_ir.specs.declared.module.Module.{Module}
 use Rattle.rtl_ir.specs.declared.ports.PortTable.{PortTable}
-use Rattle.rtl_ir.specs.Build.{Building}
 use Rattle.net_index.specs.declared.builder_fault.PassFault.{PassFault}
 use Rattle.net_index.specs.declared.builder_fault.PassFault.TheVariants as faults
-use Rattle.net_index.specs.Builder.{IsInLimits, PassesLimit}
+use Rattle.net_index.specs.Builder.{IsInLimits}
 use Rattle.tech_map.specs.Techmap.{TechmapPassesLimit, beside, techmap_of}
 use Rattle.script_core.specs.declared.outcome.Outcome.TheVariants.{Done, Over}
 use Rattle.script_core.specs.declared.word.Word.{Word}
-use Rattle.proc_steps.specs.Limits.{is_within}
 use Rattle.proc_steps.proofs.Limits.{limits_passed, limits_within}
 use Rattle.script_core.specs.Fold.{techmap_within, pass_of, after_word, fold_script, MayBeGiven, AfterWord, AreApplicable}
 

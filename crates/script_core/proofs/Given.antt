@@ -10,13 +10,13 @@ use Rattle.rtl_ir.specs.declared.module.Link.{Link}
 use Rattle.rtl_ir.specs.declared.module.Module.{Module}
 use Rattle.rtl_ir.specs.declared.process.Process.{Process}
 use Rattle.rtl_ir.specs.declared.wire.Wire.{Wire}
-use Rattle.rtl_ir.specs.Faults.{faults_within}
+use Rattle.rtl_ir.specs.Faults.{check_faults}
+use Rattle.rtl_ir.specs.Scope.{everything}
 use Rattle.rtl_ir.specs.declared.process.Event.{Event}
 use Rattle.rtl_ir.specs.declared.process.Event.TheVariants.{Low, High, Posedge, Negedge, Edge, Global, Init, Always}
 use Rattle.rtl_ir.specs.declared.process.SyncRule.{SyncRule}
 use Rattle.rtl_ir.specs.declared.process.WriteLine.{WriteLine}
 use Rattle.rtl_ir.specs.Tree.{Switches, NoSwitch, OneSwitch, Cases, NoCase, OneCase}
-use Rattle.rtl_check.specs.Taken.{taken}
 use Rattle.rtl_sig.specs.declared.sig.SigBit.{SigBit}
 use Rattle.rtl_sig.specs.declared.sig.SigBit.TheVariants as sig
 use Rattle.rtl_trip.specs.Readable.{AreCases, AreSwitches, IsBitOf, IsCell, IsEvent, IsLink, IsPin, IsProcess, IsReadable, IsReadableModule, IsRule, IsSomeSignal, IsWrite}
@@ -26,7 +26,10 @@ use Rattle.proc_laws.specs.Ready as laws
 use Rattle.proc_laws.specs.Ready.{HasItsBits, PinsHaveBits, UpdatesHaveBits}
 use Rattle.check_laws.proofs.Readable.{sound}
 use Rattle.script_core.specs.Cold.{table_of}
-use Rattle.proc_steps.specs.Steps.{MayBegin}
+use Rattle.proc_laws.proofs.Taking.{accepted_faultless}
+use Rattle.script_core.specs.Fold.{MayStart}
+use Rattle.write_laws.specs.Lines.{WritesHaveBits}
+use Rattle.rtl_ir.specs.Types.{table_ports}
 use Rattle.reset_laws.specs.Trees.{TreesHaveBits}
 use Rattle.rtl_ir.specs.Assigns.{case_assigns, cases_assigns, switches_assigns}
 use Rattle.net_model.proofs.Members.{In-cases}
@@ -157,17 +160,28 @@ readable_bits m h = record {
 readable_trees : (m : Module) → IsReadableModule m → TreesHaveBits m
 readable_trees m h p i = trees_of m.wires p (each_of (IsProcess m.wires) m.processes h.processes p i)
 
-pub given_first : (d : Design) → IsReadable d → faults_within taken d.modules ≡ [] → (m : Module) → In m d.modules → (name : List ℕ) → MayBegin (table_of d.modules m) (record m { id = name })
+readable_writes : (m : Module) → IsReadableModule m → WritesHaveBits m
+readable_writes m h p i r j l k =
+    let rule = each_of (IsRule m.wires) p.syncs (each_of (IsProcess m.wires) m.processes h.processes p i).rules r j in
+    let line = each_of (IsWrite m.wires) r.writes rule.writes l k in
+    record { address = line.address.some; word = line.value.some }
+
+pub given_first : (d : Design) → IsReadable d → check_faults d.modules ≡ [] → (m : Module) → In m d.modules → (name : List ℕ) → MayStart (table_of d.modules m) (record m { id = name })
 given_first d readable none m i name =
     let good = each_of IsReadableModule d.modules readable.modules m i in
     let within = readable_within m good in
     let bits = readable_bits m good in
+    let own = (sound d readable).modules m i in
     record {
-      ready = record {
-        faultless = faultless_under taken d readable none m i name;
-        named = ((sound d readable).modules m i).wires;
-        within = record { cells = within.cells; links = within.links; processes = within.processes };
+      begins = record {
+        ready = record {
+          faultless = accepted_faultless (table_ports (table_of d.modules m).modules) (record m { id = name }) (faultless_under everything d readable none m i name);
+          named = own.wires;
+          within = record { cells = within.cells; links = within.links; processes = within.processes };
+        };
+        placed = record { pins = bits.pins; updates = bits.updates };
+        trees = readable_trees m good;
+        writes = readable_writes m good;
       };
-      placed = record { pins = bits.pins; updates = bits.updates };
-      trees = readable_trees m good;
+      named = own.memories;
     }

@@ -9,4 +9,5 @@ pub mod Reading
 pub mod Beginning
 pub mod Stepping
 pub mod Renaming
+pub mod Gating
 pub mod Refining

@@ -14,14 +14,13 @@ use Rattle.script_core.specs.declared.outcome.Outcome.{Outcome}
 use Rattle.script_core.specs.declared.word.Word.{Word}
 use Rattle.script_core.specs.Built.{body_name, unnamed, IsValueOf, IsAcceptedKey}
 use Rattle.script_core.specs.Cold.{table_of}
-use Rattle.proc_steps.specs.Steps.{MayBegin}
-use Rattle.script_core.specs.Fold.{fold_script}
+use Rattle.script_core.specs.Fold.{MayStart, fold_script}
 use Rattle.script_core.proofs.BuildLemmas.{module_at, readable_in}
 use Rattle.script_core.proofs.Given.{given_first}
 
 -- what is read of the texts of an accepted key
 pub record IsRead (key : Key) (read : Module) (table : PortTable) : Type 0 where
-  pub given : MayBegin table read
+  pub given : MayStart table read
   -- each module and table of these texts
   pub only : (m : Module) (ports : PortTable) → IsReadableModule m → m.id ≡ body_name → ArePorts ports → body_text m ≡ key.body → ports_text ports ≡ key.ports → (m ≡ read) × (ports ≡ table)
 
@@ -37,7 +36,7 @@ module _ (key : Key) (read : Module) (table : PortTable)
       let own : read ≡ unnamed m = body m readable (ap (λ (k : Key). k.body) is.same ∙ here.body) in
       let its : table ≡ table_of d.modules m = ports (record { modules = port_table_of d.modules is.at }) (readable_table d is.at is.readable) (ap (λ (k : Key). k.ports) is.same) ∙ ap (λ ts. record { modules = ts }) here.ports in
       record {
-        given = subst (λ (t : PortTable). MayBegin t read) (sym its) (subst (MayBegin (table_of d.modules m)) (sym own) (given_first d is.readable is.faultless m here.member body_name));
+        given = subst (λ (t : PortTable). MayStart t read) (sym its) (subst (MayStart (table_of d.modules m)) (sym own) (given_first d is.readable is.faultless m here.member body_name));
         only = λ n t good name are b p. (same n name ∙ sym (body n good (sym b)), sym (ports t are (sym p)));
       }
     where

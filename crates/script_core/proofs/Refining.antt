@@ -1,17 +1,17 @@
 -- What a script makes of a module without faults refines it, and so the cold run of a design refines the design.
-use Rattle.std.proofs.Common.{◌≡◌, ℕ, suc, zero, List, [], ◌∷◌, Option, Some, inl, inr, refl, sym, ap, subst, ◌∙◌}
+use Rattle.std.proofs.Common.{◌≡◌, ⊎_elim, ℕ, suc, zero, true, List, [], ◌∷◌, Option, Some, inl, inr, refl, sym, ap, subst, ◌∙◌}
 use Rattle.std.specs.Prelude.{slice_get, map, unwrap_or}
 use Rattle.std.specs.Option.{option_map}
 use Rattle.rtl_ir.specs.declared.module.Design.{Design}
 use Rattle.rtl_ir.specs.declared.module.Module.{Module}
 use Rattle.rtl_ir.specs.declared.ports.ModulePorts.{ModulePorts}
-use Rattle.rtl_ir.specs.Faults.{faults_within}
+use Rattle.rtl_ir.specs.Faults.{check_faults}
+use Rattle.rtl_ir.specs.Scope.{everything}
 use Rattle.rtl_ir.specs.Flat.Cell.{Ports, instances}
 use Rattle.rtl_ir.specs.Flat.Place.{Frame}
 use Rattle.rtl_ir.specs.Flat.Tree.{design_ports}
 use Rattle.rtl_ir.specs.Flat.Tree.{table_ports as flat_ports}
 use Rattle.rtl_ir.specs.Ports.{instances_of, ports_by_module, port_table_of}
-use Rattle.rtl_check.specs.Taken.{taken}
 use Rattle.rtl_trip.specs.Readable.{IsReadable, IsReadableModule}
 use Rattle.rtl_trip.specs.PortTables.{ArePorts}
 use Rattle.rtl_trip.proofs.BodyLaws.{readable_named, body_kept}
@@ -34,6 +34,13 @@ use Rattle.script_core.specs.Keys.{key_of}
 use Rattle.script_core.proofs.BuildLemmas.{readable_in}
 use Rattle.script_core.proofs.Given.{given_first}
 use Rattle.script_core.proofs.Stepping.{fold_step}
+use Rattle.script_core.proofs.Gating.{fold_gates}
+use Rattle.script_core.specs.Mapping.{maps_all}
+use Rattle.gate_laws.specs.Instances.{HaveSameInstances}
+use Rattle.gate_laws.proofs.Netlists.{gates_netlist}
+use Rattle.tech_map.specs.Gates.{HasGatesAlone}
+use Rattle.net_model.specs.Gates.{is_gate_netlist}
+use Rattle.net_model.specs.Within.{Each}
 use Rattle.script_core.proofs.Tables.{agree}
 use Rattle.script_core.proofs.Renaming.{fold_renamed}
 
@@ -50,7 +57,7 @@ refines_over b c ports over agrees h = record {
 
 -- ---- modules of accepted designs
 
-module _ (d : Design) (readable : IsReadable d) (none : faults_within taken d.modules ≡ []) (script : List Word) (stage : IsStageScript script) where
+module _ (d : Design) (readable : IsReadable d) (none : check_faults d.modules ≡ []) (script : List Word) (stage : IsStageScript script) where
   -- the module of a design under any name, and what the script makes of it
   module_step : (m : Module) → In m d.modules → (name : List ℕ) (n : Module) → fold_script script (table_of d.modules m) (record m { id = name }) ≡ Done n → IsStep (table_of d.modules m) (record m { id = name }) n
   module_step m i name n e =
@@ -69,14 +76,37 @@ module _ (d : Design) (readable : IsReadable d) (none : faults_within taken d.mo
       let first : outcome_of script d.modules b ≡ Done c = cc in
       let rest : map (outcome_of script d.modules) bs ≡ map Done cs = cc in
       let step = own_step b (h b (inl refl)) c first in
-      let well = (accepted taken d (sound d readable) none).modules b (h b (inl refl)) in
+      let well = (accepted everything d (sound d readable) none).modules b (h b (inl refl)) in
       let ports : Ports = flat_ports (table_of d.modules b) in
       let same = agree d.modules b in
       ((step.id, step.ports, well, step.driven (design_ports d) same well, refines_over b c ports (design_ports d) same step.refines), each_step bs cs (λ x i. h x (inr i)) rest)
 
   pub cold_refines : (n : Design) → IsNetlist (cold script d) n → Refines d n
   cold_refines n e =
-      each_refines d.modules n.modules (accepted taken d (sound d readable) none).ids (each_step d.modules n.modules (λ b i. i) e)
+      each_refines d.modules n.modules (accepted everything d (sound d readable) none).ids (each_step d.modules n.modules (λ b i. i) e)
+
+  -- nothing but gates and instances is left, where the script maps all
+  own_gates : maps_all script ≡ true → (m : Module) → In m d.modules → (n : Module) → outcome_of script d.modules m ≡ Done n → HasGatesAlone n
+  own_gates all m i n e =
+      fold_gates script (table_of d.modules m) (record m { id = m.id }) n stage all (given_first d readable none m i m.id)
+      (fold_renamed m.id script (table_of d.modules m) (unnamed m) ∙ e)
+
+  each_gates : maps_all script ≡ true → (bs cs : List Module) → ((b : Module) → In b bs → In b d.modules) → map (outcome_of script d.modules) bs ≡ map Done cs → HaveSameInstances bs cs × Each HasGatesAlone cs
+  each_gates all [] [] h e = (tt, λ n i. absurd i)
+  each_gates all [] (c ∷ cs) h e = absurd cc
+  each_gates all (b ∷ bs) [] h e = absurd cc
+  each_gates all (b ∷ bs) (c ∷ cs) h e =
+      let first : outcome_of script d.modules b ≡ Done c = cc in
+      let rest : map (outcome_of script d.modules) bs ≡ map Done cs = cc in
+      let step = own_step b (h b (inl refl)) c first in
+      let gates = own_gates all b (h b (inl refl)) c first in
+      let later = each_gates all bs cs (λ x i. h x (inr i)) rest in
+      ((step.id, step.instances, later.0), λ n i. ⊎_elim (λ same. subst HasGatesAlone (sym same) gates) (λ j. later.1 n j) i)
+
+  pub cold_gates : maps_all script ≡ true → (n : Design) → IsNetlist (cold script d) n → is_gate_netlist n ≡ true
+  cold_gates all n e =
+      let each = each_gates all d.modules n.modules (λ b i. i) e in
+      gates_netlist everything d n none each.0 each.1
 
 -- ---- values of keys
 
@@ -110,7 +140,7 @@ module _ (d : Design) (readable : IsReadable d) (at : ℕ) (m : Module) (here : 
   value_named outcome h = ap (named m.id) (value_is outcome h)
 
   -- which refines it
-  pub value_refines : faults_within taken d.modules ≡ [] → IsStageScript script → (after : Module) → IsValueOf (key_of d.modules at script) (Done after) → (name : List ℕ)
+  pub value_refines : check_faults d.modules ≡ [] → IsStageScript script → (after : Module) → IsValueOf (key_of d.modules at script) (Done after) → (name : List ℕ)
       → RefinesIn (record m { id = name }) (record after { id = name }) (table_of d.modules m)
   value_refines none stage after h name =
       let e : fold_script script (table_of d.modules m) (record m { id = name }) ≡ Done (record after { id = name }) =

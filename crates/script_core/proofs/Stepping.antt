@@ -1,5 +1,5 @@
 -- What the pass of each word keeps.
-use Rattle.std.proofs.Common.{◌≡◌, Bool, true, false, cond, Option, Some, None, Ok, List, [], ◌∷◌, inl, inr, refl, sym, ◌∙◌, ap, subst}
+use Rattle.std.proofs.Common.{◌≡◌, ◌⊎◌, ⊎_elim, ℕ, zero, suc, Bool, true, false, cond, Option, Some, None, List, [], ◌∷◌, inl, inr, refl, sym, ◌∙◌, ap, subst}
 use Rattle.rtl_ir.specs.Flat.Tree as flat
 use Rattle.rtl_ir.specs.Ports.{ports_of}
 use Rattle.rtl_ir.specs.Types.{Ports, table_ports}
@@ -7,16 +7,22 @@ use Rattle.rtl_ir.specs.declared.module.Module.{Module}
 use Rattle.rtl_ir.specs.declared.ports.PortTable.{PortTable}
 use Rattle.net_index.specs.Builder.{IsInLimits}
 use Rattle.rtl_ir.specs.declared.process.Process.{Process}
+use Rattle.rtl_ir.specs.declared.store.Store.{Store}
+use Rattle.net_model.specs.Lists.{Distinct}
+use Rattle.memory_laws.specs.Named.{HaveOwnNames}
+use Rattle.mem_steps.specs.Within.{memory_within}
+use Rattle.mem_steps.proofs.Giving.{memory_gives, memory_passes}
+use Rattle.std.specs.Prelude.{map}
 use Rattle.proc_laws.specs.Step.{IsStep}
 use Rattle.proc_laws.proofs.Turns.{IsStep_refl, IsStep_trans}
 use Rattle.pass_laws.specs.Pass.{IsPass}
-use Rattle.pass_laws.specs.Ready.{IsReady}
 use Rattle.pass_laws.proofs.Faultless.{plain}
-use Rattle.pass_laws.proofs.Passes.{IsPass_refl, IsPass_trans}
 use Rattle.opt_expr.specs.Sweep.{expr_of}
-use Rattle.opt_merge.specs.Merge.{merge_of}
-use Rattle.opt_clean.specs.Clean.{clean_of}
-use Rattle.opt_rounds.specs.Rounds.{opt_of}
+use Rattle.opt_merge.specs.Merge.{drives_own, merge_of, merging_of, with_merging}
+use Rattle.opt_clean.specs.Clean.{clean_of, is_all_inside, reduced}
+use Rattle.opt_clean.specs.Wires.{trimmed}
+use Rattle.follow_laws.specs.Inputs.{followed}
+use Rattle.opt_rounds.specs.Rounds.{opt_of, round_of, rounds_of}
 use Rattle.opt_expr.proofs.Sweeping.{expr_passes}
 use Rattle.opt_merge.proofs.Refining.{merge_pass}
 use Rattle.opt_clean.proofs.Cleaning.{clean_pass}
@@ -28,64 +34,137 @@ use Rattle.tech_map.proofs.Standing.{swapped_children, swapped_is, swapped_ports
 use Rattle.script_core.specs.declared.outcome.Outcome.TheVariants.{Done}
 use Rattle.script_core.specs.declared.word.Word.{Word}
 use Rattle.script_core.specs.declared.word.Word.TheVariants.{Proc, OptExpr, OptMerge, OptClean, Opt, Fsm, Memory, Techmap}
-use Rattle.script_core.specs.Fold.{pass_of, after_word, fold_script, AfterWord, AreApplicable, HasPass, HavePasses, IsStageScript, MayBeGiven}
+use Rattle.script_core.specs.Fold.{pass_of, after_word, fold_script, AfterWord, AreApplicable, HasPass, HavePasses, IsStageScript, MayBeGiven, MayGoOn, MayStart}
 use Rattle.proc_steps.specs.Limits.{is_within}
-use Rattle.proc_steps.specs.Steps.{Gives, MayBegin, proc_result, proc_within}
+use Rattle.proc_steps.specs.Steps.{proc_result, proc_within}
 use Rattle.proc_steps.proofs.Limits.{within_limits}
 use Rattle.proc_steps.proofs.Giving.{proc_gives, stays}
 
-given_pass : (table : PortTable) (m k n : Module) → IsPass table m k → Some k ≡ Some n → IsPass table m n
-given_pass table m k n p e = let same : k ≡ n = cc in subst (IsPass table m) same p
+-- what the pass of a word gives: a step, a module that may be given on, and the same memories or none
+pub record GoesOn (table : PortTable) (m n : Module) : Type 0 where
+  pub step : IsStep table m n
+  pub next : MayGoOn table n
+  pub stores : (n.memories ≡ m.memories) ⊎ (n.memories ≡ [])
+
+-- where there was no memory there is none
+pub still_none : (table : PortTable) (m n : Module) → GoesOn table m n → m.memories ≡ [] → n.memories ≡ []
+still_none table m n g e = ⊎_elim (λ same. same ∙ e) (λ none. none) g.stores
+
+-- the same memories have the same names
+same_names : (m n : Module) → n.memories ≡ m.memories → HaveOwnNames m → HaveOwnNames n
+same_names m n e named = subst (λ (ss : List Store). Distinct (map (λ (s : Store). s.name) ss)) (sym e) named
+
+-- what a pass promises is what a step does
+as_step : (table : PortTable) (m n : Module) → IsPass table m n → IsStep table m n
+as_step table m n h = record { id = h.id; ports = h.ports; instances = h.instances; driven = h.driven; refines = h.refines }
+
+-- a pass that keeps the memories
+goes : (table : PortTable) (m n : Module) → MayGoOn table m → IsPass table m n → n.memories ≡ m.memories → GoesOn table m n
+goes table m n h pass e =
+    record { step = as_step table m n pass; next = record { ready = pass.ready h.ready; named = same_names m n e h.named }; stores = inl e }
+
+goes_to : (table : PortTable) (m k n : Module) → GoesOn table m k → Some k ≡ Some n → GoesOn table m n
+goes_to table m k n g e = let same : k ≡ n = cc in subst (GoesOn table m) same g
+
+-- ---- the memories stay
+
+merge_stores : (m : Module) → (merge_of m).memories ≡ m.memories
+merge_stores m = by (drives_own m)
+  where
+    by : (t : Bool) → (cond t (with_merging m (merging_of m)) m).memories ≡ m.memories
+    by true = refl
+    by false = refl
+
+clean_stores : (ports : Ports) (m : Module) → (clean_of ports m).memories ≡ m.memories
+clean_stores ports m = by (is_all_inside m)
+  where
+    by : (t : Bool) → (cond t (trimmed (reduced ports (followed ports m))) m).memories ≡ m.memories
+    by true = refl
+    by false = refl
+
+round_stores : (ports : Ports) (m : Module) → (round_of ports m).memories ≡ m.memories
+unfolding round_of
+round_stores ports m = clean_stores ports (merge_of (expr_of ports m)) ∙ merge_stores (expr_of ports m)
+
+rounds_stores : (ports : Ports) (n : ℕ) (m : Module) → (rounds_of ports n m).memories ≡ m.memories
+unfolding rounds_of
+rounds_stores ports zero m = refl
+rounds_stores ports (suc n) m = rounds_stores ports n (round_of ports m) ∙ round_stores ports m
+
+opt_stores : (ports : Ports) (m : Module) → (opt_of ports m).memories ≡ m.memories
+unfolding opt_of
+opt_stores ports m = rounds_stores ports 32 m
+
+-- ---- the words
 
 -- `techmap` within the limits
-techmap_pass : (table : PortTable) (m : Module) → MayBeGiven table Techmap m → IsInLimits (beside m) → IsPass table m (techmap_of m)
-techmap_pass table m h limits =
-    let fine = takable (table_ports table.modules) m h in
-    record {
+techmap_goes : (table : PortTable) (m : Module) → MayGoOn table m → IsInLimits (beside m) → GoesOn table m (techmap_of m)
+techmap_goes table m h limits =
+    let fine = takable (table_ports table.modules) m h.ready in
+    goes table m (techmap_of m) h
+    (record {
       id = sym (ap (λ (n : Module). n.id) (swapped_is m fine));
       ports = swapped_ports m fine ∙ sym (ap (λ (n : Module). ports_of n.wires) (swapped_is m fine));
       instances = swapped_children m fine;
       driven = λ over agree w. techmap_driven m fine limits.names over w;
       ready = λ r. techmap_ready (table_ports table.modules) m r limits.names;
       refines = techmap_refines m fine (flat.table_ports table);
+    })
+    (ap (λ (n : Module). n.memories) (swapped_is m fine))
+
+-- `memory` leaves none
+memory_goes : (table : PortTable) (m n : Module) → MayGoOn table m → memory_within m ≡ Some n → GoesOn table m n
+memory_goes table m n h e =
+    record {
+      step = as_step table m n (memory_passes table m h.ready h.named n e);
+      next = record {
+        ready = (memory_gives table m h.ready h.named n e).ready;
+        named = subst (λ (ss : List Store). Distinct (map (λ (s : Store). s.name) ss)) (sym (memory_gives table m h.ready h.named n e).memories) tt;
+      };
+      stores = inr (memory_gives table m h.ready h.named n e).memories;
     }
 
--- what a pass promises is what a step does
-as_step : (table : PortTable) (m n : Module) → IsPass table m n → IsStep table m n
-as_step table m n h = record { id = h.id; ports = h.ports; instances = h.instances; driven = h.driven; refines = h.refines }
+no_process : (table : PortTable) (m n : Module) (p : Process) (ps : List Process) → m.processes ≡ p ∷ ps → MayGoOn table m → GoesOn table m n
+no_process table m n p ps e h = let none = (plain (table_ports table.modules) m h.ready.faultless).processes in absurd cc
 
-gives : (table : PortTable) (m n : Module) → IsReady (table_ports table.modules) m → IsPass table m n → Gives table m n
-gives table m n h pass = record { step = as_step table m n pass; ready = pass.ready h }
+stays_on : (table : PortTable) (m : Module) → m.processes ≡ [] → MayStart table m → GoesOn table m m
+stays_on table m e h =
+    let g = stays table m h.begins e in
+    record { step = g.step; next = record { ready = g.ready; named = h.named }; stores = inl refl }
 
-no_process : (table : PortTable) (m n : Module) (p : Process) (ps : List Process) → m.processes ≡ p ∷ ps → IsReady (table_ports table.modules) m → Gives table m n
-no_process table m n p ps e h = let none = (plain (table_ports table.modules) m h.faultless).processes in absurd cc
+proc_goes : (table : PortTable) (m n : Module) → MayStart table m → proc_result (table_ports table.modules) m ≡ Some n → GoesOn table m n
+proc_goes table m n h e =
+    let g = proc_gives table m n h.begins e in
+    record { step = g.step; next = record { ready = g.ready; named = same_names m n g.stores h.named }; stores = inl g.stores }
 
-proc_word : (table : PortTable) (m n : Module) → MayBeGiven table Proc m → proc_within (table_ports table.modules) m m.processes ≡ Some n → Gives table m n
+proc_word : (table : PortTable) (m n : Module) → MayBeGiven table Proc m → proc_within (table_ports table.modules) m m.processes ≡ Some n → GoesOn table m n
 proc_word table m n h e = by m.processes refl h e
   where
-    by : (ps : List Process) → m.processes ≡ ps → MayBeGiven table Proc m → proc_within (table_ports table.modules) m ps ≡ Some n → Gives table m n
-    by [] f (inr k) g = let same : m ≡ n = cc in subst (Gives table m) same (gives table m m k (IsPass_refl table m))
-    by [] f (inl k) g = let same : m ≡ n = cc in subst (Gives table m) same (stays table m k f)
+    by : (ps : List Process) → m.processes ≡ ps → MayBeGiven table Proc m → proc_within (table_ports table.modules) m ps ≡ Some n → GoesOn table m n
+    by [] f (inr k) g = goes_to table m m n (record { step = IsStep_refl table m; next = k; stores = inl refl }) g
+    by [] f (inl k) g = goes_to table m m n (stays_on table m f k) g
     by (p ∷ ps) f (inr k) g = no_process table m n p ps f k
-    by (p ∷ ps) f (inl k) g = proc_gives table m n k g
+    by (p ∷ ps) f (inl k) g = proc_goes table m n k g
 
 -- a word that has a pass
-pub word_gives : (table : PortTable) (word : Word) (m n : Module) → HasPass word → MayBeGiven table word m → pass_of table word m ≡ Some n → Gives table m n
-word_gives table Proc m n has h e = proc_word table m n h e
-word_gives table OptExpr m n has h e = gives table m n h (given_pass table m (expr_of (table_ports table.modules) m) n (expr_passes table m h) e)
-word_gives table OptMerge m n has h e = gives table m n h (given_pass table m (merge_of m) n (merge_pass table m h) e)
-word_gives table OptClean m n has h e = gives table m n h (given_pass table m (clean_of (table_ports table.modules) m) n (clean_pass table m h) e)
-word_gives table Opt m n has h e = gives table m n h (given_pass table m (opt_of (table_ports table.modules) m) n (opt_pass table m h) e)
-word_gives table Fsm m n has h e = absurd has
-word_gives table Memory m n has h e = absurd has
-word_gives table Techmap m n has h e = by (is_within (beside m)) refl e
+pub word_goes : (table : PortTable) (word : Word) (m n : Module) → HasPass word → MayBeGiven table word m → pass_of table word m ≡ Some n → GoesOn table m n
+word_goes table Proc m n has h e = proc_word table m n h e
+word_goes table OptExpr m n has h e = goes_to table m (expr_of (table_ports table.modules) m) n (goes table m _ h (expr_passes table m h.ready) refl) e
+word_goes table OptMerge m n has h e = goes_to table m (merge_of m) n (goes table m _ h (merge_pass table m h.ready) (merge_stores m)) e
+word_goes table OptClean m n has h e =
+    goes_to table m (clean_of (table_ports table.modules) m) n (goes table m _ h (clean_pass table m h.ready) (clean_stores (table_ports table.modules) m)) e
+word_goes table Opt m n has h e =
+    goes_to table m (opt_of (table_ports table.modules) m) n (goes table m _ h (opt_pass table m h.ready) (opt_stores (table_ports table.modules) m)) e
+word_goes table Fsm m n has h e = absurd has
+word_goes table Memory m n has h e = memory_goes table m n h e
+word_goes table Techmap m n has h e = by (is_within (beside m)) refl e
   where
-    by : (t : Bool) → is_within (beside m) ≡ t → cond t (Some (techmap_of m)) None ≡ Some n → Gives table m n
-    by true w f = let same : techmap_of m ≡ n = cc in subst (Gives table m) same (gives table m (techmap_of m) h (techmap_pass table m h (within_limits (beside m) w)))
+    by : (t : Bool) → is_within (beside m) ≡ t → cond t (Some (techmap_of m)) None ≡ Some n → GoesOn table m n
+    by true w f = goes_to table m (techmap_of m) n (techmap_goes table m h (within_limits (beside m) w)) f
     by false w f = absurd cc
 
 -- what may be given to each pass may be given to that of a word
-given_word : (table : PortTable) (word : Word) (m : Module) → IsReady (table_ports table.modules) m → MayBeGiven table word m
+pub given_word : (table : PortTable) (word : Word) (m : Module) → MayGoOn table m → MayBeGiven table word m
 given_word table Proc m h = inr h
 given_word table OptExpr m h = h
 given_word table OptMerge m h = h
@@ -97,38 +176,38 @@ given_word table Techmap m h = h
 
 -- words that have passes may be applied to a module that may be given to each pass, and make of it what one step could
 module _ (table : PortTable) where
-  behind : (w : Word) (ws : List Word) (m : Module) → HasPass w → MayBeGiven table w m → ((n : Module) → IsReady (table_ports table.modules) n → AreApplicable ws table n) → AfterWord (AreApplicable ws table) (pass_of table w m)
+  behind : (w : Word) (ws : List Word) (m : Module) → HasPass w → MayBeGiven table w m → ((n : Module) → MayGoOn table n → AreApplicable ws table n) → AfterWord (AreApplicable ws table) (pass_of table w m)
   behind w ws m has given rest = by (pass_of table w m) refl
     where
       by : (o : Option Module) → pass_of table w m ≡ o → AfterWord (AreApplicable ws table) o
       by None e = tt
-      by (Some n) e = rest n (word_gives table w m n has given e).ready
+      by (Some n) e = rest n (word_goes table w m n has given e).next
 
-  applicable_from : (words : List Word) (m : Module) → HavePasses words → IsReady (table_ports table.modules) m → AreApplicable words table m
+  applicable_from : (words : List Word) (m : Module) → HavePasses words → MayGoOn table m → AreApplicable words table m
   applicable_from [] m have h = tt
   applicable_from (w ∷ ws) m have h = (given_word table w m h, behind w ws m have.0 (given_word table w m h) (λ n k. applicable_from ws n have.1 k))
 
-  then_step : (w : Word) (ws : List Word) (m n : Module) → HasPass w → MayBeGiven table w m → ((k : Module) → IsReady (table_ports table.modules) k → fold_script ws table k ≡ Done n → IsStep table k n) → fold_script (w ∷ ws) table m ≡ Done n → IsStep table m n
+  then_step : (w : Word) (ws : List Word) (m n : Module) → HasPass w → MayBeGiven table w m → ((k : Module) → MayGoOn table k → fold_script ws table k ≡ Done n → IsStep table k n) → fold_script (w ∷ ws) table m ≡ Done n → IsStep table m n
   then_step w ws m n has given rest e = by (pass_of table w m) refl e
     where
       by : (o : Option Module) → pass_of table w m ≡ o → after_word w (fold_script ws table) o ≡ Done n → IsStep table m n
       by None f g = absurd cc
       by (Some k) f g =
-          let first = word_gives table w m k has given f in
-          IsStep_trans table m k n first.step (rest k first.ready g)
+          let first = word_goes table w m k has given f in
+          IsStep_trans table m k n first.step (rest k first.next g)
 
-  step_from : (words : List Word) (m n : Module) → HavePasses words → IsReady (table_ports table.modules) m → fold_script words table m ≡ Done n → IsStep table m n
+  step_from : (words : List Word) (m n : Module) → HavePasses words → MayGoOn table m → fold_script words table m ≡ Done n → IsStep table m n
   step_from [] m n have h e = let same : m ≡ n = cc in subst (IsStep table m) same (IsStep_refl table m)
   step_from (w ∷ ws) m n have h e = then_step w ws m n have.0 (given_word table w m h) (λ k r f. step_from ws k n have.1 r f) e
 
--- a script of this stage may be applied to a module that `proc` may be given
-pub stage_applicable : (script : List Word) (table : PortTable) (m : Module) → IsStageScript script → MayBegin table m → AreApplicable script table m
+-- a script of this stage may be applied to a module that it may be given
+pub stage_applicable : (script : List Word) (table : PortTable) (m : Module) → IsStageScript script → MayStart table m → AreApplicable script table m
 stage_applicable [] table m is h = absurd is
 stage_applicable (w ∷ ws) table m is h =
     subst (λ (v : Word). AreApplicable (v ∷ ws) table m) (sym is.0) (inl h, behind table Proc ws m tt (inl h) (λ n k. applicable_from table ws n is.1 k))
 
 -- what it makes of the module is what one step could
-pub fold_step : (script : List Word) (table : PortTable) (m n : Module) → IsStageScript script → MayBegin table m → fold_script script table m ≡ Done n → IsStep table m n
+pub fold_step : (script : List Word) (table : PortTable) (m n : Module) → IsStageScript script → MayStart table m → fold_script script table m ≡ Done n → IsStep table m n
 fold_step [] table m n is h e = absurd is
 fold_step (w ∷ ws) table m n is h e =
     then_step table Proc ws m n tt (inl h) (λ k r f. step_from table ws k n is.1 r f) (subst (λ (v : Word). fold_script (v ∷ ws) table m ≡ Done n) is.0 e)

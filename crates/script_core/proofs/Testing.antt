@@ -1,9 +1,8 @@
 -- Tests of event bits, over ports by which the same cells are combinational and drive the same.
-use Rattle.std.proofs.Common.{◌≡◌, ℕ, zero, suc, Bool, true, false, cond, if◌then◌else◌, Option, Some, None, List, [], ◌∷◌, inl, inr, refl, sym, ◌∙◌, ap}
+use Rattle.std.proofs.Common.{◌≡◌, ℕ, zero, suc, false, if◌then◌else◌, Option, Some, None, List, [], ◌∷◌, inl, inr, refl, ◌∙◌, ap}
 use Rattle.std.specs.Prelude.{◌&&◌, ◌||◌, not, slice_get}
 use Rattle.std.specs.List.{list_all}
 use Rattle.std.specs.Option.{option_and_then, option_map}
-use Rattle.cell_types.specs.declared.kind.CellKind.{CellKind}
 use Rattle.rtl_sig.specs.declared.sig.SigBit.{SigBit}
 use Rattle.rtl_sig.specs.declared.sig.SigBit.TheVariants.{Fixed, Wire as OnWire}
 use Rattle.rtl_sig.specs.declared.sig.WireBit.{WireBit}
@@ -14,7 +13,7 @@ use Rattle.rtl_ir.specs.declared.process.SyncRule.{SyncRule}
 use Rattle.rtl_ir.specs.Assigns.{tree_bits}
 use Rattle.rtl_ir.specs.Decisions.{expanded, leaves_of}
 use Rattle.rtl_ir.specs.Drivers.{cell_drives, driver_in, Source, FromPort, FromCell, FromLink, FromTree, FromRules}
-use Rattle.rtl_ir.specs.EventTests.{Step, cell_in, combinational_kind, differs, meets, step_at, step_through, switch_test, test_of, test_within}
+use Rattle.rtl_ir.specs.EventTests.{Step, cell_in, combinational_kind, differs, meets, step_at, step_through, switch_test, test_within}
 use Rattle.rtl_ir.specs.Faults.Processes.{is_bad_process, starts_stand}
 use Rattle.rtl_ir.specs.Faults.RuleKinds.{rules_stand}
 use Rattle.rtl_ir.specs.Faults.SelfReading.{reads_itself}

@@ -3,8 +3,7 @@ use Rattle.std.specs.Prelude.{◌≡◌, ◌<◌, ℕ, List, [], ◌∷◌, leng
 use Rattle.rtl_ir.specs.declared.module.Design.{Design}
 use Rattle.rtl_ir.specs.declared.module.Module.{Module}
 use Rattle.rtl_ir.specs.declared.ports.PortTable.{PortTable}
-use Rattle.rtl_ir.specs.Faults.{faults_within}
-use Rattle.rtl_check.specs.Taken.{taken}
+use Rattle.rtl_ir.specs.Faults.{check_faults}
 use Rattle.rtl_trip.specs.Readable.{IsReadable, IsReadableModule}
 use Rattle.rtl_trip.specs.PortTables.{ArePorts}
 use Rattle.rtl_write.specs.Text.{body_text}
@@ -33,6 +32,6 @@ pub record IsAcceptedKey (key : Key) : Type 0 where
   pub design : Design
   pub at : ℕ
   pub readable : IsReadable design
-  pub faultless : faults_within taken design.modules ≡ []
+  pub faultless : check_faults design.modules ≡ []
   pub in_range : at < length design.modules
   pub same : key ≡ key_of design.modules at key.script

@@ -3,6 +3,8 @@ use Rattle.std.specs.Prelude.{◌≡◌, ◌⊎◌, List, [], ◌∷◌, Option,
 use Rattle.rtl_ir.specs.declared.module.Module.{Module}
 use Rattle.rtl_ir.specs.declared.ports.PortTable.{PortTable}
 use Rattle.rtl_ir.specs.Types.{table_ports}
+use Rattle.memory_laws.specs.Named.{HaveOwnNames}
+use Rattle.mem_steps.specs.Within.{memory_within}
 use Rattle.pass_laws.specs.Ready.{IsReady}
 use Rattle.proc_steps.specs.Limits.{is_within}
 use Rattle.proc_steps.specs.Steps.{MayBegin, proc_within}
@@ -20,8 +22,8 @@ use Rattle.script_core.specs.declared.word.Word.TheVariants.{Proc, OptExpr, OptM
 abbrev pub techmap_within : Module → Option Module
 techmap_within m = if is_within (beside m) then Some (techmap_of m) else None
 
--- what the pass of a word makes of a module, over the ports of a table; None where that passes a limit. Some passes are not
--- there yet: no script of this stage has their words
+-- what the pass of a word makes of a module, over the ports of a table; None where that passes a limit. The pass of `fsm` is not
+-- there yet: no script of this stage has that word
 abbrev pub pass_of : PortTable → Word → Module → Option Module
 pass_of table Proc m = proc_within (table_ports table.modules) m m.processes
 pass_of table OptExpr m = Some (expr_of (table_ports table.modules) m)
@@ -29,7 +31,7 @@ pass_of table OptMerge m = Some (merge_of m)
 pass_of table OptClean m = Some (clean_of (table_ports table.modules) m)
 pass_of table Opt m = Some (opt_of (table_ports table.modules) m)
 pass_of table Fsm m = Some m
-pass_of table Memory m = Some m
+pass_of table Memory m = memory_within m
 pass_of table Techmap m = techmap_within m
 
 -- the rest of a fold, behind a word that gave a module or passed a limit
@@ -42,10 +44,20 @@ abbrev pub fold_script : List Word → PortTable → Module → Outcome
 fold_script [] table m = Done m
 fold_script (word ∷ words) table m = after_word word (fold_script words table) (pass_of table word m)
 
--- a module may be given to the pass of a word, over the ports of a table: without processes to each, and to `proc` with them
+-- a module may be given to a script, over the ports of a table: to `proc`, and no two of its memories have one name
+pub record MayStart (table : PortTable) (m : Module) : Type 0 where
+  pub begins : MayBegin table m
+  pub named : HaveOwnNames m
+
+-- a module may be given to each pass: without processes, and no two of its memories have one name
+pub record MayGoOn (table : PortTable) (m : Module) : Type 0 where
+  pub ready : IsReady (table_ports table.modules) m
+  pub named : HaveOwnNames m
+
+-- a module may be given to the pass of a word
 abbrev pub MayBeGiven : PortTable → Word → Module → Type 0
-MayBeGiven table Proc m = MayBegin table m ⊎ IsReady (table_ports table.modules) m
-MayBeGiven table word m = IsReady (table_ports table.modules) m
+MayBeGiven table Proc m = MayStart table m ⊎ MayGoOn table m
+MayBeGiven table word m = MayGoOn table m
 
 -- the rest of the words may be applied, behind a word that gave a module
 abbrev pub AfterWord : (Module → Type 0) → Option Module → Type 0
@@ -65,7 +77,7 @@ HasPass OptMerge = Unit {0}
 HasPass OptClean = Unit {0}
 HasPass Opt = Unit {0}
 HasPass Fsm = ⊥
-HasPass Memory = ⊥
+HasPass Memory = Unit {0}
 HasPass Techmap = Unit {0}
 
 -- words of such passes alone

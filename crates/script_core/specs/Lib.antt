@@ -3,3 +3,4 @@ pub mod Keys
 pub mod Fold
 pub mod Built
 pub mod Cold
+pub mod Mapping

@@ -45,7 +45,8 @@ fn pass(alloc: Global, word: Word, module: Module, ports: &PortTable) -> Result<
         Word::OptClean => Ok(opt_clean::apply(alloc, &module, ports)?),
         Word::Opt => Ok(opt_rounds::apply(alloc, module, ports)?),
         Word::Techmap => mapped(alloc, &module, ports),
-        Word::Fsm | Word::Memory => Ok(module),
+        Word::Memory => mem_steps::apply(alloc, module, ports),
+        Word::Fsm => Ok(module),
     }
 }
 

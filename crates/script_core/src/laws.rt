@@ -1,14 +1,14 @@
 //! Laws of tables of ports, of builds and of cold runs. Each is the contract of a function that does nothing.
 
-ghost use Rattle.std.specs.Prelude.{◌≡◌, ℕ, List, [], Some, slice_get};
+ghost use Rattle.std.specs.Prelude.{◌≡◌, ℕ, List, [], Some, slice_get, true};
 ghost use Rattle.rtl_ir.specs.declared.module.Design.{Design};
 ghost use Rattle.rtl_ir.specs.declared.module.Module.{Module};
 ghost use Rattle.rtl_ir.specs.declared.ports.PortTable.{PortTable};
-ghost use Rattle.rtl_ir.specs.Faults.{faults_within};
+ghost use Rattle.rtl_ir.specs.Faults.{check_faults};
 ghost use Rattle.rtl_ir.specs.Flat.Cell.{instances};
 ghost use Rattle.rtl_ir.specs.Flat.Tree.{design_ports, table_ports};
-ghost use Rattle.rtl_check.specs.Taken.{taken};
 ghost use Rattle.rtl_trip.specs.Readable.{IsReadable};
+ghost use Rattle.net_model.specs.Gates.{is_gate_netlist};
 ghost use Rattle.net_model.specs.Lists.{In};
 ghost use Rattle.net_model.specs.Refine.{AgreeOn, Refines, RefinesIn};
 ghost use Rattle.script_core.specs.declared.outcome.Outcome.{Outcome};
@@ -16,16 +16,16 @@ ghost use Rattle.script_core.specs.declared.outcome.Outcome.TheVariants.{Done};
 ghost use Rattle.script_core.specs.declared.word.Word.{Word};
 ghost use Rattle.script_core.specs.Built.{IsValueOf, unnamed};
 ghost use Rattle.script_core.specs.Cold.{IsNetlist, cold, named, outcome_of, table_of};
-ghost use Rattle.proc_steps.specs.Steps.{MayBegin};
-ghost use Rattle.script_core.specs.Fold.{IsStageScript, fold_script};
+ghost use Rattle.script_core.specs.Fold.{IsStageScript, MayStart, fold_script};
 ghost use Rattle.script_core.specs.Keys.{key_of};
+ghost use Rattle.script_core.specs.Mapping.{maps_all};
 
 /// The table of a module has the ports that the design has for each of its instances; so a module of an
-/// accepted design may be given to `proc` over its table, whatever its name is.
+/// accepted design may be given to a script over its table, whatever its name is.
 pub fn tables_have_the_ports()
     ensures ports { (d : Design) (m : Module) → AgreeOn (table_ports (table_of d.modules m)) (design_ports d) (instances m.cells) }
-    ensures given { (d : Design) → IsReadable d → faults_within taken d.modules ≡ [] → (m : Module) → In m d.modules →
-        MayBegin (table_of d.modules m) (unnamed m) }
+    ensures given { (d : Design) → IsReadable d → check_faults d.modules ≡ [] → (m : Module) → In m d.modules →
+        MayStart (table_of d.modules m) (unnamed m) }
 {}
 
 /// No pass looks at the name of a module: what a script makes of it under a name is what it makes of it
@@ -46,7 +46,7 @@ pub fn values_are_outcomes()
 /// name that both have.
 pub fn build_refines()
     ensures { (d : Design) (at : ℕ) (before after : Module) (script : List Word) →
-        IsReadable d → faults_within taken d.modules ≡ [] → slice_get d.modules at ≡ Some before → IsStageScript script →
+        IsReadable d → check_faults d.modules ≡ [] → slice_get d.modules at ≡ Some before → IsStageScript script →
         IsValueOf (key_of d.modules at script) (Done after) → (name : List ℕ) →
         RefinesIn (record before { id = name }) (record after { id = name }) (table_of d.modules before) }
 {}
@@ -54,6 +54,15 @@ pub fn build_refines()
 /// Where the cold run of an accepted design is a netlist, this refines the design.
 pub fn cold_runs_refine()
     ensures { (d netlist : Design) (script : List Word) →
-        IsReadable d → faults_within taken d.modules ≡ [] → IsStageScript script →
+        IsReadable d → check_faults d.modules ≡ [] → IsStageScript script →
         IsNetlist (cold script d) netlist → Refines d netlist }
+{}
+
+/// Where the cold run of an accepted design is a netlist, and in the script a word `memory` stands before the
+/// last `techmap`, and only words of `opt` behind that, each cell of the netlist is a gate or an instance of one of its
+/// modules.
+pub fn cold_runs_are_gates()
+    ensures { (d netlist : Design) (script : List Word) →
+        IsReadable d → check_faults d.modules ≡ [] → IsStageScript script → maps_all script ≡ true →
+        IsNetlist (cold script d) netlist → is_gate_netlist netlist ≡ true }
 {}

@@ -2,6 +2,7 @@
 use Rattle.std.proofs.Common.{◌≡◌, ℕ, zero, suc, Bool, true, false, cond, List, [], ◌∷◌, ◌++◌, length, map, Option, Some, None, inl, inr, ⊎_elim, refl, sym, subst}
 use Rattle.std.specs.Prelude.{filter, flat_map, if◌then◌else◌, not}
 use Rattle.std.specs.Option.{is_some}
+use Rattle.std.specs.List.{range_with_len}
 use Rattle.std.specs.Str.{bytes_eq}
 use Rattle.rtl_bits.specs.declared.bit.Bit.{Bit}
 use Rattle.rtl_sig.specs.declared.sig.SigBit.{SigBit}
@@ -12,7 +13,7 @@ use Rattle.cell_types.specs.declared.fault.CellFault.TheVariants as fault
 use Rattle.cell_types.specs.declared.kind.CellKind.{CellKind}
 use Rattle.cell_types.specs.declared.kind.CellKind.TheVariants as Cell
 use Rattle.cell_types.specs.declared.level.Level.TheVariants as At
-use Rattle.cell_types.specs.declared.pin_name.PinName.TheVariants.{A, B, S, Y, Q}
+use Rattle.cell_types.specs.declared.pin_name.PinName.TheVariants.{A, B, S, Y, Q, Addr, Data}
 use Rattle.cell_types.specs.declared.shape.Shape.{Shape}
 use Rattle.cell_types.specs.PinName.{pin_text}
 use Rattle.rtl_ir.specs.declared.cell.Cell.{Cell as CellOf}
@@ -39,14 +40,13 @@ use Rattle.rtl_ir.specs.Faults.Cells.{misfit, shape_fault, output_faults, memory
 use Rattle.rtl_ir.specs.Faults.Links.{link_faults}
 use Rattle.rtl_ir.specs.Faults.Processes.{process_faults}
 use Rattle.rtl_ir.specs.Faults.Recursion.{recursion_faults}
-use Rattle.rtl_ir.specs.Faults.Stores.{store_faults}
 use Rattle.rtl_ir.specs.Faults.TwoEdges.{EdgeBit, edge_bit, is_tested}
-use Rattle.rtl_ir.specs.Faults.Wires.{wire_faults}
 use Rattle.rtl_ir.specs.Flat.Cell as flat
 use Rattle.rtl_ir.specs.Flat.Cell.{cell_kind, cell_shape, outputs, stores, word_store, gate_store, port_joins, instance_rows, kind_rows, cell_rows, cells_rows, instances}
 use Rattle.rtl_ir.specs.Flat.Driver.{StorePoints, Driven, Held, Joined}
 use Rattle.rtl_ir.specs.Flat.Link.{joins, link_rows}
-use Rattle.rtl_ir.specs.Flat.Memory.{memories_rows}
+use Rattle.rtl_ir.specs.Flat.Access.{accesses_of}
+use Rattle.rtl_ir.specs.Flat.Memory.{addresses_of, fetched_rows, init_cells, memories_rows, memory_rows, read_rows, reading_cells, word_row, word_rows}
 use Rattle.rtl_ir.specs.Flat.Place.{Frame, frame, Path, Place}
 use Rattle.rtl_ir.specs.Flat.Point.{Point, Constant, At as AtPlace, bit_place, pin_points, point, points, wire_points}
 use Rattle.rtl_ir.specs.Flat.Pick.{no_test, pick_of}
@@ -59,11 +59,11 @@ use Rattle.rtl_ir.specs.Follow.{Join, all_joins, source_at}
 use Rattle.rtl_ir.specs.Parameters.{signal_at}
 use Rattle.rtl_ir.specs.Ports.{ports_of}
 use Rattle.rtl_ir.specs.Rules.{acting_rules}
+use Rattle.rtl_ir.specs.Scope.{everything}
 use Rattle.rtl_ir.specs.SwitchRules.{root_by_rules}
 use Rattle.rtl_ir.specs.Tree.{CaseView}
 use Rattle.rtl_ir.specs.Types.{Ports, Library, type_by, cell_type, design_ports}
 use Rattle.cell_types.specs.Unsupported.{is_unsupported}
-use Rattle.flat_net.specs.Taken.{taken}
 use Rattle.net_model.specs.Lists.{In}
 use Rattle.net_model.proofs.Instances.{instances_find}
 use Rattle.net_model.proofs.Members.{In-cases}
@@ -213,57 +213,70 @@ process_within start p m q =
     (each_within _ (λ b. refl) bits)
     (rules_within start p m root bits (acting_rules q.syncs))
 
+-- the rows of memories
+flat_within : {A : Type 0} (f : A → List Driven) → ((x : A) → AreWithin (f x)) → (xs : List A) → AreWithin (flat_map f xs)
+flat_within f h [] = λ x i. absurd i
+flat_within f h (y ∷ xs) = both (f y) (flat_map f xs) (h y) (flat_within f h xs)
+
+fetched_within : (p : Path) (s : Store) (address ds : List Point) (at : ℕ) → AreWithin (fetched_rows p s address ds at)
+fetched_within p s address [] at x i = absurd i
+fetched_within p s address (AtPlace q ∷ ds) at x (inl e) = subst (λ z. is_driver_within z.driver ≡ true) (sym e) refl
+fetched_within p s address (AtPlace q ∷ ds) at x (inr i) = fetched_within p s address ds (suc at) x i
+fetched_within p s address (Constant b ∷ ds) at x i = fetched_within p s address ds (suc at) x i
+
+memories_within : (p : Path) (wires : List Wire) (cells : List CellOf) (processes : List Process) (memories : List Store) → AreWithin (memories_rows p wires cells processes memories)
+memories_within p wires cells processes memories =
+    flat_within (memory_rows p wires cells processes) (λ s.
+    both (word_rows p wires s (accesses_of s.name cells processes) (init_cells s.name cells)) (flat_map (read_rows p wires s) (reading_cells s.name cells))
+    (flat_within _ (λ address. each_within (word_row p wires s (accesses_of s.name cells processes) (init_cells s.name cells) address) (λ at. refl) (range_with_len 0 s.width)) (addresses_of s))
+    (flat_within (read_rows p wires s) (λ c. fetched_within p s (points p wires (signal_at c.pins (pin_text Addr))) (points p wires (signal_at c.pins (pin_text Data))) 0) (reading_cells s.name cells)))
+    memories
+
 module _ (ports : Ports) (m : Module) where
-  library_fits : (earlier : List CellOf) (c : CellOf) (kind : CellKind) → faults_by_type taken m earlier c (Library kind) ≡ [] → misfit kind c ≡ None
+  library_fits : (earlier : List CellOf) (c : CellOf) (kind : CellKind) → faults_by_type everything m earlier c (Library kind) ≡ [] → misfit kind c ≡ None
   library_fits earlier c kind e =
       let here = spot m.id c.name in
-      no_shape_fault here kind c (right_none _ (shape_fault here (misfit kind c)) (left_none _ (output_faults here (Library kind) c.pins) (left_none _ (memory_faults m earlier c kind) e)))
+      no_shape_fault here kind c (right_none _ (shape_fault here (misfit kind c)) (left_none _ (output_faults here (Library kind) c.pins) (left_none _ (memory_faults everything.clocks m earlier c kind) e)))
 
-  cell_fits : (earlier : List CellOf) (c : CellOf) (kind : CellKind) → cell_kind c ≡ Some kind → faults_by_type taken m earlier c (cell_type ports c.kind_name) ≡ [] → misfit kind c ≡ None
+  cell_fits : (earlier : List CellOf) (c : CellOf) (kind : CellKind) → cell_kind c ≡ Some kind → faults_by_type everything m earlier c (cell_type ports c.kind_name) ≡ [] → misfit kind c ≡ None
   unfolding cell_type cell_kind
   cell_fits earlier c kind k e =
-      library_fits earlier c kind (subst (λ z. faults_by_type taken m earlier c (type_by z (ports c.kind_name) (is_unsupported c.kind_name)) ≡ []) k e)
+      library_fits earlier c kind (subst (λ z. faults_by_type everything m earlier c (type_by z (ports c.kind_name) (is_unsupported c.kind_name)) ≡ []) k e)
 
-  cells_within : (start : SigBit → Bit) (inner : flat.Ports) (p : Path) (earlier cells : List CellOf) → cell_faults taken ports m earlier cells ≡ [] → AreWithin (cells_rows start inner p m.wires cells)
+  cells_within : (start : SigBit → Bit) (inner : flat.Ports) (p : Path) (earlier cells : List CellOf) → cell_faults everything ports m earlier cells ≡ [] → AreWithin (cells_rows start inner p m.wires cells)
   cells_within start inner p earlier [] e = λ x i. absurd i
   cells_within start inner p earlier (c ∷ cells) e =
       both (cell_rows start inner p m.wires c (cell_kind c)) (cells_rows start inner p m.wires cells)
       (by (cell_kind c) refl)
-      (cells_within start inner p (earlier ++ c ∷ []) cells (right_none (faults_by_type taken m earlier c (cell_type ports c.kind_name)) _ e))
+      (cells_within start inner p (earlier ++ c ∷ []) cells (right_none (faults_by_type everything m earlier c (cell_type ports c.kind_name)) _ e))
     where
       by : (o : Option CellKind) → cell_kind c ≡ o → AreWithin (cell_rows start inner p m.wires c o)
       by None k = instance_within p m.wires c.pins (frame c.name c.kind_name) (inner c.kind_name)
       by (Some kind) k =
-          kind_within start p m.wires c kind (cell_fits earlier c kind k (left_none (faults_by_type taken m earlier c (cell_type ports c.kind_name)) (cell_faults taken ports m (earlier ++ c ∷ []) cells) e))
+          kind_within start p m.wires c kind (cell_fits earlier c kind k (left_none (faults_by_type everything m earlier c (cell_type ports c.kind_name)) (cell_faults everything ports m (earlier ++ c ∷ []) cells) e))
 
   processes_within : (start : SigBit → Bit) (p : Path) (processes : List Process) → AreWithin (processes_rows start p m.wires m processes)
   processes_within start p [] = λ x i. absurd i
   processes_within start p (q ∷ processes) = both (process_rows start p m.wires m q) (processes_rows start p m.wires m processes) (process_within start p m q) (processes_within start p processes)
 
-  memories_within : (p : Path) (cells : List CellOf) (processes : List Process) (memories : List Store) → flat_map (store_faults taken m.id) memories ≡ [] → AreWithin (memories_rows p m.wires cells processes memories)
-  memories_within p cells processes [] e x i = absurd i
-  memories_within p cells processes (s ∷ memories) e x i = absurd (cc)
-
-  rows_within : (inner : flat.Ports) (p : Path) → module_faults taken ports m ≡ [] → AreWithin (rows_of inner p m)
+  rows_within : (inner : flat.Ports) (p : Path) → module_faults everything ports m ≡ [] → AreWithin (rows_of inner p m)
   rows_within inner p e =
       let start = start_of m.wires m.processes in
       let e1 = left_none _ (bits_faults m.id (drives_of ports m) 0 m.wires) e in
       let e2 = left_none _ (link_faults m.id 1 m.links) e1 in
-      let e3 = left_none _ (process_faults taken ports m [] m.processes) e2 in
-      let cs = right_none _ (cell_faults taken ports m [] m.cells) e3 in
-      let e4 = left_none _ (cell_faults taken ports m [] m.cells) e3 in
-      let ss = right_none (wire_faults m.id [] m.wires) (flat_map (store_faults taken m.id) m.memories) e4 in
+      let e3 = left_none _ (process_faults everything ports m [] m.processes) e2 in
+      let cs = right_none _ (cell_faults everything ports m [] m.cells) e3 in
       both (cells_rows start inner p m.wires m.cells) (plain_rows p m) (cells_within start inner p [] m.cells cs)
       (both (link_rows p m.wires m.links) _ (links_within p m.wires m.links)
-      (both (processes_rows start p m.wires m m.processes) (memories_rows p m.wires m.cells m.processes m.memories) (processes_within start p m.processes) (memories_within p m.cells m.processes m.memories ss)))
+      (both (processes_rows start p m.wires m m.processes) (memories_rows p m.wires m.cells m.processes m.memories) (processes_within start p m.processes) (memories_within p m.wires m.cells m.processes m.memories)))
 
 -- a module of these has no faults
-module_faultless : (ports : Ports) (modules : List Module) → flat_map (module_faults taken ports) modules ≡ [] → (m : Module) → In m modules → module_faults taken ports m ≡ []
+module_faultless : (ports : Ports) (modules : List Module) → flat_map (module_faults everything ports) modules ≡ [] → (m : Module) → In m modules → module_faults everything ports m ≡ []
 module_faultless ports [] e m i = absurd i
 module_faultless ports (n ∷ modules) e m (inl f) =
-    subst (λ z. module_faults taken ports z ≡ []) (sym f) (left_none (module_faults taken ports n) (flat_map (module_faults taken ports) modules) e)
+    subst (λ z. module_faults everything ports z ≡ []) (sym f) (left_none (module_faults everything ports n) (flat_map (module_faults everything ports) modules) e)
 module_faultless ports (n ∷ modules) e m (inr i) =
-    module_faultless ports modules (right_none (module_faults taken ports n) (flat_map (module_faults taken ports) modules) e) m i
+    module_faultless ports modules (right_none (module_faults everything ports n) (flat_map (module_faults everything ports) modules) e) m i
 
 named_in : (modules : List Module) (id : List ℕ) (m : Module) → named modules id ≡ Some m → In m modules
 named_in [] id m e = absurd (cc)
@@ -274,12 +287,12 @@ named_in (n ∷ modules) id m e =
     by rest true f = inl (sym (cc))
     by rest false f = inr (rest f)
 
-module _ (d : Design) (faultless : faults_within taken d.modules ≡ []) where
+module _ (d : Design) (faultless : faults_within everything d.modules ≡ []) where
   tree_within : (depth : ℕ) (p : Path) (m : Module) → In m d.modules → AreWithin (in_tree d (rows_of (tree.design_ports d)) depth p m)
   tree_within zero p m i = λ x j. absurd j
   tree_within (suc depth) p m i =
       both (rows_of (tree.design_ports d) p m) (in_instances d (in_tree d (rows_of (tree.design_ports d)) depth) p (instances m.cells))
-      (rows_within (design_ports d.modules) m (tree.design_ports d) p (module_faultless (design_ports d.modules) d.modules (left_none (flat_map (module_faults taken (design_ports d.modules)) d.modules) (recursion_faults d.modules) faultless) m i))
+      (rows_within (design_ports d.modules) m (tree.design_ports d) p (module_faultless (design_ports d.modules) d.modules (left_none (flat_map (module_faults everything (design_ports d.modules)) d.modules) (recursion_faults d.modules) faultless) m i))
       (λ x j. let k = instances_find d (in_tree d (rows_of (tree.design_ports d)) depth) p x (instances m.cells) j in
       tree_within depth (k.0 ∷ p) k.1 (named_in d.modules k.0.module_name k.1 k.3) x k.4)
 

@@ -15,17 +15,21 @@ use Rattle.rtl_ir.specs.Flat.Driver.{Driver, Driven}
 use Rattle.rtl_ir.specs.Flat.Place.{Place, place_same}
 use Rattle.rtl_ir.specs.Flat.Tree.{driven_rows, undriven}
 use Rattle.flat_net.specs.declared.leaves.HeldBit.{HeldBit}
+use Rattle.flat_net.specs.declared.memory.Fetched.{Fetched}
+use Rattle.flat_net.specs.declared.memory.ReadPort.{ReadPort}
+use Rattle.flat_net.specs.declared.net.Output.{Output}
 use Rattle.flat_net.specs.declared.net.StoreBit.{StoreBit}
 use Rattle.flat_net.specs.declared.net.Part.{Part}
 use Rattle.flat_net.specs.Parts.{part_rows, parts_rows}
-use Rattle.flat_net.specs.Within.{ArePartsWithin, IsHeldBitWithin, IsPartWithin, IsStoreWithin}
+use Rattle.flat_net.specs.Within.{ArePartsWithin, IsHeldBitWithin, IsPartWithin, IsReadPortWithin, IsStoreWithin}
+use Rattle.flat_net.specs.Words.{fetched_row, port_rows}
 use Rattle.flat_net.specs.Points.{place_at, AreApart}
 use Rattle.net_model.specs.Lists.{In}
 use Rattle.net_model.specs.Run.{Time}
 use Rattle.net_model.specs.Valuation.{Valuation}
 use Rattle.net_model.specs.Value.{value_of}
 use Rattle.net_model.proofs.Places.{place_same-same}
-use Rattle.sim_eval.specs.First.{IsFirstOf, IsOptionWithin, and_place, and_places, firsts, marked, option_rows, unmarked}
+use Rattle.sim_eval.specs.First.{IsFirstOf, IsOptionWithin, and_place, and_places, firsts, marked, marked_ports, option_rows, unmarked, unmarked_ports}
 use Rattle.sim_eval.specs.Shown.{found}
 use Rattle.sim_eval.specs.Sim.{AreCounting, applied_at}
 use Rattle.sim_eval.proofs.Tables.{found_at, found_set, same_itself}
@@ -169,6 +173,51 @@ first_items number driver seen new part kept xs outs rows kept_rows numbers with
       ∙ ap (and_places (found false ps seen)) (sym (rows ps)));
   within = within;
 }
+
+-- marks are as many as before
+length-marked : {A : Type 0} (number : A → ℕ) (seen : List Bool) (xs : List A) → length (marked number seen xs) ≡ length seen
+length-marked number seen [] = refl
+length-marked number seen (x ∷ xs) = length-marked number (set seen (number x) true) xs ∙ length-set seen (number x) true
+
+places-append : (seen : Place → Bool) (rows more : List Driven) → and_places seen (rows ++ more) ≡ and_places (and_places seen rows) more
+places-append seen [] more = refl
+places-append seen (r ∷ rows) more = places-append (and_place seen r.place) rows more
+
+-- what is kept of read ports
+module _ (f : Fetched) (ps : List Place) (apart : AreApart ps) where
+  number_in : Output → ℕ
+  number_in o = o.number
+
+  driver_in : ReadPort → Output → Driver
+  driver_in r o = (fetched_row ps f r o).driver
+
+  pub ports_unmarked : (seen : List Bool) (ports : List ReadPort) → length ps ≡ length seen → AllByRecursion (IsReadPortWithin (length ps)) ports
+      → flat_map (port_rows ps f) (unmarked_ports seen ports) ≡ firsts (found false ps seen) (flat_map (port_rows ps f) ports)
+  unfolding number_in driver_in
+  ports_unmarked seen [] same h = refl
+  ports_unmarked seen (r ∷ ports) same h =
+      let here = rows_unmarked number_in (driver_in r) ps apart seen r.outputs same h.0.outputs in
+      let marks = marks_unmarked number_in (driver_in r) ps apart seen r.outputs same h.0.outputs in
+      let rest = ports_unmarked (marked number_in seen r.outputs) ports (same ∙ sym (length-marked number_in seen r.outputs)) h.1 in
+      (λ i. here i ++ rest i)
+      ∙ ap (λ z. firsts (found false ps seen) (port_rows ps f r) ++ firsts z (flat_map (port_rows ps f) ports)) marks
+      ∙ sym (firsts-append (found false ps seen) (port_rows ps f r) (flat_map (port_rows ps f) ports))
+
+  pub ports_marked : (seen : List Bool) (ports : List ReadPort) → length ps ≡ length seen → AllByRecursion (IsReadPortWithin (length ps)) ports
+      → found false ps (marked_ports seen ports) ≡ and_places (found false ps seen) (flat_map (port_rows ps f) ports)
+  unfolding number_in driver_in
+  ports_marked seen [] same h = refl
+  ports_marked seen (r ∷ ports) same h =
+      let marks = marks_unmarked number_in (driver_in r) ps apart seen r.outputs same h.0.outputs in
+      let rest = ports_marked (marked number_in seen r.outputs) ports (same ∙ sym (length-marked number_in seen r.outputs)) h.1 in
+      rest
+      ∙ ap (λ z. and_places z (flat_map (port_rows ps f) ports)) marks
+      ∙ sym (places-append (found false ps seen) (port_rows ps f r) (flat_map (port_rows ps f) ports))
+
+pub ports_within : (count : ℕ) (seen : List Bool) (ports : List ReadPort) → AllByRecursion (IsReadPortWithin count) ports → AllByRecursion (IsReadPortWithin count) (unmarked_ports seen ports)
+ports_within count seen [] h = h
+ports_within count seen (r ∷ ports) h =
+    (record { address = h.0.address; outputs = within_unmarked (λ (o : Output). o.number) (λ (o : Output). o.number < count) seen r.outputs h.0.outputs }, ports_within count (marked (λ (o : Output). o.number) seen r.outputs) ports h.1)
 
 -- what is kept of a part of one row
 pub first_single : (n : ℕ) (driver : List Place → Driver) (seen new : List Bool) (part : Part) (kept : Option Part) (was : Bool) → ((ps : List Place) → part_rows ps part ≡ record { place = place_at ps n; driver = driver ps } ∷ []) → ((count : ℕ) → IsPartWithin count part → n < count) → was ≡ not (get_or seen n false) → kept ≡ then_some was part → new ≡ set seen n true → IsFirstOf seen new part kept

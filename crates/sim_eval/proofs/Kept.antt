@@ -18,7 +18,7 @@ use Rattle.flat_net.specs.declared.net.Part.{Part}
 use Rattle.flat_net.specs.declared.net.Part.TheVariants as part
 use Rattle.flat_net.specs.declared.net.Storage.{Storage}
 use Rattle.flat_net.specs.declared.net.StoreBit.{StoreBit}
-use Rattle.flat_net.specs.Taken.{taken}
+use Rattle.rtl_ir.specs.Scope.{everything}
 use Rattle.flat_net.specs.Parts.{inputs_of, output_row, part_rows, parts_rows, store_row}
 use Rattle.flat_net.specs.declared.net.Net.{Net}
 use Rattle.flat_net.specs.Points.{AreApart, point_of}
@@ -67,6 +67,8 @@ module _ (ps : List Place) where
   part_computable (part.Tree t) h = refl
   part_computable (part.Held u) h = refl
   part_computable (part.Raced r) h = refl
+  part_computable (part.Remembered w) h = refl
+  part_computable (part.Fetched f) h = refl
 
   parts_computable : (parts : List Part) → AreWithin (parts_rows ps parts) → are_computable parts ≡ true
   parts_computable [] h = refl
@@ -74,7 +76,7 @@ module _ (ps : List Place) where
       and_from (is_part_computable p) (are_computable parts) (part_computable p (λ x i. h x (In-left x (part_rows ps p) (parts_rows ps parts) i))) (parts_computable parts (λ x i. h x (In-right x (part_rows ps p) (parts_rows ps parts) i)))
 
 -- the first drivers of a module of a design without faults are within the limits of their kinds
-firsts_computable : (d : Design) (m : Module) (ps : List Place) (parts : List Part) → faults_within taken d.modules ≡ [] → In m d.modules → parts_rows ps parts ≡ firsts (λ q. false) (driven_rows d m) → are_computable parts ≡ true
+firsts_computable : (d : Design) (m : Module) (ps : List Place) (parts : List Part) → faults_within everything d.modules ≡ [] → In m d.modules → parts_rows ps parts ≡ firsts (λ q. false) (driven_rows d m) → are_computable parts ≡ true
 firsts_computable d m ps parts faultless i e =
     parts_computable ps parts (λ x j. driven_within d faultless m i x (firsts_in (λ q. false) (driven_rows d m) x (subst (In x) e j)))
 

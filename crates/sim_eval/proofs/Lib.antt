@@ -12,5 +12,8 @@ pub mod Computable
 pub mod Kept
 pub mod Expanding
 pub mod Racing
+pub mod Writing
+pub mod Remembering
+pub mod Reading
 pub mod Common
 pub mod SameBits

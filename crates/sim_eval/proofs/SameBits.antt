@@ -6,7 +6,7 @@ use Rattle.rtl_bits.specs.declared.bit.Bit.{Bit}
 use Rattle.rtl_bits.specs.declared.bit.Bit.TheVariants.{S0, S1, X, Z, M, Dash}
 use Rattle.rtl_bits.specs.contracts.bit.BitPartialEq.TheImpl.{eq-value}
 
-equal : (a b : Bit) → eq-value.it a b ≡ true → a ≡ b
+pub equal : (a b : Bit) → eq-value.it a b ≡ true → a ≡ b
 equal S0 S0 e = refl
 equal S1 S1 e = refl
 equal X X e = refl

@@ -2,6 +2,8 @@
 use Rattle.std.specs.Prelude.{◌≡◌, ℕ, Bool, true, false, ◌||◌, List, [], ◌∷◌, length, slice_index_or, slice_set, if◌then◌else◌, Option, Some, None}
 use Rattle.rtl_ir.specs.Flat.Driver.{Driven}
 use Rattle.rtl_ir.specs.Flat.Place.{Place, place_same}
+use Rattle.flat_net.specs.declared.memory.ReadPort.{ReadPort}
+use Rattle.flat_net.specs.declared.net.Output.{Output}
 use Rattle.flat_net.specs.declared.net.Part.{Part}
 use Rattle.flat_net.specs.Parts.{part_rows}
 use Rattle.flat_net.specs.Points.{AreApart}
@@ -20,6 +22,21 @@ unmarked number seen (x ∷ xs) =
 abbrev pub marked : {A : Type 0} → (A → ℕ) → List Bool → List A → List Bool
 marked number seen [] = seen
 marked number seen (x ∷ xs) = marked number (slice_set seen (number x) true) xs
+
+-- a read port without the bits whose numbers are marked
+abbrev pub unmarked_port : List Bool → ReadPort → ReadPort
+unmarked_port seen r = record { address = r.address; outputs = unmarked (λ (o : Output). o.number) seen r.outputs }
+
+-- read ports without the bits whose numbers are marked, or that an earlier one drives
+abbrev pub unmarked_ports : List Bool → List ReadPort → List ReadPort
+unmarked_ports seen [] = []
+unmarked_ports seen (r ∷ ports) =
+    unmarked_port seen r ∷ unmarked_ports (marked (λ (o : Output). o.number) seen r.outputs) ports
+
+-- the marks with those of the bits that read ports drive
+abbrev pub marked_ports : List Bool → List ReadPort → List Bool
+marked_ports seen [] = seen
+marked_ports seen (r ∷ ports) = marked_ports (marked (λ (o : Output). o.number) seen r.outputs) ports
 
 -- some bits, and one more
 abbrev pub and_place : (Place → Bool) → Place → Place → Bool

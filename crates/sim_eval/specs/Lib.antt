@@ -8,5 +8,7 @@ pub mod Trees
 pub mod Walk
 pub mod Leaves
 pub mod Race
+pub mod Written
+pub mod Fetched
 pub mod Advance
 pub mod Limits

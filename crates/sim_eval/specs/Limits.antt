@@ -77,6 +77,8 @@ is_part_computable (part.Storage c) = keeps_bits c.value
 is_part_computable (part.Tree t) = true
 is_part_computable (part.Held h) = true
 is_part_computable (part.Raced r) = true
+is_part_computable (part.Remembered w) = true
+is_part_computable (part.Fetched f) = true
 
 -- the same of several parts
 abbrev pub are_computable : List Part → Bool

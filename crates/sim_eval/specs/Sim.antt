@@ -9,7 +9,7 @@ use Rattle.rtl_ir.specs.Flat.Place.{Place, place_same}
 use Rattle.rtl_ir.specs.Flat.Tree.{flat, output_places}
 use Rattle.rtl_ir.specs.Faults.{faults_within}
 use Rattle.flat_net.specs.declared.net.Net.{Net}
-use Rattle.flat_net.specs.Taken.{taken}
+use Rattle.rtl_ir.specs.Scope.{everything}
 use Rattle.flat_net.specs.Net.{IsNetOf}
 use Rattle.flat_net.specs.Parts.{parts_rows}
 use Rattle.flat_net.specs.Points.{place_at, AreApart}
@@ -59,6 +59,6 @@ pub record IsFaultlessNet (net : Net) : Type 0 where
   pub design : Design
   pub body : Module
   pub bits : List Place
-  pub faultless : faults_within taken design.modules ≡ []
+  pub faultless : faults_within everything design.modules ≡ []
   pub among : In body design.modules
   pub is : IsNetOf net design body bits

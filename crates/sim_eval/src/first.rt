@@ -5,14 +5,15 @@ ghost use Rattle.rtl_ir.specs.Flat.Cell.{listed};
 ghost use Rattle.rtl_ir.specs.Flat.Place.{Place};
 ghost use Rattle.flat_net.specs.declared.net.Output.{Output};
 ghost use Rattle.flat_net.specs.declared.leaves.HeldBit.{HeldBit};
+ghost use Rattle.flat_net.specs.declared.memory.WordBit.{WordBit};
 ghost use Rattle.flat_net.specs.declared.net.StoreBit.{StoreBit};
 ghost use Rattle.flat_net.specs.Parts.{parts_rows};
 ghost use Rattle.flat_net.specs.Points.{AreApart};
 ghost use Rattle.flat_net.specs.Within.{ArePartsWithin};
-ghost use Rattle.sim_eval.specs.First.{IsFirstOf, firsts, marked, unmarked};
+ghost use Rattle.sim_eval.specs.First.{IsFirstOf, firsts, marked, marked_ports, unmarked, unmarked_port, unmarked_ports};
 ghost use Rattle.sim_eval.specs.Shown.{found};
 
-use flat_net::{HeldBit, Output, Part, StoreBit};
+use flat_net::{HeldBit, Output, Part, ReadPort, StoreBit, WordBit};
 use rtl_bits::{Memory, Seq};
 use std::alloc::Global;
 
@@ -76,6 +77,47 @@ fn first_held(alloc: Global, bits: &[HeldBit], seen: &mut [bool]) -> Result<Seq<
     Ok(kept)
 }
 
+/// The bits of words whose numbers have no mark. They get one.
+fn first_words(alloc: Global, bits: &[WordBit], seen: &mut [bool]) -> Result<Seq<WordBit>, Memory>
+    ensures value { IfOk result (λ kept. kept ≡ unmarked (λ (b : WordBit). b.number) seen.old bits.now) }
+    ensures seen { OnOk result (seen.new ≡ marked (λ (b : WordBit). b.number) seen.old bits.now) }
+{
+    let mut kept = Seq::make(alloc);
+    for bit in bits {
+        if mark(seen, bit.number) {
+            kept.push(*bit)?;
+        }
+    }
+    Ok(kept)
+}
+
+/// The read ports without the bits whose numbers have a mark or that an earlier one drives. They get one.
+fn first_ports(
+    alloc: Global,
+    ports: &[ReadPort],
+    seen: &mut [bool],
+) -> Result<Seq<ReadPort>, Memory>
+    ensures value { IfOk result (λ kept. kept ≡ unmarked_ports seen.old ports.now) }
+    ensures seen { OnOk result (seen.new ≡ marked_ports seen.old ports.now) }
+{
+    let mut kept = Seq::make(alloc);
+    for port in ports {
+        let first = first_of_port(alloc, port, seen)?;
+        kept.push(first)?;
+    }
+    Ok(kept)
+}
+
+/// The read port without the bits whose numbers have a mark. They get one.
+fn first_of_port(alloc: Global, port: &ReadPort, seen: &mut [bool]) -> Result<ReadPort, Memory>
+    ensures value { IfOk result (λ kept. kept ≡ unmarked_port seen.old port.now) }
+    ensures seen { OnOk result (seen.new ≡ marked (λ (o : Output). o.number) seen.old port.now.outputs) }
+{
+    let address = Seq::from_slice(alloc, port.address.as_slice())?;
+    let outputs = first_outputs(alloc, port.outputs.as_slice(), seen)?;
+    Ok(ReadPort { address, outputs })
+}
+
 /// The part without the bits whose numbers have a mark. The others get one.
 fn first_of_part(alloc: Global, part: Part, seen: &mut [bool]) -> Result<Option<Part>, Memory>
     ensures first { IfOk result (IsFirstOf seen.old seen.new part) }
@@ -102,6 +144,14 @@ fn first_of_part(alloc: Global, part: Part, seen: &mut [bool]) -> Result<Option<
         Part::Raced(mut raced) => {
             raced.bits = first_held(alloc, raced.bits.as_slice(), seen)?;
             Ok(Some(Part::Raced(raced)))
+        }
+        Part::Remembered(mut words) => {
+            words.bits = first_words(alloc, words.bits.as_slice(), seen)?;
+            Ok(Some(Part::Remembered(words)))
+        }
+        Part::Fetched(mut fetched) => {
+            fetched.ports = first_ports(alloc, fetched.ports.as_slice(), seen)?;
+            Ok(Some(Part::Fetched(fetched)))
         }
     }
 }

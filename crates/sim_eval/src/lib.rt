@@ -3,6 +3,7 @@
 
 mod cell;
 mod expand;
+mod fetched;
 mod first;
 mod held;
 pub mod laws;
@@ -10,11 +11,13 @@ mod matching;
 mod moment;
 mod race;
 mod raced;
+mod remembered;
 mod sim;
 mod store;
 mod sweep;
 mod tree;
 mod values;
 mod walk;
+mod written;
 
 pub use sim::Sim;

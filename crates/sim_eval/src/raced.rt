@@ -139,7 +139,7 @@ fn new_race(
 }
 
 /// The edge of a point to a level, from the step before to now. Before the first step all points count as unknown.
-fn edge_at(before: &[Bit], now: &[Bit], first: bool, point: Point, level: Level) -> Bit
+pub(crate) fn edge_at(before: &[Bit], now: &[Bit], first: bool, point: Point, level: Level) -> Bit
     ensures value { (ps : List Place) → AreApart ps → length ps ≡ length before.now → length ps ≡ length now.now →
         IsPointWithin (length ps) point →
         result ≡ edge_at (shown ps before.now) (shown ps now.now) first (point_of ps point) level }

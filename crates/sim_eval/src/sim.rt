@@ -9,7 +9,7 @@ use crate::sweep::settle;
 use crate::values::bits_of;
 use flat_net::{Net, Part, flatten};
 use rtl_bits::{Bit, Bits, Memory, Seq};
-use rtl_check::Checked;
+use rtl_ir::Design;
 use std::alloc::Global;
 
 /// A module of a design with all its instances, after some steps.
@@ -27,19 +27,22 @@ impl Sim {
     ghost use Rattle.rtl_bits.specs.declared.bit.Bit.{Bit};
     ghost use Rattle.rtl_ir.specs.declared.module.Design.{Design};
     ghost use Rattle.rtl_ir.specs.declared.module.Module.{Module};
+    ghost use Rattle.rtl_ir.specs.Faults.{faults_within};
     ghost use Rattle.rtl_ir.specs.Flat.Place.{Place};
+    ghost use Rattle.rtl_ir.specs.Scope.{everything};
     ghost use Rattle.flat_net.specs.Net.{IsNetOf};
     ghost use Rattle.sim_eval.specs.After.{outputs_after, valuation_after};
     ghost use Rattle.sim_eval.specs.Sim.{AreAt, IsAt, IsFaultlessNet, IsSimOf};
 
-    /// The module at a place of the design, before the first step: every storage bit has its start value, all inputs
+    /// The module at a place of a design without faults, before the first step: every storage bit has its start value, all inputs
     /// are x, and all other bits are settled.
-    pub fn start(alloc: Global, design: &Checked, at: u32) -> Result<Sim, Memory>
-        requires in_range { at < length design.now.design.modules }
-        ensures settled { (m : Module) → slice_get design.now.design.modules at ≡ Some m →
-            IfOk result (λ sim. IsSimOf sim design.now.design m []) }
+    pub fn start(alloc: Global, design: &Design, at: u32) -> Result<Sim, Memory>
+        requires in_range { at < length design.now.modules }
+        requires faultless { faults_within everything design.now.modules ≡ [] }
+        ensures settled { (m : Module) → slice_get design.now.modules at ≡ Some m →
+            IfOk result (λ sim. IsSimOf sim design.now m []) }
     {
-        let net = flatten(alloc, design.design(), at)?;
+        let net = flatten(alloc, design, at)?;
         Sim::of(alloc, net)
     }
 

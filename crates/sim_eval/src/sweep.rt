@@ -12,9 +12,11 @@ ghost use Rattle.sim_eval.specs.Moment.{HasBefore, IsBoard, time_of};
 ghost use Rattle.sim_eval.specs.Numbers.{given_of};
 
 use crate::cell::update_logic;
+use crate::fetched::update_fetched;
 use crate::held::update_held;
 use crate::moment::Moment;
 use crate::raced::update_raced;
+use crate::remembered::update_remembered;
 use crate::store::update_storage;
 use crate::tree::update_tree;
 use crate::values::{bit_at, passed, put, read};
@@ -82,6 +84,8 @@ fn update(alloc: Global, moment: &Moment, part: &Part, now: &mut [Bit]) -> Resul
         Part::Tree(tree) => update_tree(alloc, tree, now),
         Part::Held(held) => update_held(alloc, moment, held, now),
         Part::Raced(raced) => update_raced(alloc, moment, raced, now),
+        Part::Remembered(words) => update_remembered(alloc, moment, words, now),
+        Part::Fetched(fetched) => update_fetched(alloc, fetched, now),
     }
 }
 

@@ -13,6 +13,8 @@ use rtl_read::{ReadFault, read};
 use sim_eval::Sim;
 use sim_text::{StepFault, read_step, write_step};
 use std::alloc::Global;
+use std::fs::File;
+use std::io::Read;
 use std::process::ExitCode;
 use synth_io::{StdSource, read_input};
 
@@ -87,7 +89,8 @@ fn trace_at(
     at: u32,
     steps: &[u8],
 ) -> Result<Option<Text>, Memory> {
-    let modules = design.design().modules.as_slice();
+    let design = design.design();
+    let modules = design.modules.as_slice();
     if at as usize >= modules.len() {
         return Ok(None);
     }
@@ -137,15 +140,25 @@ fn tally_of(alloc: Global, table: &[u8]) -> Result<Tally, Memory> {
     Ok(tally)
 }
 
-/// Runs over the table at standard input, and says what it came to.
+/// What the table that a reader gives comes to.
+fn tally_in<R: Read + Drop>(alloc: Global, reader: R) -> Option<Tally> {
+    let table = read_input(alloc, &mut StdSource::make(reader)).ok()?;
+    tally_of(alloc, table.as_slice()).ok()
+}
+
+/// Runs over the table at standard input and that of memories, and says what they came to.
 fn main(rt: HostRuntime) -> ExitCode {
-    let Ok(table) = read_input(rt.alloc(), &mut StdSource::make(rt.reader())) else {
+    let Ok(memories) = File::open(&rt, "memories") else {
         return ExitCode::FAILURE;
     };
-    let Ok(tally) = tally_of(rt.alloc(), table.as_slice()) else {
+    let (Some(table), Some(memories)) = (
+        tally_in(rt.alloc(), rt.reader()),
+        tally_in(rt.alloc(), memories),
+    ) else {
         return ExitCode::FAILURE;
     };
-    let Tally { rows, bad } = tally;
+    let rows = table.rows.saturating_add(memories.rows);
+    let bad = table.bad.saturating_add(memories.bad);
     match println!(rt; "{rows} traces, {bad} of them otherwise than told") {
         Ok(()) => ExitCode::SUCCESS,
         Err(_) => ExitCode::FAILURE,

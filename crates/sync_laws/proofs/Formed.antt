@@ -1,5 +1,5 @@
 -- The module that the step gives: what is owed of it, and so it is well formed.
-use Rattle.std.proofs.Common.{◌≡◌, ◌≤◌, ℕ, ◌+◌, Bool, true, false, List, [], ◌∷◌, ◌++◌, length, inl, inr, refl, sym, ◌∙◌, ap, subst, append-nil, arith}
+use Rattle.std.proofs.Common.{◌≡◌, ◌≤◌, ℕ, ◌+◌, Bool, false, List, [], ◌∷◌, ◌++◌, length, inl, inr, refl, sym, ◌∙◌, ap, subst, append-nil, arith}
 use Rattle.std.specs.Prelude.{◌||◌, flat_map, map}
 use Rattle.std.specs.List.{list_any}
 use Rattle.std.proofs.lemmas.Bool.{or_parts}
@@ -12,6 +12,7 @@ use Rattle.rtl_ir.specs.Faults.Links.{is_uneven}
 use Rattle.rtl_ir.specs.Faults.ProcessLimits.{memory_lines, passes_limit, switches_pass, switches_uneven, update_lines}
 use Rattle.rtl_ir.specs.Flat.Cell.{Ports as FlatPorts, instance_of, instances, listed}
 use Rattle.rtl_ir.specs.Ports.{ports_of}
+use Rattle.rtl_ir.specs.Scope.{with_processes}
 use Rattle.rtl_ir.specs.Signals.{has_constant}
 use Rattle.rtl_ir.specs.SwitchRules.{root_by_rules}
 use Rattle.rtl_ir.specs.Types.{Ports, cell_type, table_ports}
@@ -41,9 +42,8 @@ use Rattle.proc_laws.proofs.CountingRules.{driven_checked}
 use Rattle.proc_laws.proofs.RebuildDriven.{instances_stay, still_driven}
 use Rattle.proc_laws.proofs.RebuildFaults.{still_ready}
 use Rattle.proc_laws.proofs.RebuildProcesses.{IsGoodProcess, each_good, none_bad}
-use Rattle.proc_laws.proofs.RebuildScopes.{ready_anyway}
-use Rattle.proc_laws.specs.Ready.{AreRuled, HaveNoLines, HaveNoStarts, IsReady, with_processes}
-use Rattle.proc_laws.specs.Rebuilds.{KeepsEnds, Rebuilds, checked_bits, driven_bits, rebuilt}
+use Rattle.proc_laws.specs.Ready.{AreRuled, HaveNoLines, HaveNoStarts, IsReady}
+use Rattle.proc_laws.specs.Rebuilds.{Rebuilds, checked_bits, driven_bits, rebuilt}
 use Rattle.proc_laws.specs.Step.{IsStep, StaysReady}
 use Rattle.sync_laws.specs.Kinds.{HaveNoAlways, HaveNoTwoEdges, HaveNoWrites}
 use Rattle.sync_laws.proofs.GoodRules.{all_whole, none_write, rule_bits, without_rules}
@@ -126,7 +126,7 @@ are_ruled m h q i =
     let f = In-mapped without_rules q m.processes i in
     subst (λ (z : Process). root_by_rules z.root ≡ z.root) (sym f.2) (h f.0 f.1)
 
-module _ (ports : Ports) (m : Module) (memories : Bool) (ready : IsReady (with_processes memories) ports m) (acts : HaveNoAlways m) (edges : HaveNoTwoEdges m) (quiet : HaveNoWrites m) where
+module _ (ports : Ports) (m : Module) (ready : IsReady with_processes ports m) (acts : HaveNoAlways m) (edges : HaveNoTwoEdges m) (quiet : HaveNoWrites m) where
   abbrev changed : List Process
   changed = map without_rules m.processes
 
@@ -143,7 +143,7 @@ module _ (ports : Ports) (m : Module) (memories : Bool) (ready : IsReady (with_p
   same_wires = sym (append-nil m.wires)
 
   whole : AreWhole (length m.wires) (all_parts m) (flat_map rule_bits m.processes)
-  whole = all_whole ports m memories ready acts edges
+  whole = all_whole ports m ready acts edges
 
   -- the bits that are driven
   drives : (f : Process → List WireBit) → ((x : WireBit) → count x (flat_map rule_bits m.processes) + count x (flat_map f (map without_rules m.processes)) ≤ count x (flat_map f m.processes)) → (x : WireBit) → count x (cells_bits ports new ++ ([] ++ flat_map f changed)) ≤ count x (flat_map f m.processes)
@@ -163,10 +163,10 @@ module _ (ports : Ports) (m : Module) (memories : Bool) (ready : IsReady (with_p
         let is : IsStorePart (length m.wires) q = whole.whole q i in
         library_faultless ports (named q k) (Storage is.kind) (is.whole k).own refl (is.whole k).shape (is.whole k).output);
     links = each_none IsEven;
-    processes = none_bad true ports (rebuilt [] new [] changed m) [] changed
+    processes = none_bad ports (rebuilt [] new [] changed m) [] changed
         (λ before q i.
         let f = In-mapped without_rules q m.processes i in
-        let good = each_good memories ports m [] m.processes (no_faults (with_processes memories) ports m ready.faultless).processes f.0 f.1 in
+        let good = each_good ports m [] m.processes (no_faults with_processes ports m ready.faultless).processes f.0 f.1 in
         subst (IsGoodProcess ports (rebuilt [] new [] changed m) before) (sym f.2) (still_good ports m (rebuilt [] new [] changed m) good.0 before f.0 good.1));
     cells_within = subst (λ ws. Each (CellIn (length ws)) new) same_wires
         (cells_each (length m.wires) (CellIn (length m.wires)) (building_of m).next (all_parts m) (λ q i k. ((whole.whole q i).whole k).within));
@@ -188,25 +188,22 @@ module _ (ports : Ports) (m : Module) (memories : Bool) (ready : IsReady (with_p
   sync_driven over h =
       subst (IsWellDriven over) (sym sync_is) (still_driven ports m [] new [] changed ready.within rebuilds over h)
 
-  keeps : KeepsEnds m.links (m.links ++ [])
-  keeps = subst (KeepsEnds m.links) (sym (append-nil m.links)) (λ a b e. e)
-
-  pub sync_ready : IsReady (with_processes memories) ports (proc_sync_of m)
+  pub sync_ready : IsReady with_processes ports (proc_sync_of m)
   sync_ready =
-      subst (IsReady (with_processes memories) ports) (sym sync_is) (still_ready ports m [] new [] changed memories ready rebuilds (λ e. keeps))
+      subst (IsReady with_processes ports) (sym sync_is) (still_ready ports m [] new [] changed ready rebuilds)
 
 -- with refinement it is a step of `proc`
-pub sync_is_step : (table : PortTable) (m : Module) (memories : Bool) → IsReady (with_processes memories) (table_ports table.modules) m → HaveNoAlways m → HaveNoTwoEdges m → HaveNoWrites m → HaveNoStarts m → IsStep table m (proc_sync_of m)
-sync_is_step table m memories ready acts edges quiet starts =
+pub sync_is_step : (table : PortTable) (m : Module) → IsReady with_processes (table_ports table.modules) m → HaveNoAlways m → HaveNoTwoEdges m → HaveNoWrites m → HaveNoStarts m → IsStep table m (proc_sync_of m)
+sync_is_step table m ready acts edges quiet starts =
     let ports : Ports = table_ports table.modules in
     record {
-      id = sym (ap (λ (b : Module). b.id) (sync_is ports m memories ready acts edges quiet));
-      ports = sync_ports ports m memories ready acts edges quiet;
-      instances = sync_instances ports m memories ready acts edges quiet;
-      driven = λ over agree h. sync_driven ports m memories ready acts edges quiet over h;
-      refines = refines table m (ready_anyway memories ports m ready) acts edges quiet starts;
+      id = sym (ap (λ (b : Module). b.id) (sync_is ports m ready acts edges quiet));
+      ports = sync_ports ports m ready acts edges quiet;
+      instances = sync_instances ports m ready acts edges quiet;
+      driven = λ over agree h. sync_driven ports m ready acts edges quiet over h;
+      refines = refines table m ready acts edges quiet starts;
     }
 
 pub stays_ready : (table : PortTable) (m : Module) → HaveNoAlways m → HaveNoTwoEdges m → HaveNoWrites m → StaysReady table m (proc_sync_of m)
-stays_ready table m acts edges quiet memories ready =
-    sync_ready (table_ports table.modules) m memories ready acts edges quiet
+stays_ready table m acts edges quiet ready =
+    sync_ready (table_ports table.modules) m ready acts edges quiet

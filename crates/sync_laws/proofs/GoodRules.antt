@@ -11,6 +11,7 @@ use Rattle.rtl_ir.specs.Flat.Access.{line_accesses, rule_accesses}
 use Rattle.rtl_ir.specs.Flat.Start.{Begun, first_constant, process_starts}
 use Rattle.rtl_ir.specs.Follow.{Join, all_joins}
 use Rattle.rtl_ir.specs.Rules.{acting_rules, has_item, has_line, init_lines, is_init}
+use Rattle.rtl_ir.specs.Scope.{with_processes}
 use Rattle.rtl_ir.specs.SwitchRules.{root_by_rules}
 use Rattle.rtl_ir.specs.Types.{Ports}
 use Rattle.rtl_ir.specs.declared.module.Link.{Link}
@@ -24,7 +25,7 @@ use Rattle.net_model.specs.Proc.Latch.{is_always}
 use Rattle.net_model.specs.Within.{Each, ProcessIn, RuleIn}
 use Rattle.pass_laws.proofs.Faultless.{no_faults}
 use Rattle.proc_laws.proofs.RebuildProcesses.{each_good}
-use Rattle.proc_laws.specs.Ready.{HaveNoStarts, IsReady, with_processes}
+use Rattle.proc_laws.specs.Ready.{HaveNoStarts, IsReady}
 use Rattle.proc_laws.specs.Rebuilds.{rules_bits}
 use Rattle.mux_laws.proofs.TreeLess.{SameAccesses}
 use Rattle.sync_laws.specs.Kinds.{HaveNoAlways, HaveNoTwoEdges, HaveNoWrites}
@@ -89,11 +90,11 @@ each_whole count (p ∷ ps) h =
     whole_both count (process_parts p) (flat_map process_parts ps) (rule_bits p) (flat_map rule_bits ps) (h p (inl refl)) (each_whole count ps (λ q i. h q (inr i)))
 
 -- the parts are whole cells that drive what the rules drive
-pub all_whole : (ports : Ports) (m : Module) (memories : Bool) → IsReady (with_processes memories) ports m → HaveNoAlways m → HaveNoTwoEdges m → AreWhole (length m.wires) (all_parts m) (flat_map rule_bits m.processes)
-all_whole ports m memories ready acts edges =
+pub all_whole : (ports : Ports) (m : Module) → IsReady with_processes ports m → HaveNoAlways m → HaveNoTwoEdges m → AreWhole (length m.wires) (all_parts m) (flat_map rule_bits m.processes)
+all_whole ports m ready acts edges =
     each_whole (length m.wires) m.processes
     (λ p i.
-    let good = each_good memories ports m [] m.processes (no_faults (with_processes memories) ports m ready.faultless).processes p i in
+    let good = each_good ports m [] m.processes (no_faults with_processes ports m ready.faultless).processes p i in
     rules_whole (length m.wires) m p.root (acting_rules p.syncs) (good_rules (length m.wires) p (ready.within.processes p i) good.1.rules (acts p i)) (edges p i))
 
 -- without start values, and without rules, none are given

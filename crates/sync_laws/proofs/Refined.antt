@@ -1,5 +1,5 @@
 -- A module with flip-flops and latches in the place of the rules of its processes refines the module.
-use Rattle.std.proofs.Common.{◌≡◌, ℕ, ◌+◌, true, List, [], ◌∷◌, ◌++◌, length, inl, inr, ⊎_elim, refl, sym, ◌∙◌, ap, subst, append-nil}
+use Rattle.std.proofs.Common.{◌≡◌, ℕ, ◌+◌, List, [], ◌∷◌, ◌++◌, length, inl, inr, ⊎_elim, refl, sym, ◌∙◌, ap, subst, append-nil}
 use Rattle.std.specs.Prelude.{flat_map, map}
 use Rattle.rtl_bits.specs.declared.bit.Bit.{Bit}
 use Rattle.cell_types.specs.declared.kind.CellKind.TheVariants.{Storage}
@@ -16,6 +16,7 @@ use Rattle.rtl_ir.specs.Flat.Rows.{plain_rows, rows_of}
 use Rattle.rtl_ir.specs.Flat.Start.{process_starts, start_of}
 use Rattle.rtl_ir.specs.Flat.Tree as flat
 use Rattle.rtl_ir.specs.Rules.{acting_rules}
+use Rattle.rtl_ir.specs.Scope.{with_processes}
 use Rattle.rtl_ir.specs.SwitchRules.{root_by_rules}
 use Rattle.rtl_ir.specs.Types as types
 use Rattle.rtl_ir.specs.declared.cell.Cell.{Cell}
@@ -31,7 +32,7 @@ use Rattle.net_model.specs.Refine.{IsMet, RefinesIn, Solved}
 use Rattle.net_model.specs.Run.{Time}
 use Rattle.net_model.specs.Valuation.{Valuation}
 use Rattle.net_model.specs.Within.{Each, with_wires}
-use Rattle.proc_laws.specs.Ready.{HaveNoStarts, IsReady, with_processes}
+use Rattle.proc_laws.specs.Ready.{HaveNoStarts, IsReady}
 use Rattle.mux_laws.proofs.TreeBuilt.{after, built_refines, moment, process_among}
 use Rattle.mux_laws.proofs.TreeGrowing.{Grows, IsPlainCell}
 use Rattle.mux_laws.proofs.TreeLess.{SameAccesses}
@@ -76,7 +77,7 @@ tree_stays start p wires m (x ∷ ps) q (inl e) d j =
 tree_stays start p wires m (x ∷ ps) q (inr i) d j =
     In-right d (process_rows start p wires m (without_rules x)) (processes_rows start p wires m (map without_rules ps)) (tree_stays start p wires m ps q i d j)
 
-module _ (table : PortTable) (m : Module) (ready : IsReady (with_processes true) (types.table_ports table.modules) m) (acts : HaveNoAlways m) (edges : HaveNoTwoEdges m) (quiet : HaveNoWrites m) (starts : HaveNoStarts m) where
+module _ (table : PortTable) (m : Module) (ready : IsReady with_processes (types.table_ports table.modules) m) (acts : HaveNoAlways m) (edges : HaveNoTwoEdges m) (quiet : HaveNoWrites m) (starts : HaveNoStarts m) where
   abbrev built : Building
   built = sync_step m (building_of m)
 
@@ -97,7 +98,7 @@ module _ (table : PortTable) (m : Module) (ready : IsReady (with_processes true)
     body =
         ap (λ (b : Building). b.body) built_is
         ∙ (λ i. record m { cells = m.cells ++ new; wires = sym (append-nil m.wires) i; links = sym (append-nil m.links) i });
-    plain = cells_plain (length m.wires) (building_of m).next (all_parts m) (all_whole (types.table_ports table.modules) m true ready acts edges).whole;
+    plain = cells_plain (length m.wires) (building_of m).next (all_parts m) (all_whole (types.table_ports table.modules) m ready acts edges).whole;
     inner = λ w i. absurd i;
   }
 

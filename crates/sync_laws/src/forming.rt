@@ -1,13 +1,14 @@
 //! The module that the step gives is well formed. Each law is the contract of a function that does nothing.
 
-ghost use Rattle.std.specs.Prelude.{◌≡◌, Bool};
+ghost use Rattle.std.specs.Prelude.{◌≡◌};
 ghost use Rattle.rtl_ir.specs.Flat.Cell as flat;
 ghost use Rattle.rtl_ir.specs.Flat.Cell.{instances};
 ghost use Rattle.rtl_ir.specs.Ports.{ports_of};
+ghost use Rattle.rtl_ir.specs.Scope.{with_processes};
 ghost use Rattle.rtl_ir.specs.Types.{Ports, table_ports};
 ghost use Rattle.net_model.specs.Proc.Sync.{proc_sync_of};
 ghost use Rattle.net_model.specs.Refine.{IsWellDriven};
-ghost use Rattle.proc_laws.specs.Ready.{AreRuled, HaveNoLines, HaveNoStarts, IsReady, with_processes};
+ghost use Rattle.proc_laws.specs.Ready.{AreRuled, HaveNoLines, HaveNoStarts, IsReady};
 ghost use Rattle.proc_laws.specs.Step.{IsStep, StaysReady};
 ghost use Rattle.sync_laws.specs.Kinds.{HaveNoAlways, HaveNoTwoEdges, HaveNoWrites};
 
@@ -17,17 +18,17 @@ use rtl_ir::{Module, PortTable};
 /// flip-flops and latches in the place of rules has the same name, ports and instances, no bit gets a second
 /// driver, in whatever design it stands, and it may be given on.
 pub fn flops_fit()
-    ensures same_id { (ports : Ports) (m : Module) (memories : Bool) →
-        IsReady (with_processes memories) ports m → HaveNoAlways m → HaveNoTwoEdges m → HaveNoWrites m →
+    ensures same_id { (ports : Ports) (m : Module) →
+        IsReady with_processes ports m → HaveNoAlways m → HaveNoTwoEdges m → HaveNoWrites m →
         m.id ≡ (proc_sync_of m).id }
-    ensures same_ports { (ports : Ports) (m : Module) (memories : Bool) →
-        IsReady (with_processes memories) ports m → HaveNoAlways m → HaveNoTwoEdges m → HaveNoWrites m →
+    ensures same_ports { (ports : Ports) (m : Module) →
+        IsReady with_processes ports m → HaveNoAlways m → HaveNoTwoEdges m → HaveNoWrites m →
         ports_of m.wires ≡ ports_of (proc_sync_of m).wires }
-    ensures same_instances { (ports : Ports) (m : Module) (memories : Bool) →
-        IsReady (with_processes memories) ports m → HaveNoAlways m → HaveNoTwoEdges m → HaveNoWrites m →
+    ensures same_instances { (ports : Ports) (m : Module) →
+        IsReady with_processes ports m → HaveNoAlways m → HaveNoTwoEdges m → HaveNoWrites m →
         instances m.cells ≡ instances (proc_sync_of m).cells }
-    ensures driven { (ports : Ports) (over : flat.Ports) (m : Module) (memories : Bool) →
-        IsReady (with_processes memories) ports m → HaveNoAlways m → HaveNoTwoEdges m → HaveNoWrites m →
+    ensures driven { (ports : Ports) (over : flat.Ports) (m : Module) →
+        IsReady with_processes ports m → HaveNoAlways m → HaveNoTwoEdges m → HaveNoWrites m →
         IsWellDriven over m → IsWellDriven over (proc_sync_of m) }
     ensures ready { (table : PortTable) (m : Module) → HaveNoAlways m → HaveNoTwoEdges m → HaveNoWrites m →
         StaysReady table m (proc_sync_of m) }
@@ -41,7 +42,7 @@ pub fn flops_leave_trees()
 
 /// Where besides no rule gives start values, it is a step of `proc`.
 pub fn flops_are_a_step()
-    ensures step { (table : PortTable) (m : Module) (memories : Bool) →
-        IsReady (with_processes memories) (table_ports table.modules) m → HaveNoAlways m → HaveNoTwoEdges m →
+    ensures step { (table : PortTable) (m : Module) →
+        IsReady with_processes (table_ports table.modules) m → HaveNoAlways m → HaveNoTwoEdges m →
         HaveNoWrites m → HaveNoStarts m → IsStep table m (proc_sync_of m) }
 {}

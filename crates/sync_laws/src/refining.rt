@@ -1,11 +1,11 @@
 //! Flip-flops and latches refine the rules that they stand for. The law is the contract of a function that
 //! does nothing.
 
-ghost use Rattle.std.specs.Prelude.{true};
+ghost use Rattle.rtl_ir.specs.Scope.{with_processes};
 ghost use Rattle.rtl_ir.specs.Types.{table_ports};
 ghost use Rattle.net_model.specs.Proc.Sync.{proc_sync_of};
 ghost use Rattle.net_model.specs.Refine.{RefinesIn};
-ghost use Rattle.proc_laws.specs.Ready.{HaveNoStarts, IsReady, with_processes};
+ghost use Rattle.proc_laws.specs.Ready.{HaveNoStarts, IsReady};
 ghost use Rattle.sync_laws.specs.Kinds.{HaveNoAlways, HaveNoTwoEdges, HaveNoWrites};
 
 use rtl_ir::{Module, PortTable};
@@ -14,6 +14,6 @@ use rtl_ir::{Module, PortTable};
 /// module with flip-flops and latches in the place of rules loses no known output bit.
 pub fn flops_refine()
     ensures refines { (table : PortTable) (m : Module) →
-        IsReady (with_processes true) (table_ports table.modules) m → HaveNoAlways m → HaveNoTwoEdges m →
+        IsReady with_processes (table_ports table.modules) m → HaveNoAlways m → HaveNoTwoEdges m →
         HaveNoWrites m → HaveNoStarts m → RefinesIn m (proc_sync_of m) table }
 {}

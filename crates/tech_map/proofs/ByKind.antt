@@ -4,9 +4,9 @@ use Rattle.cell_types.specs.declared.kind.CellKind.{CellKind}
 use Rattle.cell_types.specs.declared.kind.CellKind.TheVariants.{Gate, Memory, Storage, StorageGate, Word}
 use Rattle.cell_types.specs.declared.pin_name.PinName.TheVariants.{Q, Y}
 use Rattle.cell_types.specs.declared.shape.Shape.{Shape}
-use Rattle.cell_types.specs.declared.word.ArithKind.TheVariants.{Add, Sub}
+use Rattle.cell_types.specs.declared.word.ArithKind.TheVariants.{Add, Sub, Mul}
 use Rattle.cell_types.specs.declared.word.UnaryKind.TheVariants.{Not, Pos, Neg}
-use Rattle.cell_types.specs.declared.word.WordKind.TheVariants.{Unary, Fold, Bitwise, Logic, Equal, Order, Arith, Mux, Pmux, Slice, Concat}
+use Rattle.cell_types.specs.declared.word.WordKind.TheVariants.{Unary, Fold, Bitwise, Logic, Equal, Order, Arith, Division, Shift, Mux, Pmux, Slice, Concat}
 use Rattle.rtl_bits.specs.declared.bit.Bit.{Bit}
 use Rattle.rtl_sig.specs.declared.sig.SigBit.{SigBit}
 use Rattle.rtl_ir.specs.Build.{Building}
@@ -23,6 +23,10 @@ use Rattle.map_flop.proofs.Expanded as flop_maps
 use Rattle.map_flop.specs.Expand as flops
 use Rattle.map_gates.proofs.Expanded as gate_maps
 use Rattle.map_gates.specs.Expand as gates
+use Rattle.map_mul.proofs.Expanded as product_maps
+use Rattle.map_mul.specs.Expand as products
+use Rattle.map_shift.proofs.Expanded as shift_maps
+use Rattle.map_shift.specs.Expand as shifts
 use Rattle.pass_laws.proofs.Outputs.{output_bits}
 use Rattle.pass_laws.specs.Bits.{pin_bits}
 use Rattle.tech_map.specs.Techmap.{expand_by_kind, if_taken, is_taken}
@@ -55,6 +59,24 @@ module _ (kind : CellKind) (c : Cell) (b : Building) (whole : IsWhole (length b.
         stands = λ ports start wires. add_maps.expanded_stands c b (adds.map_of shape c b) shape refl is e ports start wires;
       }
 
+  by_products : products.is_mapped kind ≡ true → IsMappedTo b (products.map_of shape c b) c
+  unfolding cell_shape
+  by_products e =
+      let is = shape_fits c kind whole.own whole.shape in
+      record {
+        expansion = product_maps.expanded c b (products.map_of shape c b) shape refl is e whole;
+        stands = λ ports start wires. product_maps.expanded_stands c b (products.map_of shape c b) shape refl is e ports start wires;
+      }
+
+  by_shifts : shifts.is_mapped kind ≡ true → IsMappedTo b (shifts.map_of shape c b) c
+  unfolding cell_shape
+  by_shifts e =
+      let is = shape_fits c kind whole.own whole.shape in
+      record {
+        expansion = shift_maps.expanded c b (shifts.map_of shape c b) shape refl is e whole;
+        stands = λ ports start wires. shift_maps.expanded_stands c b (shifts.map_of shape c b) shape refl is e ports start wires;
+      }
+
   by_flops : flops.is_mapped kind ≡ true → IsMappedTo b (flops.map_of shape c b) c
   unfolding cell_shape
   by_flops e =
@@ -64,44 +86,27 @@ module _ (kind : CellKind) (c : Cell) (b : Building) (whole : IsWhole (length b.
         stands = λ ports start wires. flop_maps.expanded_stands c b shape (flops.map_of shape c b) refl is e ports start wires;
       }
 
--- a kind has a map
-abbrev has_map : CellKind → Bool
-has_map (Word (Unary Neg)) = true
-has_map (Word (Arith kind)) = adds.is_mapped (Word (Arith kind))
-has_map (Word (Order kind)) = true
-has_map (Storage kind) = true
-has_map kind = gates.is_mapped kind
-
--- what a map owes of a cell of its kinds
-by_map : (kind : CellKind) → has_map kind ≡ true → (c : Cell) (b : Building) → IsWhole (length b.body.wires) kind c → IsMappedTo b (expand_by_kind kind c b) c
-by_map (Word (Unary Neg)) e c b whole = by_adds (Word (Unary Neg)) c b whole refl
-by_map (Word (Arith kind)) e c b whole = by_adds (Word (Arith kind)) c b whole e
-by_map (Word (Order kind)) e c b whole = by_adds (Word (Order kind)) c b whole refl
-by_map (Storage kind) e c b whole = by_flops (Storage kind) c b whole refl
-by_map kind e c b whole = by_gates kind c b whole e
-
--- a kind that becomes gates has a map, whichever kinds do
-taken_here : (kind : CellKind) → is_taken kind ≡ true → has_map kind ≡ true
-taken_here (Word (Unary Not)) e = refl
-taken_here (Word (Unary Pos)) e = refl
-taken_here (Word (Unary Neg)) e = refl
-taken_here (Word (Fold kind)) e = refl
-taken_here (Word (Bitwise kind)) e = refl
-taken_here (Word (Logic kind)) e = refl
-taken_here (Word (Equal kind)) e = refl
-taken_here (Word (Order kind)) e = refl
-taken_here (Word (Arith Add)) e = refl
-taken_here (Word (Arith Sub)) e = refl
-taken_here (Word Mux) e = refl
-taken_here (Word Pmux) e = refl
-taken_here (Word Slice) e = refl
-taken_here (Word Concat) e = refl
-taken_here (Storage kind) e = refl
-taken_here kind e = absurd (cc)
-
 -- so what is owed is so of each kind that becomes gates
 pub mapped : (kind : CellKind) → is_taken kind ≡ true → (c : Cell) (b : Building) → IsWhole (length b.body.wires) kind c → IsMappedTo b (expand_by_kind kind c b) c
-mapped kind e c b whole = by_map kind (taken_here kind e) c b whole
+mapped (Word (Unary Not)) e c b whole = by_gates (Word (Unary Not)) c b whole refl
+mapped (Word (Unary Pos)) e c b whole = by_gates (Word (Unary Pos)) c b whole refl
+mapped (Word (Unary Neg)) e c b whole = by_adds (Word (Unary Neg)) c b whole refl
+mapped (Word (Fold kind)) e c b whole = by_gates (Word (Fold kind)) c b whole refl
+mapped (Word (Bitwise kind)) e c b whole = by_gates (Word (Bitwise kind)) c b whole refl
+mapped (Word (Logic kind)) e c b whole = by_gates (Word (Logic kind)) c b whole refl
+mapped (Word (Equal kind)) e c b whole = by_gates (Word (Equal kind)) c b whole refl
+mapped (Word (Order kind)) e c b whole = by_adds (Word (Order kind)) c b whole refl
+mapped (Word (Arith Add)) e c b whole = by_adds (Word (Arith Add)) c b whole refl
+mapped (Word (Arith Sub)) e c b whole = by_adds (Word (Arith Sub)) c b whole refl
+mapped (Word (Arith Mul)) e c b whole = by_products (Word (Arith Mul)) c b whole refl
+mapped (Word (Division kind)) e c b whole = by_products (Word (Division kind)) c b whole refl
+mapped (Word (Shift kind)) e c b whole = by_shifts (Word (Shift kind)) c b whole refl
+mapped (Word Mux) e c b whole = by_gates (Word Mux) c b whole refl
+mapped (Word Pmux) e c b whole = by_gates (Word Pmux) c b whole refl
+mapped (Word Slice) e c b whole = by_gates (Word Slice) c b whole refl
+mapped (Word Concat) e c b whole = by_gates (Word Concat) c b whole refl
+mapped (Storage kind) e c b whole = by_flops (Storage kind) c b whole refl
+mapped kind e c b whole = absurd (cc)
 
 -- no cell of a memory becomes gates
 pub no_memory : (kind : CellKind) → is_taken kind ≡ true → is_memory_kind kind ≡ false

@@ -14,6 +14,7 @@ use Rattle.rtl_ir.specs.Faults.Cells.{is_memory_kind}
 use Rattle.rtl_ir.specs.Flat.Cell.{Ports, cell_kind, cell_rows, cells_rows}
 use Rattle.rtl_ir.specs.Flat.Driver.{Driven}
 use Rattle.rtl_ir.specs.Flat.Link.{joins, link_rows}
+use Rattle.rtl_ir.specs.Flat.Memory.{memories_rows}
 use Rattle.rtl_ir.specs.Flat.Place.{Frame, IsOf, Path, Place, place_same}
 use Rattle.rtl_ir.specs.Flat.Point.{bit_place, points}
 use Rattle.rtl_ir.specs.Flat.Rows.{rows_of}
@@ -33,7 +34,7 @@ use Rattle.net_model.specs.Refine.{IsWellDriven, places_of}
 use Rattle.net_model.specs.Within.{Each}
 use Rattle.map_laws.specs.Expansion.{AreRising, IsWhole, IsWholeCell, IsWholeLink, bits_from, cell_bits, link_bits, links_added, wires_added}
 use Rattle.map_laws.proofs.Expanding.{rising_more}
-use Rattle.map_laws.proofs.FreshWires.{IsFresh, IsSpotOf, fresh_number, from_spots, in_wire_spots, names_of, old_number, one_name, rising_distinct, rising_fresh, wire_spots, wire_spots_distinct}
+use Rattle.map_laws.proofs.FreshWires.{IsFresh, fresh_number, from_spots, in_wire_spots, names_of, old_number, one_name, rising_distinct, rising_fresh, wire_spots, wire_spots_distinct}
 use Rattle.map_laws.proofs.Reordering.{Distinct-permutation, In-permutation, to_permutation}
 use Rattle.pass_laws.proofs.Placing.{kind_places, links_places}
 use Rattle.pass_laws.proofs.Rewriting.{rows_are}
@@ -42,8 +43,8 @@ use Rattle.tech_map.specs.Techmap.{beside, stand_ins, taken_kind, techmap_of, wi
 use Rattle.tech_map.proofs.Drives.{all_drive}
 use Rattle.tech_map.proofs.Growing.{AreWhole, all_added, one_added, whole_next}
 use Rattle.tech_map.proofs.ByKind.{bits_are, mapped, taken_is}
-use Rattle.tech_map.proofs.OldSpots.{cells_kept, links_kept}
-use Rattle.tech_map.proofs.Standing.{IsTakable, cells_after, fresh, grown, lines_more, new_rows, old_rows, swapped, swapped_children, swapped_is, swapped_ports}
+use Rattle.tech_map.proofs.OldSpots.{cells_kept, links_kept, memories_kept}
+use Rattle.tech_map.proofs.Standing.{IsTakable, cells_after, fresh, grown, lines_more, new_rows, of_memories, old_rows, swapped, swapped_children, swapped_is, swapped_ports}
 
 placed_more : (xs ys : List Driven) → places_of (xs ++ ys) ≡ places_of xs ++ places_of ys
 placed_more xs ys = map-append (λ (row : Driven). row.place) xs ys
@@ -154,36 +155,41 @@ module _ (m : Module) (fine : IsTakable m) (few : (beside m).next ≤ 1000000000
         let before : List Place = places_of (cells_rows start ports p wires m.cells) in
         let links : List Place = places_of (link_rows p wires m.links) in
         let more : List Place = places_of (link_rows p wires (lines_more m fine)) in
-        let new : places_of (rows_of ports p (swapped m fine)) ≡ cells ++ (links ++ more) =
-        ap places_of (new_rows m fine ports p) ∙ placed_more _ _ ∙ ap (λ z. cells ++ z) (placed_more _ _)
+        let words : List Place = places_of (of_memories m fine ports p) in
+        let new : places_of (rows_of ports p (swapped m fine)) ≡ cells ++ ((links ++ more) ++ words) =
+        ap places_of (new_rows m fine ports p) ∙ placed_more _ _ ∙ ap (λ z. cells ++ z) (placed_more _ _ ∙ ap (λ z. z ++ words) (placed_more _ _))
         in
-        let old : places_of (rows_of ports p m) ≡ before ++ links = ap places_of (old_rows m fine ports p) ∙ placed_more _ _ in
+        let old : places_of (rows_of ports p m) ≡ before ++ (links ++ words) =
+        ap places_of (old_rows m fine ports p) ∙ placed_more _ _ ∙ ap (λ z. before ++ z) (placed_more _ _)
+        in
         let given : IsPermutation (cells ++ more) (fresh_places ++ before) =
         subst (λ z. IsPermutation z (fresh_places ++ before)) (λ i. cells_are start ports p wires (cells_after m fine) i ++ lines_are start ports p wires (lines_more m fine) i)
         (subst (IsPermutation _) (λ i. from_spots p m.wires (fresh m fine) i ++ cells_are start ports p wires m.cells i) (all_places start ports p wires m.cells (building_of m) fine.whole))
         in
         IsPermutation-trans _ _ _ (to_permutation _ _ new)
-        (IsPermutation-trans _ _ _ (IsPermutation-append_right cells _ _ (IsPermutation-append_comm links more))
-        (IsPermutation-trans _ _ _ (to_permutation _ _ (sym (append_assoc cells more links)))
-        (IsPermutation-trans _ _ _ (IsPermutation-append_left links _ _ given)
-        (to_permutation _ _ (append_assoc fresh_places before links ∙ ap (λ z. fresh_places ++ z) (sym old))))))
+        (IsPermutation-trans _ _ _ (IsPermutation-append_right cells _ _ (IsPermutation-append_left words _ _ (IsPermutation-append_comm links more)))
+        (IsPermutation-trans _ _ _ (to_permutation _ _ (ap (λ z. cells ++ z) (append_assoc more links words) ∙ sym (append_assoc cells more (links ++ words))))
+        (IsPermutation-trans _ _ _ (IsPermutation-append_left (links ++ words) _ _ given)
+        (to_permutation _ _ (append_assoc fresh_places before (links ++ words) ∙ ap (λ z. fresh_places ++ z) (sym old))))))
 
-    -- a row from before at the module's own path drives a bit of one of its wires
-    old_kept : (x : Driven) → In x (rows_of ports p m) → x.place.path ≡ p → IsSpotOf p (names_of m.wires) x.place
+    -- a row from before at the module's own path that drives a bit of a wire drives one of the module's
+    old_kept : (x : Driven) → In x (rows_of ports p m) → x.place.path ≡ p → (name : List ℕ) → IsOf name x.place.spot → In name (names_of m.wires)
     old_kept x i =
         let start : SigBit → Bit = start_of m.wires m.processes in
         ⊎_elim
         (λ l. cells_kept p m.wires start ports m.cells fine.within.cells x l)
-        (λ r. links_kept p m.wires m.links fine.within.links x r)
-        (In-cases x (cells_rows start ports p m.wires m.cells) (link_rows p m.wires m.links) (subst (In x) (rows_are ports p m fine.processes fine.memories) i))
+        (λ r. ⊎_elim
+        (λ l. links_kept p m.wires m.links fine.within.links x l)
+        (λ k. memories_kept p m.wires m.cells m.processes fine.within.cells m.memories x k)
+        (In-cases x (link_rows p m.wires m.links) (memories_rows p m.wires m.cells m.processes m.memories) r))
+        (In-cases x (cells_rows start ports p m.wires m.cells) (link_rows p m.wires m.links ++ memories_rows p m.wires m.cells m.processes m.memories) (subst (In x) (rows_are ports p m fine.processes) i))
 
     apart : (q : Place) → In q fresh_places → In q (places_of (rows_of ports p m)) → ⊥
     apart q i j =
         let a = in_wire_spots p (fresh m fine) q i in
         let k = In-mapped (λ (row : Driven). row.place) q (rows_of ports p m) j in
-        let b = old_kept k.0 k.1 (ap (λ (z : Place). z.path) (sym k.2) ∙ a.path) in
-        let spot : IsOf b.name q.spot = subst (λ (z : Place). IsOf b.name z.spot) (sym k.2) b.spot in
-        names_apart a.name a.there (subst (λ name. In name (names_of m.wires)) (one_name p q b.name a.name spot a.spot) b.there)
+        names_apart a.name a.there
+        (old_kept k.0 k.1 (ap (λ (z : Place). z.path) (sym k.2) ∙ a.path) a.name (subst (λ (z : Place). IsOf a.name z.spot) k.2 a.spot))
 
     rows_distinct : Distinct (places_of (rows_of ports p m)) → Distinct (places_of (rows_of ports p (swapped m fine)))
     rows_distinct h =

@@ -17,7 +17,7 @@ use Rattle.rtl_ir.specs.Faults.Stores.{store_faults}
 use Rattle.rtl_ir.specs.Faults.Wires.{is_bad_port, is_inout, wire_faults, with_number}
 use Rattle.rtl_ir.specs.Flat.Cell.{cell_kind}
 use Rattle.rtl_ir.specs.Ports.{is_port}
-use Rattle.rtl_ir.specs.Scope.{Scope, cells_alone}
+use Rattle.rtl_ir.specs.Scope.{without_processes}
 use Rattle.rtl_ir.specs.Types.{CellType, Instance, Library, Ports, Unknown, Unsupported, cell_type}
 use Rattle.rtl_ir.specs.declared.cell.Cell.{Cell}
 use Rattle.rtl_ir.specs.declared.module.Module.{Module}
@@ -29,20 +29,21 @@ use Rattle.net_model.specs.Within.{AreInner, CellIn, Each, LinkIn}
 use Rattle.map_laws.specs.Expansion.{IsWhole, IsWholeCell, IsWholeGate, IsWholeLink, bits_from, cell_bits, link_bits, links_added, wires_added}
 use Rattle.map_laws.proofs.FreshWires.{names_of}
 use Rattle.map_laws.proofs.Wholes.{cell_more, gate_more, line_more, link_more}
-use Rattle.pass_laws.proofs.Alone.{fits_kind, library_faultless, no_link_faults, none_there, own_kind}
+use Rattle.pass_laws.proofs.Accesses.{accesses_stay, none_there}
+use Rattle.pass_laws.proofs.Alone.{IsSound, faultless_sound, library_faultless, no_link_faults, shape_of}
 use Rattle.pass_laws.proofs.Counting.{bits_of, count, count_more, driven_count, links_more}
 use Rattle.pass_laws.proofs.Faultless.{HasNoFaults, IsPlain, no_faults, none_left, none_right, plain, type_is}
-use Rattle.pass_laws.proofs.Forming.{own_cells, own_links}
+use Rattle.pass_laws.proofs.Forming.{all_none, own_accesses, own_cells, own_links}
 use Rattle.pass_laws.specs.Bits.{cells_bits, links_bits, pin_bits}
 use Rattle.pass_laws.specs.Ready.{IsReady}
-use Rattle.pass_laws.specs.Replaces.{IsEven, IsFaultless}
-use Rattle.pass_laws.specs.Stays.{StaysFaultless}
+use Rattle.pass_laws.specs.Replaces.{IsEven}
 use Rattle.tech_map.specs.Techmap.{beside, stand_in, stand_ins, taken_kind, techmap_of, with_all_gates, with_gates}
 use Rattle.tech_map.proofs.Counts.{cells_below, count-permutation, count_beyond, faults_split, fewer_first, fresh_below, fresh_once, links_below, none_from, ports_below, ports_further}
 use Rattle.tech_map.proofs.Drives.{all_drive, gate_plain}
 use Rattle.tech_map.proofs.Driving.{fresh_distinct, names_apart}
 use Rattle.tech_map.proofs.Growing.{AreWhole, all_add, all_added, one_added, whole_next}
 use Rattle.tech_map.proofs.ByKind.{bits_are, mapped, taken_is}
+use Rattle.tech_map.proofs.Remembering.{accesses_kept}
 use Rattle.tech_map.proofs.Standing.{IsTakable, each_of_two, fresh, inner, lines_more, swapped, swapped_is}
 
 -- a module that a pass may be given has what this one needs
@@ -51,9 +52,8 @@ takable ports m ready =
     let fine : IsPlain m = plain ports m ready.faultless in
     record {
       processes = fine.processes;
-      memories = fine.memories;
       whole = λ c i kind own.
-          let fits = fits_kind ports c kind own (own_cells ports m ready c i) in
+          let fits = shape_of ports c kind own (own_cells ports m ready c i) in
           record { own = own; shape = fits.fit; output = fits.output; within = ready.within.cells c i };
       within = ready.within;
     }
@@ -64,11 +64,11 @@ ready_whole ports m ready = (takable ports m ready).whole
 -- what stands in the place of a cell: the cell itself, or a gate
 module _ (ports : Ports) where
   abbrev GoesOn : ℕ → Cell → Type 0
-  GoesOn n g = IsFaultless ports g × CellIn n g
+  GoesOn n g = IsSound ports g × CellIn n g
 
   gate_goes : (n : ℕ) (g : Cell) → IsWholeGate n g → GoesOn n g
   gate_goes n g gate = (
-    library_faultless ports g gate.kind gate.whole.own (gate_plain gate.kind gate.gate) gate.whole.shape gate.whole.output,
+    faultless_sound ports g (library_faultless ports g gate.kind gate.whole.own (gate_plain gate.kind gate.gate) gate.whole.shape gate.whole.output),
     gate.whole.within,
   )
 
@@ -122,9 +122,6 @@ further_faults id numbers (w ∷ ws) fs h e =
     let a : here ≡ [] = none_left here (wire_faults id (with_number numbers w) ws) e in
     let b : wire_faults id (with_number numbers w) (ws ++ fs) ≡ [] = further_faults id (with_number numbers w) ws fs h (none_right here (wire_faults id (with_number numbers w) ws) e) in
     λ i. a i ++ b i
-
-together : {a b c d f g : List Fault} → a ≡ [] → b ≡ [] → c ≡ [] → d ≡ [] → f ≡ [] → g ≡ [] → ((((a ++ b) ++ c) ++ d) ++ f) ++ g ≡ []
-together a b c d f g = λ i. ((((a i ++ b i) ++ c i) ++ d i) ++ f i) ++ g i
 
 module _ (ports : Ports) (m : Module) (ready : IsReady ports m) where
   abbrev pub fine : IsTakable m
@@ -207,8 +204,13 @@ module _ (ports : Ports) (m : Module) (ready : IsReady ports m) where
   fresh_only : (b : WireBit) → length m.wires ≤ b.wire → drive_count (drives_of ports new) b ≤ 1
   fresh_only b h = omega (arith, driven b, not_before b h, fresh_once b (length m.wires) (fresh m fine))
 
-  none : HasNoFaults cells_alone ports m
-  none = no_faults cells_alone ports m ready.faultless
+  none : HasNoFaults without_processes ports m
+  none = no_faults without_processes ports m ready.faultless
+
+  no_cells : cell_faults without_processes ports new [] new.cells ≡ []
+  no_cells =
+      none_there ports new [] new.cells (λ c i. (cells_go c i).0)
+      (accesses_stay ports m new refl [] [] (λ name. refl) new.cells (accesses_kept m.cells (building_of m) fine.whole ports m (own_accesses ports m ready)))
 
   no_bits : bits_faults m.id (drives_of ports new) 0 new.wires ≡ []
   no_bits =
@@ -219,9 +221,8 @@ module _ (ports : Ports) (m : Module) (ready : IsReady ports m) where
   swap_ready : (beside m).next ≤ 1000000000 → IsReady ports new
   swap_ready names = record {
     faultless =
-        together (further_faults m.id [] m.wires (fresh m fine) (inner m fine) none.wires) none.stores
-        (none_there ports new [] new.cells (λ c i. (cells_go c i).0))
-        (ap (process_faults cells_alone ports new []) fine.processes)
+        all_none (further_faults m.id [] m.wires (fresh m fine) (inner m fine) none.wires) none.stores no_cells
+        (ap (process_faults without_processes ports new []) fine.processes)
         (no_link_faults m.id 1 new.links links_even) no_bits;
     named =
         subst Distinct (sym (map-append (λ (w : Wire). w.name) m.wires (fresh m fine)))
@@ -231,34 +232,3 @@ module _ (ports : Ports) (m : Module) (ready : IsReady ports m) where
 
   pub techmap_ready : (beside m).next ≤ 1000000000 → IsReady ports (techmap_of m)
   techmap_ready names = subst (IsReady ports) (sym (swapped_is m fine)) (swap_ready names)
-
--- of a module without processes and memories it does not matter which of them are taken
-module _ (scope : Scope) (ports : Ports) (m : Module) (fine : IsPlain m) where
-  cell_alike : (earlier : List Cell) (c : Cell) → In c m.cells → (t : CellType) → cell_type ports c.kind_name ≡ t → faults_by_type scope m earlier c t ≡ faults_by_type cells_alone m earlier c t
-  cell_alike earlier c i (Library kind) e =
-      let here : Spot = spot m.id c.name in
-      let rest : Bool → List Fault = λ t. ((fault_if t (UnsupportedCell here) ++ shape_fault here (misfit kind c)) ++ output_faults here (Library kind) c.pins) ++ memory_faults m earlier c kind in
-      let none : is_memory_kind kind ≡ false = fine.others c i kind (own_kind ports c kind e) in
-      ap (λ t. rest (t && not scope.memories)) none ∙ sym (ap (λ t. rest (t && true)) none)
-  cell_alike earlier c i (Instance lines) e = refl
-  cell_alike earlier c i Unsupported e = refl
-  cell_alike earlier c i Unknown e = refl
-
-  cells_alike : (earlier cs : List Cell) → ((c : Cell) → In c cs → In c m.cells) → cell_faults scope ports m earlier cs ≡ cell_faults cells_alone ports m earlier cs
-  cells_alike earlier [] h = refl
-  cells_alike earlier (c ∷ cs) h =
-      λ i. cell_alike earlier c (h c (inl refl)) (cell_type ports c.kind_name) refl i ++ cells_alike (earlier ++ c ∷ []) cs (λ d j. h d (inr j)) i
-
-  pub scope_free : module_faults scope ports m ≡ module_faults cells_alone ports m
-  scope_free =
-      let stores : flat_map (store_faults scope m.id) m.memories ≡ flat_map (store_faults cells_alone m.id) m.memories = ap (flat_map (store_faults scope m.id)) fine.memories ∙ sym (ap (flat_map (store_faults cells_alone m.id)) fine.memories) in
-      let processes : process_faults scope ports m [] m.processes ≡ process_faults cells_alone ports m [] m.processes = ap (process_faults scope ports m []) fine.processes ∙ sym (ap (process_faults cells_alone ports m []) fine.processes) in
-      λ i. ((((wire_faults m.id [] m.wires ++ stores i) ++ cells_alike [] m.cells (λ c j. j) i) ++ processes i) ++ link_faults m.id 1 m.links) ++ bits_faults m.id (drives_of ports m) 0 m.wires
-
--- so a module without faults in whatever part of designs stays one
-pub techmap_faultless : (known : Ports) (m : Module) → IsReady known m → (beside m).next ≤ 1000000000 → StaysFaultless m (techmap_of m)
-techmap_faultless known m ready names scope ports e =
-    let own : IsPlain m = plain known m ready.faultless in
-    let here : IsReady ports m = record { faultless = sym (scope_free scope ports m own) ∙ e; named = ready.named; within = ready.within } in
-    let there : IsReady ports (techmap_of m) = techmap_ready ports m here names in
-    scope_free scope ports (techmap_of m) (plain ports (techmap_of m) there.faultless) ∙ there.faultless

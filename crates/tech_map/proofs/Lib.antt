@@ -4,10 +4,13 @@ pub mod ByKind
 pub mod Renaming
 pub mod Growing
 pub mod Placing
-pub mod Standing
 pub mod Drives
+pub mod Remembering
+pub mod Standing
 pub mod OldSpots
 pub mod Driving
 pub mod Counts
 pub mod Forming
+pub mod Faultless
+pub mod Gates
 pub mod Promised

@@ -1,39 +1,45 @@
--- What the rows of a module drive at its own path are bits of its wires.
+-- What the rows of a module drive at its own path are bits of its wires, and words of its memories.
 use Rattle.std.proofs.Common.{◌≡◌, ℕ, ◌<◌, zero, suc, List, [], ◌∷◌, length, Option, Some, None, inl, inr, ⊎_elim, refl, sym, ◌∙◌, ap, subst, arith}
-use Rattle.std.specs.Prelude.{slice_get}
+use Rattle.std.specs.Prelude.{slice_get, map, ◌&&◌}
+use Rattle.std.specs.List.{range_with_len}
 use Rattle.cell_types.specs.PinName.{pin_text}
 use Rattle.cell_types.specs.declared.kind.CellKind.{CellKind}
 use Rattle.cell_types.specs.declared.kind.CellKind.TheVariants.{Gate, Memory, Storage, StorageGate, Word}
-use Rattle.cell_types.specs.declared.pin_name.PinName.TheVariants.{A, B, Q, S, Y}
+use Rattle.cell_types.specs.declared.pin_name.PinName.TheVariants.{A, Addr, B, Data, Q, S, Y}
 use Rattle.cell_types.specs.declared.shape.Shape.{Shape}
 use Rattle.rtl_bits.specs.declared.bit.Bit.{Bit}
 use Rattle.rtl_sig.specs.declared.sig.SigBit.{SigBit}
 use Rattle.rtl_sig.specs.declared.sig.SigBit.TheVariants.{Fixed, Wire as OnWire}
 use Rattle.rtl_sig.specs.declared.sig.WireBit.{WireBit}
+use Rattle.rtl_ir.specs.Flat.Access.{Access, accesses_of}
 use Rattle.rtl_ir.specs.Flat.Cell.{Ports, cell_kind, cell_rows, cell_shape, cells_rows, gate_store, instance_rows, kind_rows, outputs, port_joins, stored_rows, stores, word_store, worked_rows}
 use Rattle.rtl_ir.specs.Flat.Driver.{Driven, StorePoints}
 use Rattle.rtl_ir.specs.Flat.Link.{joins, link_rows}
-use Rattle.rtl_ir.specs.Flat.Place.{Frame, Path, Place, frame}
+use Rattle.rtl_ir.specs.Flat.Memory.{addresses_of, fetched_rows, init_cells, is_read_kind, memories_rows, memory_rows, read_rows, reading_cells, word_row, word_rows}
+use Rattle.rtl_ir.specs.Flat.Place.{Frame, IsOf, OfWire, OfWord, Path, Place, frame}
 use Rattle.rtl_ir.specs.Flat.Point.{At, Constant, Point, bit_place, name_or_empty, pin_points, points, wire_points}
 use Rattle.rtl_ir.specs.Flat.Tree.{places}
 use Rattle.rtl_ir.specs.Parameters.{signal_at}
 use Rattle.rtl_ir.specs.declared.cell.Cell.{Cell}
+use Rattle.rtl_ir.specs.WritePorts.{is_of_memory}
 use Rattle.rtl_ir.specs.declared.module.Link.{Link}
 use Rattle.rtl_ir.specs.declared.ports.PortLine.{PortLine}
+use Rattle.rtl_ir.specs.declared.process.Process.{Process}
+use Rattle.rtl_ir.specs.declared.store.Store.{Store}
 use Rattle.rtl_ir.specs.declared.wire.Role.{Role}
 use Rattle.rtl_ir.specs.declared.wire.Role.TheVariants.{Inner, Input, Output, Inout}
 use Rattle.rtl_ir.specs.declared.wire.Wire.{Wire}
-use Rattle.net_model.proofs.Members.{In-cases}
+use Rattle.net_model.proofs.Members.{In-cases, In-mapped}
 use Rattle.net_model.proofs.Own.{wire_own}
-use Rattle.net_model.proofs.Ranges.{signal_in}
+use Rattle.net_model.proofs.Ranges.{each_both, each_filter, each_flat_map, signal_in}
 use Rattle.net_model.specs.Lists.{In}
 use Rattle.net_model.specs.Within.{CellIn, Each, LinkIn, SigIn}
-use Rattle.map_laws.proofs.FreshWires.{IsSpotOf, names_of}
+use Rattle.map_laws.proofs.FreshWires.{names_of, one_name}
 
 module _ (p : Path) (wires : List Wire) where
-  -- a bit is at another path, or one of these wires
+  -- a bit that is at this path and of a wire is of one of these wires
   abbrev pub IsKept : Place → Type 0
-  IsKept q = q.path ≡ p → IsSpotOf p (names_of wires) q
+  IsKept q = q.path ≡ p → (name : List ℕ) → IsOf name q.spot → In name (names_of wires)
 
   name_there : (ws : List Wire) (at : ℕ) → at < length ws → In (name_or_empty (slice_get ws at)) (names_of ws)
   name_there [] at h = absurd (omega (arith, h))
@@ -41,7 +47,8 @@ module _ (p : Path) (wires : List Wire) where
   name_there (w ∷ ws) (suc at) h = inr (name_there ws at (omega (arith, h)))
 
   bit_kept : (b : WireBit) → b.wire < length wires → IsKept (bit_place p wires b)
-  bit_kept b h e = record { path = e; name = name_or_empty (slice_get wires b.wire); there = name_there wires b.wire h; spot = (b.at, refl) }
+  bit_kept b h e name of =
+      subst (λ n. In n (names_of wires)) (one_name p (bit_place p wires b) (name_or_empty (slice_get wires b.wire)) name (b.at, refl) of) (name_there wires b.wire h)
 
   points_kept : (signal : List SigBit) → SigIn (length wires) signal → (q : Place) → In q (places (points p wires signal)) → IsKept q
   points_kept [] h q i = absurd i
@@ -94,7 +101,7 @@ module _ (p : Path) (wires : List Wire) where
 
     role_kept : (role : Role) (f : Frame) (port : PortLine) (x : Driven) → In x (port_joins role (points p wires (signal_at c.pins port.name)) (wire_points (f ∷ p) port.name 0 port.width)) → IsKept x.place
     role_kept Inner f port x i = absurd i
-    role_kept Input f port x i = λ e.
+    role_kept Input f port x i = λ e name of.
         absurd (inner_path f (sym (wire_own (f ∷ p) port.name 0 port.width x.place (joins_among (wire_points (f ∷ p) port.name 0 port.width) (points p wires (signal_at c.pins port.name)) x i)).0 ∙ e))
     role_kept Output f port x i = pin_kept port.name x.place (joins_among (points p wires (signal_at c.pins port.name)) (wire_points (f ∷ p) port.name 0 port.width) x i)
     role_kept Inout f port x i = absurd i
@@ -123,3 +130,36 @@ module _ (p : Path) (wires : List Wire) where
       (λ a. points_kept l.left (h l (inl refl)).0 x.place (joins_among (points p wires l.left) (points p wires l.right) x a))
       (λ b. links_kept ls (λ k j. h k (inr j)) x b)
       (In-cases x (joins (points p wires l.left) (points p wires l.right)) (link_rows p wires ls) i)
+
+  -- a word is no bit of a wire
+  word_kept : (s : Store) (accesses : List Access) (inits : List Cell) (address at : ℕ) → IsKept (word_row p wires s accesses inits address at).place
+  word_kept s accesses inits address at e name of = absurd (no_wire of.1)
+    where
+      no_wire : {n : List ℕ} {k : ℕ} → OfWord s.name address at ≡ OfWire n k → ⊥
+      no_wire f = absurd (cc)
+
+  -- the places of these rows
+  abbrev AreKept : List Driven → Type 0
+  AreKept rows = Each (λ (x : Driven). IsKept x.place) rows
+
+  words_kept : (s : Store) (accesses : List Access) (inits : List Cell) → AreKept (word_rows p wires s accesses inits)
+  words_kept s accesses inits =
+      each_flat_map (λ (x : Driven). IsKept x.place) (λ address. map (word_row p wires s accesses inits address) (range_with_len 0 s.width)) (addresses_of s)
+      (λ address i x j. let k = In-mapped (word_row p wires s accesses inits address) x (range_with_len 0 s.width) j in subst (λ (d : Driven). IsKept d.place) (sym k.2) (word_kept s accesses inits address k.0))
+
+  fetched_among : (s : Store) (address ds : List Point) (at : ℕ) (x : Driven) → In x (fetched_rows p s address ds at) → In x.place (places ds)
+  fetched_among s address [] at x i = absurd i
+  fetched_among s address (At q ∷ ds) at x (inl e) = inl (ap (λ (d : Driven). d.place) e)
+  fetched_among s address (At q ∷ ds) at x (inr i) = inr (fetched_among s address ds (suc at) x i)
+  fetched_among s address (Constant b ∷ ds) at x i = fetched_among s address ds (suc at) x i
+
+  read_kept : (s : Store) (c : Cell) → CellIn (length wires) c → AreKept (read_rows p wires s c)
+  read_kept s c within x i =
+      points_kept (signal_at c.pins (pin_text Data)) (signal_in (length wires) c.pins (pin_text Data) within) x.place
+      (fetched_among s (points p wires (signal_at c.pins (pin_text Addr))) (points p wires (signal_at c.pins (pin_text Data))) 0 x i)
+
+  pub memories_kept : (cells : List Cell) (processes : List Process) → Each (CellIn (length wires)) cells → (stores : List Store) → AreKept (memories_rows p wires cells processes stores)
+  memories_kept cells processes h stores =
+      each_flat_map (λ (x : Driven). IsKept x.place) (memory_rows p wires cells processes) stores
+      (λ s i. each_both (λ (x : Driven). IsKept x.place) _ _ (words_kept s (accesses_of s.name cells processes) (init_cells s.name cells))
+      (each_flat_map (λ (x : Driven). IsKept x.place) (read_rows p wires s) (reading_cells s.name cells) (λ c j. read_kept s c (each_filter (CellIn (length wires)) (λ (d : Cell). is_read_kind (cell_kind d) && is_of_memory s.name d) cells h c j))))

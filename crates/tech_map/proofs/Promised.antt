@@ -10,11 +10,16 @@ use Rattle.rtl_ir.specs.declared.ports.PortTable.{PortTable}
 use Rattle.net_model.specs.Refine.{IsWellDriven, RefinesIn}
 use Rattle.net_index.specs.Builder.{IsInLimits}
 use Rattle.net_index.specs.declared.builder_fault.PassFault.{PassFault}
+use Rattle.net_model.specs.Within.{Each}
 use Rattle.pass_laws.specs.Ready.{IsReady}
+use Rattle.pass_laws.specs.Replaces.{IsOutside}
 use Rattle.pass_laws.specs.Stays.{StaysFaultless}
+use Rattle.tech_map.specs.Gates.{HasGatesAlone}
 use Rattle.tech_map.specs.Techmap.{beside, techmap_of}
 use Rattle.tech_map.proofs.Driving.{techmap_driven}
-use Rattle.tech_map.proofs.Forming.{takable, techmap_faultless, techmap_ready}
+use Rattle.tech_map.proofs.Faultless.{techmap_faultless}
+use Rattle.tech_map.proofs.Gates.{techmap_gates}
+use Rattle.tech_map.proofs.Forming.{takable, techmap_ready}
 use Rattle.tech_map.proofs.Standing.{IsTakable, swapped_children, swapped_is, swapped_ports, techmap_refines}
 
 -- of what is answered, where it is what the pass defines
@@ -41,6 +46,9 @@ module _ (m : Module) (r : Result Module PassFault) (is : IfOk r (λ after. afte
 
     pub stays_faultless : IfOk r (StaysFaultless m)
     stays_faultless = so (StaysFaultless m) (λ limits. techmap_faultless (table_ports table.modules) m ready limits.names)
+
+    pub gates : IfOk r (λ after. Each IsOutside m.cells → HasGatesAlone after)
+    gates = so (λ after. Each IsOutside m.cells → HasGatesAlone after) (λ limits. techmap_gates m fine.whole)
 
     pub same_id : IfOk r (λ after. after.id ≡ m.id)
     same_id = so (λ after. after.id ≡ m.id) (λ limits. ap (λ n. n.id) (swapped_is m fine))

@@ -7,6 +7,7 @@ use Rattle.rtl_ir.specs.Build.{Building, building_of}
 use Rattle.rtl_ir.specs.Flat.Cell.{Ports, cell_kind, cell_rows, cells_rows, instances}
 use Rattle.rtl_ir.specs.Flat.Driver.{Driven}
 use Rattle.rtl_ir.specs.Flat.Link.{link_rows}
+use Rattle.rtl_ir.specs.Flat.Memory.{memories_rows}
 use Rattle.rtl_ir.specs.Flat.Place.{Path, Place}
 use Rattle.rtl_ir.specs.Flat.Rows.{rows_of}
 use Rattle.rtl_ir.specs.Flat.Start.{start_of}
@@ -31,6 +32,7 @@ use Rattle.pass_laws.proofs.Rewriting.{links-append, rows_are}
 use Rattle.tech_map.specs.Techmap.{stand_in, stand_ins, taken_kind, techmap_of, with_gates}
 use Rattle.tech_map.proofs.Growing.{AreWhole, all_add, all_added, one_added, whole_next}
 use Rattle.tech_map.proofs.ByKind.{mapped, taken_is}
+use Rattle.tech_map.proofs.Remembering.{memories_kept}
 
 -- each of these wires and of those
 pub each_of_two : {A : Type 0} (P : A → Type 0) (xs ys : List A) → Each P xs → Each P ys → Each P (xs ++ ys)
@@ -102,7 +104,6 @@ bare_inner ws bare w i = ap (λ (v : Wire). v.role) (bare w i)
 -- what the pass needs of a module
 pub record IsTakable (m : Module) : Type 0 where
   pub processes : m.processes ≡ []
-  pub memories : m.memories ≡ []
   pub whole : AreWhole m.cells (building_of m)
   pub within : IsWithin m
 
@@ -145,24 +146,31 @@ module _ (m : Module) (fine : IsTakable m) where
     abbrev of_links : List Link → List Driven
     of_links ls = link_rows p grown.wires ls
 
-    pub old_rows : rows_of ports p m ≡ of_cells m.cells ++ of_links m.links
-    old_rows = sym (rows_more ports p m fresh fine.within) ∙ rows_are ports p grown fine.processes fine.memories
+    -- the rows of the memories, which stay
+    abbrev pub of_memories : List Driven
+    of_memories = memories_rows p grown.wires m.cells m.processes m.memories
 
-    pub new_rows : rows_of ports p swapped ≡ of_cells cells_after ++ (of_links m.links ++ of_links lines_more)
-    new_rows = rows_are ports p swapped fine.processes fine.memories ∙ ap (λ z. of_cells cells_after ++ z) (links-append p grown.wires m.links lines_more)
+    pub old_rows : rows_of ports p m ≡ of_cells m.cells ++ (of_links m.links ++ of_memories)
+    old_rows = sym (rows_more ports p m fresh fine.within) ∙ rows_are ports p grown fine.processes
+
+    pub new_rows : rows_of ports p swapped ≡ of_cells cells_after ++ ((of_links m.links ++ of_links lines_more) ++ of_memories)
+    new_rows =
+        rows_are ports p swapped fine.processes
+        ∙ (λ i. of_cells cells_after ++ (links-append p grown.wires m.links lines_more i ++ memories_kept m.cells (building_of m) fine.whole p grown.wires m.processes m.memories i))
 
     abbrev new : List Driven
-    new = of_cells cells_after ++ (of_links m.links ++ of_links lines_more)
+    new = of_cells cells_after ++ ((of_links m.links ++ of_links lines_more) ++ of_memories)
 
-    rows_met : (t : Time Place) (w : Valuation) → Solved new t w → SolvedBefore new t → (d : Driven) → In d (of_cells m.cells ++ of_links m.links) → IsMet d t w
+    rows_met : (t : Time Place) (w : Valuation) → Solved new t w → SolvedBefore new t → (d : Driven) → In d (of_cells m.cells ++ (of_links m.links ++ of_memories)) → IsMet d t w
     rows_met t w s before d i =
-        let cells : Within (of_cells cells_after) new = λ x j. In-left x (of_cells cells_after) (of_links m.links ++ of_links lines_more) j in
-        let old : Within (of_links m.links) new = λ x j. In-right x (of_cells cells_after) (of_links m.links ++ of_links lines_more) (In-left x (of_links m.links) (of_links lines_more) j) in
-        let more : Within (of_links lines_more) new = λ x j. In-right x (of_cells cells_after) (of_links m.links ++ of_links lines_more) (In-right x (of_links m.links) (of_links lines_more) j) in
+        let links : List Driven = of_links m.links ++ of_links lines_more in
+        let cells : Within (of_cells cells_after) new = λ x j. In-left x (of_cells cells_after) (links ++ of_memories) j in
+        let all_links : Within links new = λ x j. In-right x (of_cells cells_after) (links ++ of_memories) (In-left x links of_memories j) in
+        let more : Within (of_links lines_more) new = λ x j. all_links x (In-right x (of_links m.links) (of_links lines_more) j) in
         ⊎_elim
         (λ l. met ports start grown.wires p new t w s before m.cells (building_of m) fine.whole cells more d l)
-        (λ r. s.met d (old d r))
-        (In-cases d (of_cells m.cells) (of_links m.links) i)
+        (λ r. s.met d (⊎_elim (λ k. all_links d (In-left d (of_links m.links) (of_links lines_more) k)) (λ k. In-right d (of_cells cells_after) (links ++ of_memories) (In-right d links of_memories k)) (In-cases d (of_links m.links) of_memories r)))
+        (In-cases d (of_cells m.cells) (of_links m.links ++ of_memories) i)
 
   swap_refines : (ports : Ports) → RefinesOver m swapped ports
   swap_refines ports = lifted m swapped ports (record {

@@ -1,2 +1,3 @@
 pub mod Techmap
 pub mod InPlace
+pub mod Gates

@@ -3,9 +3,9 @@ use Rattle.std.specs.Prelude.{Bool, true, false, List, [], ◌∷◌, ◌++◌, 
 use Rattle.cell_types.specs.declared.kind.CellKind.{CellKind}
 use Rattle.cell_types.specs.declared.kind.CellKind.TheVariants.{Storage, Word}
 use Rattle.cell_types.specs.declared.shape.Shape.{Shape}
-use Rattle.cell_types.specs.declared.word.BitwiseKind.TheVariants.{And, Or, Xor}
-use Rattle.cell_types.specs.declared.word.UnaryKind.TheVariants.{Not, Neg}
-use Rattle.cell_types.specs.declared.word.WordKind.TheVariants.{Unary, Bitwise, Order, Arith}
+use Rattle.cell_types.specs.declared.word.ArithKind.TheVariants.{Mul}
+use Rattle.cell_types.specs.declared.word.UnaryKind.TheVariants.{Neg}
+use Rattle.cell_types.specs.declared.word.WordKind.TheVariants.{Unary, Order, Arith, Division, Shift}
 use Rattle.rtl_ir.specs.Build.{Building, building_of}
 use Rattle.rtl_ir.specs.Flat.Cell.{cell_kind, cell_shape}
 use Rattle.rtl_ir.specs.declared.cell.Cell.{Cell}
@@ -14,14 +14,14 @@ use Rattle.net_index.specs.Builder.{PassesLimit}
 use Rattle.map_add.specs.Expand as adds
 use Rattle.map_flop.specs.Expand as flops
 use Rattle.map_gates.specs.Expand as gates
+use Rattle.map_mul.specs.Expand as products
+use Rattle.map_shift.specs.Expand as shifts
 use Rattle.map_laws.specs.Expansion.{cells_added}
 
--- cells of these kinds become gates
+-- word cells and storage cells become gates
 abbrev pub is_taken : CellKind → Bool
-is_taken (Word (Unary Not)) = true
-is_taken (Word (Bitwise And)) = true
-is_taken (Word (Bitwise Or)) = true
-is_taken (Word (Bitwise Xor)) = true
+is_taken (Word kind) = true
+is_taken (Storage kind) = true
 is_taken kind = false
 
 -- the kind, where it is one of them
@@ -36,8 +36,11 @@ taken_kind c = if_taken (cell_kind c)
 -- what the map of a kind adds for a cell of this shape
 abbrev pub expansion_of : CellKind → Shape → Cell → Building → Building
 expansion_of (Word (Unary Neg)) shape c = adds.map_of shape c
+expansion_of (Word (Arith Mul)) shape c = products.map_of shape c
 expansion_of (Word (Arith kind)) shape c = adds.map_of shape c
 expansion_of (Word (Order kind)) shape c = adds.map_of shape c
+expansion_of (Word (Division kind)) shape c = products.map_of shape c
+expansion_of (Word (Shift kind)) shape c = shifts.map_of shape c
 expansion_of (Storage kind) shape c = flops.map_of shape c
 expansion_of kind shape c = gates.map_of shape c
 

@@ -5,7 +5,7 @@ ghost use Rattle.rtl_ir.specs.Flat.Cell.{cell_shape};
 ghost use Rattle.net_index.specs.Builder.{IsInLimits, PassesLimit};
 ghost use Rattle.tech_map.specs.Techmap.{expand_by_kind};
 
-use cell_types::{CellKind, Shape, UnaryKind, WordKind};
+use cell_types::{ArithKind, CellKind, Shape, UnaryKind, WordKind};
 use net_index::{Builder, PassFault, cell_shape};
 use rtl_bits::Memory;
 use rtl_ir::Cell;
@@ -28,9 +28,13 @@ pub(crate) fn expand_by_kind(
         CellKind::Word(WordKind::Unary(UnaryKind::Neg)) => {
             map_add::expand(alloc, cell, &shape, builder)
         }
+        CellKind::Word(WordKind::Arith(ArithKind::Mul) | WordKind::Division(_)) => {
+            map_mul::expand(alloc, cell, &shape, builder)
+        }
         CellKind::Word(WordKind::Arith(_) | WordKind::Order(_)) => {
             map_add::expand(alloc, cell, &shape, builder)
         }
+        CellKind::Word(WordKind::Shift(_)) => map_shift::expand(alloc, cell, &shape, builder),
         CellKind::Storage(_) => map_flop::expand(alloc, cell, &shape, builder),
         _ => map_gates::expand(alloc, cell, &shape, builder),
     }

@@ -14,8 +14,10 @@ ghost use Rattle.net_index.specs.Builder.{IsInLimits, PassesLimit};
 ghost use Rattle.net_model.specs.Refine.{IsWellDriven, RefinesIn};
 ghost use Rattle.net_model.specs.Within.{Each};
 ghost use Rattle.pass_laws.specs.Ready.{IsReady};
+ghost use Rattle.pass_laws.specs.Replaces.{IsOutside};
 ghost use Rattle.pass_laws.specs.Stays.{StaysFaultless};
 ghost use Rattle.map_laws.specs.Expansion.{IsWholeCell};
+ghost use Rattle.tech_map.specs.Gates.{HasGatesAlone};
 ghost use Rattle.tech_map.specs.InPlace.{count_of, counts_of};
 ghost use Rattle.tech_map.specs.Techmap.{TechmapPassesLimit, beside, taken_kind, techmap_of, with_all_gates, with_gates};
 
@@ -39,6 +41,8 @@ pub fn apply(alloc: Global, module: &Module, ports: &PortTable) -> Result<Module
     ensures well_driven { IfOk result (λ after. (ports : Ports) → IsWellDriven ports «module».now → IsWellDriven ports after) }
     ensures well_formed { IfOk result (IsReady (table_ports ports.now.modules)) }
     ensures faultless { IfOk result (StaysFaultless «module».now) }
+    // Where no cell is one of a memory, the answer has gates and instances alone.
+    ensures gates { IfOk result (λ after. Each IsOutside «module».now.cells → HasGatesAlone after) }
     ensures same_id { IfOk result (λ after. after.id ≡ «module».now.id) }
     ensures same_ports { IfOk result (λ after. ports_of after.wires ≡ ports_of «module».now.wires) }
     ensures same_instances { IfOk result (λ after. instances after.cells ≡ instances «module».now.cells) }

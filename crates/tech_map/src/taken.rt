@@ -3,20 +3,14 @@
 ghost use Rattle.std.specs.Prelude.{◌≡◌};
 ghost use Rattle.tech_map.specs.Techmap.{is_taken, taken_kind};
 
-use cell_types::{BitwiseKind, CellKind, UnaryKind, WordKind, kind_of};
+use cell_types::{CellKind, kind_of};
 use rtl_ir::Cell;
 
 /// Whether cells of this kind become gates.
 pub(crate) fn is_taken(kind: CellKind) -> bool
     ensures value { result ≡ is_taken kind }
 {
-    matches!(
-        kind,
-        CellKind::Word(WordKind::Unary(UnaryKind::Not))
-            | CellKind::Word(WordKind::Bitwise(
-                BitwiseKind::And | BitwiseKind::Or | BitwiseKind::Xor
-            ))
-    )
+    matches!(kind, CellKind::Word(_) | CellKind::Storage(_))
 }
 
 /// The kind of a cell that becomes gates.

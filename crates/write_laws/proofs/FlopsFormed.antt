@@ -1,6 +1,6 @@
 -- The module with flip-flops and latches in the place of rules, without what rules write: it has no fault, and no bit gets a
 -- second driver.
-use Rattle.std.proofs.Common.{◌≡◌, ◌≤◌, ℕ, ◌+◌, Bool, true, false, List, [], ◌∷◌, ◌++◌, length, inl, inr, refl, sym, ◌∙◌, ap, subst, append-nil, arith}
+use Rattle.std.proofs.Common.{◌≡◌, ◌≤◌, ℕ, ◌+◌, Bool, false, List, [], ◌∷◌, ◌++◌, length, inl, inr, refl, sym, ◌∙◌, ap, subst, append-nil, arith}
 use Rattle.std.specs.Prelude.{◌||◌, flat_map, map}
 use Rattle.std.specs.List.{list_any}
 use Rattle.std.proofs.lemmas.Bool.{or_parts}
@@ -12,6 +12,7 @@ use Rattle.rtl_ir.specs.Build.{building_of}
 use Rattle.rtl_ir.specs.Faults.Links.{is_uneven}
 use Rattle.rtl_ir.specs.Faults.ProcessLimits.{memory_lines, passes_limit, switches_pass, switches_uneven, update_lines}
 use Rattle.rtl_ir.specs.Flat.Cell.{Ports as FlatPorts, instance_of, instances, listed}
+use Rattle.rtl_ir.specs.Scope.{with_processes}
 use Rattle.rtl_ir.specs.Signals.{has_constant}
 use Rattle.rtl_ir.specs.Types.{Ports, cell_type}
 use Rattle.rtl_ir.specs.WritePorts.{EventLine}
@@ -37,8 +38,8 @@ use Rattle.proc_laws.proofs.CountingRules.{driven_checked}
 use Rattle.proc_laws.proofs.RebuildDriven.{instances_stay, still_driven}
 use Rattle.proc_laws.proofs.RebuildFaults.{still_ready}
 use Rattle.proc_laws.proofs.RebuildProcesses.{IsGoodProcess, each_good, none_bad}
-use Rattle.proc_laws.specs.Ready.{IsReady, with_processes}
-use Rattle.proc_laws.specs.Rebuilds.{KeepsEnds, Rebuilds, checked_bits, driven_bits, rebuilt}
+use Rattle.proc_laws.specs.Ready.{IsReady}
+use Rattle.proc_laws.specs.Rebuilds.{Rebuilds, checked_bits, driven_bits, rebuilt}
 use Rattle.sync_laws.specs.Kinds.{HaveNoAlways, HaveNoTwoEdges}
 use Rattle.sync_laws.proofs.GoodRules.{all_whole, rule_bits, without_rules}
 use Rattle.sync_laws.proofs.Parts.{Part, all_parts, cells_from, named}
@@ -108,7 +109,7 @@ rules_driven x (p ∷ ps) =
     let e = count_more x (tree_bits p.root) (rule_bits p) in
     omega (arith, a, b, c, d, e, rules_driven x ps)
 
-module _ (ports : Ports) (m : Module) (memories : Bool) (ready : IsReady (with_processes memories) ports m) (acts : HaveNoAlways m) (edges : HaveNoTwoEdges m) where
+module _ (ports : Ports) (m : Module) (ready : IsReady with_processes ports m) (acts : HaveNoAlways m) (edges : HaveNoTwoEdges m) where
   abbrev pub changed : List Process
   changed = map without_rules m.processes
 
@@ -119,7 +120,7 @@ module _ (ports : Ports) (m : Module) (memories : Bool) (ready : IsReady (with_p
   same_wires = sym (append-nil m.wires)
 
   whole : AreWhole (length m.wires) (all_parts m) (flat_map rule_bits m.processes)
-  whole = all_whole ports m memories ready acts edges
+  whole = all_whole ports m ready acts edges
 
   -- the bits that are driven
   drives : (f : Process → List WireBit) → ((x : WireBit) → count x (flat_map rule_bits m.processes) + count x (flat_map f (map without_rules m.processes)) ≤ count x (flat_map f m.processes)) → (x : WireBit) → count x (cells_bits ports new ++ ([] ++ flat_map f changed)) ≤ count x (flat_map f m.processes)
@@ -139,10 +140,10 @@ module _ (ports : Ports) (m : Module) (memories : Bool) (ready : IsReady (with_p
         let is : IsStorePart (length m.wires) q = whole.whole q i in
         library_faultless ports (named q k) (Storage is.kind) (is.whole k).own refl (is.whole k).shape (is.whole k).output);
     links = each_none IsEven;
-    processes = none_bad true ports (rebuilt [] new [] changed m) [] changed
+    processes = none_bad ports (rebuilt [] new [] changed m) [] changed
         (λ before q i.
         let f = In-mapped without_rules q m.processes i in
-        let good = each_good memories ports m [] m.processes (no_faults (with_processes memories) ports m ready.faultless).processes f.0 f.1 in
+        let good = each_good ports m [] m.processes (no_faults with_processes ports m ready.faultless).processes f.0 f.1 in
         subst (IsGoodProcess ports (rebuilt [] new [] changed m) before) (sym f.2) (still_good ports m (rebuilt [] new [] changed m) good.0 before f.0 good.1));
     cells_within = subst (λ ws. Each (CellIn (length ws)) new) same_wires
         (cells_each (length m.wires) (CellIn (length m.wires)) (building_of m).next (all_parts m) (λ q i k. ((whole.whole q i).whole k).within));
@@ -159,8 +160,5 @@ module _ (ports : Ports) (m : Module) (memories : Bool) (ready : IsReady (with_p
   pub flops_instances : instances m.cells ≡ instances (m.cells ++ new)
   flops_instances = instances_stay ports m [] new [] changed rebuilds
 
-  keeps : KeepsEnds m.links (m.links ++ [])
-  keeps = subst (KeepsEnds m.links) (sym (append-nil m.links)) (λ a b e. e)
-
-  pub flops_ready : IsReady (with_processes memories) ports (rebuilt [] new [] changed m)
-  flops_ready = still_ready ports m [] new [] changed memories ready rebuilds (λ e. keeps)
+  pub flops_ready : IsReady with_processes ports (rebuilt [] new [] changed m)
+  flops_ready = still_ready ports m [] new [] changed ready rebuilds

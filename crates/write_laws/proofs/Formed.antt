@@ -1,19 +1,16 @@
 -- The module that the step gives may be given on.
-use Rattle.std.proofs.Common.{◌≡◌, ◌≤◌, ℕ, ◌+◌, Bool, true, false, List, [], ◌∷◌, ◌++◌, length, Some, inl, inr, refl, sym, ◌∙◌, ap, subst, arith, append-nil, append_assoc}
-use Rattle.std.specs.Prelude.{codes, flat_map, map}
+use Rattle.std.proofs.Common.{◌≡◌, ◌≤◌, ℕ, ◌+◌, List, [], ◌∷◌, ◌++◌, length, inl, inr, refl, sym, ◌∙◌, ap, subst, arith, append-nil, append_assoc}
+use Rattle.std.specs.Prelude.{codes, map}
 use Rattle.cell_types.specs.declared.kind.CellKind.TheVariants as Cells
 use Rattle.cell_types.specs.declared.memory.MemoryKind.TheVariants.{MemwrV2}
 use Rattle.rtl_sig.specs.declared.sig.WireBit.{WireBit}
 use Rattle.rtl_ir.specs.Build.{building_of, pin_of}
 use Rattle.rtl_ir.specs.Drivers.{drive_count, drives_of}
 use Rattle.rtl_ir.specs.Faults.Cells.{cell_faults, faults_by_type}
-use Rattle.rtl_ir.specs.Faults.MemoryCells.{store_named}
 use Rattle.rtl_ir.specs.Faults.Processes.{process_faults}
-use Rattle.rtl_ir.specs.Faults.Stores.{store_faults}
 use Rattle.rtl_ir.specs.Flat.Access.{write_trigger}
-use Rattle.rtl_ir.specs.Scope.{Scope}
+use Rattle.rtl_ir.specs.Scope.{Scope, with_processes}
 use Rattle.rtl_ir.specs.Types.{CellType, Instance, Library, Ports, Unknown, Unsupported, cell_type, table_ports}
-use Rattle.rtl_ir.specs.WritePorts.{EventLine}
 use Rattle.rtl_ir.specs.declared.cell.Cell.{Cell}
 use Rattle.rtl_ir.specs.declared.cell.Pin.{Pin}
 use Rattle.rtl_ir.specs.declared.module.Module.{Module}
@@ -22,7 +19,6 @@ use Rattle.rtl_ir.specs.declared.process.Event.{Event}
 use Rattle.rtl_ir.specs.declared.process.Process.{Process}
 use Rattle.rtl_ir.specs.declared.process.SyncRule.{SyncRule}
 use Rattle.rtl_ir.specs.declared.process.WriteLine.{WriteLine}
-use Rattle.rtl_ir.specs.declared.store.Store.{Store}
 use Rattle.net_model.proofs.Members.{In-mapped}
 use Rattle.net_model.proofs.Ranges.{each_both, each_more, each_none}
 use Rattle.net_model.specs.Proc.Sync.{Numbered, line_number, proc_sync_of}
@@ -35,14 +31,14 @@ use Rattle.pass_laws.specs.Bits.{cells_bits, pin_bits}
 use Rattle.pass_laws.specs.Replaces.{IsEven}
 use Rattle.proc_laws.proofs.RebuildFaults.{drives_count}
 use Rattle.proc_laws.proofs.RebuildProcesses.{IsGoodProcess, each_good, none_bad}
-use Rattle.proc_laws.specs.Ready.{IsReady, with_processes}
+use Rattle.proc_laws.specs.Ready.{IsReady}
 use Rattle.proc_laws.specs.Step.{StaysReady}
 use Rattle.sync_laws.specs.Kinds.{HaveNoAlways, HaveNoTwoEdges}
 use Rattle.sync_laws.proofs.GoodRules.{all_whole, without_rules}
 use Rattle.sync_laws.proofs.Parts.{Part, all_parts, cells_from, named}
 use Rattle.write_laws.specs.Lines.{WritesHaveBits}
 use Rattle.write_laws.proofs.FlopsFormed.{flops_ready, still_good}
-use Rattle.write_laws.proofs.GoodLines.{IsGoodLine, none_numbered, rules_good}
+use Rattle.write_laws.proofs.GoodLines.{none_numbered, rules_good}
 use Rattle.write_laws.proofs.NewFaults.{cells_split, rules_none, stand_plain}
 use Rattle.write_laws.proofs.Refined.{cells_plain}
 use Rattle.write_laws.proofs.Sound.{IsSound, all_sound}
@@ -84,12 +80,6 @@ module _ (m : Module) (count : ℕ) where
       subst (Each (CellIn count)) (sym (cells_both k here (written_parts m later rules)))
       (each_both (CellIn count) (cells_from k here) (cells_from (k + length here) (written_parts m later rules)) (lines_in r.event [] before r.writes k (sound r (inl refl))) (rules_in later rules (k + length here) (λ x j. sound x (inr j))))
 
--- where there is a memory, memories are taken
-taken_of : (t : Bool) (id : List ℕ) (stores : List Store) (name : List ℕ) (s : Store) → flat_map (store_faults (with_processes t) id) stores ≡ [] → store_named stores name ≡ Some s → t ≡ true
-taken_of true id stores name s e f = refl
-taken_of false id [] name s e f = absurd (cc)
-taken_of false id (x ∷ stores) name s e f = absurd (cc)
-
 -- faults of cells ask for a module's memories and connections alone
 module _ (scope : Scope) (ports : Ports) (m : Module) (cells cells' : List Cell) (ps ps' : List Process) where
   type_alike : (earlier : List Cell) (c : Cell) (t : CellType) → faults_by_type scope (record m { cells = cells; processes = ps }) earlier c t ≡ faults_by_type scope (record m { cells = cells'; processes = ps' }) earlier c t
@@ -107,42 +97,39 @@ module _ (scope : Scope) (ports : Ports) (m : Module) (cells cells' : List Cell)
   faults_alike earlier (c ∷ cs) =
       λ i. type_alike earlier c (cell_type ports c.kind_name) i ++ faults_alike (earlier ++ c ∷ []) cs i
 
-module _ (memories : Bool) (ports : Ports) (m : Module) (ready : IsReady (with_processes memories) ports m) (acts : HaveNoAlways m) (edges : HaveNoTwoEdges m) (bits : WritesHaveBits m) where
+module _ (ports : Ports) (m : Module) (ready : IsReady with_processes ports m) (acts : HaveNoAlways m) (edges : HaveNoTwoEdges m) (bits : WritesHaveBits m) where
   abbrev scope : Scope
-  scope = with_processes memories
+  scope = with_processes
 
   abbrev plain : List Cell
   plain = m.cells ++ flops m
 
-  mine : HasNoFaults (with_processes memories) ports m
-  mine = no_faults (with_processes memories) ports m ready.faultless
+  mine : HasNoFaults with_processes ports m
+  mine = no_faults with_processes ports m ready.faultless
 
-  bare_ready : IsReady (with_processes memories) ports (bare m)
+  bare_ready : IsReady with_processes ports (bare m)
   bare_ready =
-      subst (IsReady (with_processes memories) ports) (bare_is m) (flops_ready ports m memories ready acts edges)
+      subst (IsReady with_processes ports) (bare_is m) (flops_ready ports m ready acts edges)
 
-  none : HasNoFaults (with_processes memories) ports (bare m)
-  none = no_faults (with_processes memories) ports (bare m) bare_ready.faultless
+  none : HasNoFaults with_processes ports (bare m)
+  none = no_faults with_processes ports (bare m) bare_ready.faultless
 
   sound : Each (λ (r : SyncRule). Each (IsSound (length m.wires) r.event) r.writes) (module_rules m)
-  sound = all_sound memories ports m ready bits
+  sound = all_sound ports m ready bits
 
-  taken : (checked : List EventLine) (l : EventLine) → IsGoodLine m checked l → memories ≡ true
-  taken checked l good = taken_of memories m.id m.memories l.line.memory good.store mine.stores good.there
-
-  cells : cell_faults (with_processes memories) ports (whole m) [] (m.cells ++ (flops m ++ ports_made m)) ≡ []
+  cells : cell_faults with_processes ports (whole m) [] (m.cells ++ (flops m ++ ports_made m)) ≡ []
   cells =
       ap (cell_faults scope ports (whole m) []) (sym (append_assoc m.cells (flops m) (ports_made m)))
-      ∙ cells_split memories ports m (whole m) refl refl taken [] plain (ports_made m)
+      ∙ cells_split ports m (whole m) refl refl [] plain (ports_made m)
       ∙ (λ i. (faults_alike scope ports m (m.cells ++ (flops m ++ ports_made m)) (m.cells ++ flops m) (map without_rules m.processes) (map without_rules m.processes) [] plain ∙ none.cells) i
-      ++ rules_none memories ports m (whole m) refl refl taken (length m.wires) [] [] plain (module_rules m) ((building_of m).next + length (all_parts m)) (none_numbered m) (rules_good m memories ports mine.processes) sound (stand_plain m (flops m) (cells_plain (length m.wires) (building_of m).next (all_parts m) (all_whole ports m memories ready acts edges).whole)) i)
+      ++ rules_none ports m (whole m) refl refl (length m.wires) [] [] plain (module_rules m) ((building_of m).next + length (all_parts m)) (none_numbered m) (rules_good m ports mine.processes) sound (stand_plain m (flops m) (cells_plain (length m.wires) (building_of m).next (all_parts m) (all_whole ports m ready acts edges).whole)) i)
 
-  processes : process_faults (with_processes memories) ports (whole m) [] (map without_rules m.processes) ≡ []
+  processes : process_faults with_processes ports (whole m) [] (map without_rules m.processes) ≡ []
   processes =
-      none_bad memories ports (whole m) [] (map without_rules m.processes)
+      none_bad ports (whole m) [] (map without_rules m.processes)
       (λ before q i.
       let f = In-mapped without_rules q m.processes i in
-      let good = each_good memories ports m [] m.processes mine.processes f.0 f.1 in
+      let good = each_good ports m [] m.processes mine.processes f.0 f.1 in
       subst (IsGoodProcess ports (whole m) before) (sym f.2) (still_good ports m (whole m) good.0 before f.0 good.1))
 
   even : Each IsEven m.links
@@ -164,16 +151,16 @@ module _ (memories : Bool) (ports : Ports) (m : Module) (ready : IsReady (with_p
       subst (Each (CellIn (length m.wires))) (append_assoc m.cells (flops m) (ports_made m))
       (each_both (CellIn (length m.wires)) plain (ports_made m) bare_ready.within.cells (rules_in m (length m.wires) [] (module_rules m) ((building_of m).next + length (all_parts m)) sound))
 
-  whole_ready : IsReady (with_processes memories) ports (whole m)
+  whole_ready : IsReady with_processes ports (whole m)
   whole_ready = record {
     faultless = all_none none.wires none.stores cells processes none.links (fewer_faults m.id (drives_of ports (bare m)) (drives_of ports (whole m)) fewer 0 m.wires none.bits);
     named = bare_ready.named;
     within = record { cells = cells_in; links = bare_ready.within.links; processes = bare_ready.within.processes };
   }
 
-  pub sync_ready : IsReady (with_processes memories) ports (proc_sync_of m)
-  sync_ready = subst (IsReady (with_processes memories) ports) (sym (sync_is m)) whole_ready
+  pub sync_ready : IsReady with_processes ports (proc_sync_of m)
+  sync_ready = subst (IsReady with_processes ports) (sym (sync_is m)) whole_ready
 
 pub stays_ready : (table : PortTable) (m : Module) → HaveNoAlways m → HaveNoTwoEdges m → WritesHaveBits m → StaysReady table m (proc_sync_of m)
-stays_ready table m acts edges bits memories ready =
-    sync_ready memories (table_ports table.modules) m ready acts edges bits
+stays_ready table m acts edges bits ready =
+    sync_ready (table_ports table.modules) m ready acts edges bits

@@ -1,5 +1,4 @@
--- What the lines that write have in a module without faults: a memory of their width, a number that a port may have, and the
--- clock of the ports before.
+-- What the lines that write have in a module without faults: a memory of their width, and a number that a port may have.
 use Rattle.std.proofs.Common.{◌≡◌, ◌≤◌, ℕ, ◌+◌, Bool, true, false, List, [], ◌∷◌, ◌++◌, length, Option, Some, None, if◌then◌else◌, refl, sym, ◌∙◌, ap, subst, arith, append_assoc, append-nil}
 use Rattle.std.specs.Prelude.{◌||◌, ◌==◌, count_by, filter, find, flat_map, map, max, nat_lt, not}
 use Rattle.std.specs.Option.{option_map_or}
@@ -11,8 +10,9 @@ use Rattle.rtl_ir.specs.Fault.{Fault}
 use Rattle.rtl_ir.specs.Faults.MemoryCells.{store_named}
 use Rattle.rtl_ir.specs.Faults.Processes.{faults_of_process, has_bad_line, is_bad_line, is_bad_write_in, process_faults}
 use Rattle.rtl_ir.specs.Flat.Access.{cell_access, cell_accesses, next_number}
+use Rattle.rtl_ir.specs.Scope.{with_processes}
 use Rattle.rtl_ir.specs.Types.{Ports}
-use Rattle.rtl_ir.specs.WritePorts.{EventLine, cell_port, cell_ports, clashes, clockings_of, event_clocking, lines_of, next_port, write_lines}
+use Rattle.rtl_ir.specs.WritePorts.{EventLine, cell_port, cell_ports, lines_of, next_port, write_lines}
 use Rattle.rtl_ir.specs.declared.cell.Cell.{Cell}
 use Rattle.rtl_ir.specs.declared.module.Link.{Link}
 use Rattle.rtl_ir.specs.declared.module.Module.{Module}
@@ -23,7 +23,6 @@ use Rattle.rtl_ir.specs.declared.store.Store.{Store}
 use Rattle.net_model.specs.Proc.Sync.{Numbered, line_number}
 use Rattle.pass_laws.proofs.Faultless.{none_left, none_right}
 use Rattle.proc_laws.proofs.RebuildProcesses.{good_of}
-use Rattle.proc_laws.specs.Ready.{with_processes}
 use Rattle.write_laws.proofs.Lines.{AreSmall, RulesSmall, count_more, count_same, other_text, ports_among}
 use Rattle.write_laws.proofs.Order.{next_ordered}
 use Rattle.write_laws.proofs.Ports.{is_port_of}
@@ -54,8 +53,6 @@ module _ (m : Module) where
     pub width : (length l.line.value == store.width) ≡ true
     pub address : nat_lt 32 (length l.line.address) ≡ false
     pub few : nat_lt 65535 (next_port (cell_ports m.links store.name m.cells) + length (lines_of store.name before)) ≡ false
-    pub agrees :
-        clashes (event_clocking m.links l.event) (clockings_of m.links (cell_ports m.links store.name m.cells) (lines_of store.name before)) ≡ false
 
   abbrev pub AreGood : List EventLine → List EventLine → Type 0
   AreGood before [] = Unit {0}
@@ -73,17 +70,16 @@ module _ (m : Module) where
       by true f g later = let same : x ≡ s = cc in ap (λ (y : Store). y.name) (sym same) ∙ (bytes_eq-Decides x.name name).0 f
       by false f g later = later g
 
-  good_line : (before : List EventLine) (l : EventLine) → is_bad_line m before l ≡ false → IsGoodLine before l
+  good_line : (before : List EventLine) (l : EventLine) → is_bad_line false m before l ≡ false → IsGoodLine before l
   good_line before l e = by (store_named m.memories l.line.memory) refl e
     where
-      by : (o : Option Store) → store_named m.memories l.line.memory ≡ o → option_map_or (is_bad_write_in m before l) o true ≡ false → IsGoodLine before l
+      by : (o : Option Store) → store_named m.memories l.line.memory ≡ o → option_map_or (is_bad_write_in false m before l) o true ≡ false → IsGoodLine before l
       by None own f = absurd (cc)
       by (Some s) own f =
           let other : Bool = not (length l.line.value == s.width) in
           let long : Bool = nat_lt 32 (length l.line.address) in
           let many : Bool = nat_lt 65535 (next_port (cell_ports m.links s.name m.cells) + length (lines_of s.name before)) in
-          let clash : Bool = clashes (event_clocking m.links l.event) (clockings_of m.links (cell_ports m.links s.name m.cells) (lines_of s.name before)) in
-          let three = or_parts ((other || long) || many) clash f in
+          let three = or_parts ((other || long) || many) false f in
           let two = or_parts (other || long) many three.0 in
           let one = or_parts other long two.0 in
           record {
@@ -93,13 +89,12 @@ module _ (m : Module) where
             width = not_false (length l.line.value == s.width) one.0;
             address = one.1;
             few = two.1;
-            agrees = three.1;
           }
 
-  good_lines : (before ls : List EventLine) → has_bad_line m before ls ≡ false → AreGood before ls
+  good_lines : (before ls : List EventLine) → has_bad_line false m before ls ≡ false → AreGood before ls
   good_lines before [] e = tt
   good_lines before (l ∷ ls) e =
-      let both = or_parts (is_bad_line m before l) (has_bad_line m (before ++ l ∷ []) ls) e in
+      let both = or_parts (is_bad_line false m before l) (has_bad_line false m (before ++ l ∷ []) ls) e in
       (good_line before l both.0, good_lines (before ++ l ∷ []) ls both.1)
 
   good_both : (before xs ys : List EventLine) → AreGood before xs → AreGood (before ++ xs) ys → AreGood before (xs ++ ys)
@@ -113,15 +108,15 @@ module _ (m : Module) where
       let k = good_parts (before ++ x ∷ []) xs ys h.1 in
       ((h.0, k.0), subst (λ z. AreGood z ys) (append_assoc before (x ∷ []) xs) k.1)
 
-  processes_good : (memories : Bool) (ports : Ports) (earlier ps : List Process) → process_faults (with_processes memories) ports m earlier ps ≡ [] → AreGood (flat_map write_lines earlier) (flat_map write_lines ps)
-  processes_good memories ports earlier [] e = tt
-  processes_good memories ports earlier (p ∷ ps) e =
-      let here : List Fault = faults_of_process (with_processes memories) ports m earlier p in
-      let later : List Fault = process_faults (with_processes memories) ports m (earlier ++ p ∷ []) ps in
+  processes_good : (ports : Ports) (earlier ps : List Process) → process_faults with_processes ports m earlier ps ≡ [] → AreGood (flat_map write_lines earlier) (flat_map write_lines ps)
+  processes_good ports earlier [] e = tt
+  processes_good ports earlier (p ∷ ps) e =
+      let here : List Fault = faults_of_process with_processes ports m earlier p in
+      let later : List Fault = process_faults with_processes ports m (earlier ++ p ∷ []) ps in
       let all : flat_map write_lines (earlier ++ p ∷ []) ≡ flat_map write_lines earlier ++ write_lines p = flat_map-append write_lines earlier (p ∷ []) ∙ ap (λ z. flat_map write_lines earlier ++ z) (append-nil (write_lines p)) in
       good_both (flat_map write_lines earlier) (write_lines p) (flat_map write_lines ps)
-      (good_lines (flat_map write_lines earlier) (write_lines p) (good_of memories ports m earlier p (none_left here later e)).lines)
-      (subst (λ z. AreGood z (flat_map write_lines ps)) all (processes_good memories ports (earlier ++ p ∷ []) ps (none_right here later e)))
+      (good_lines (flat_map write_lines earlier) (write_lines p) (good_of ports m earlier p (none_left here later e)).lines)
+      (subst (λ z. AreGood z (flat_map write_lines ps)) all (processes_good ports (earlier ++ p ∷ []) ps (none_right here later e)))
 
   by_rules : (ps : List Process) → flat_map write_lines ps ≡ flat_map rule_lines (flat_map (λ (p : Process). p.syncs) ps)
   by_rules [] = refl
@@ -130,8 +125,8 @@ module _ (m : Module) where
       ∙ sym (flat_map-append rule_lines p.syncs (flat_map (λ (q : Process). q.syncs) ps))
 
   -- the lines of the rules of a module without faults
-  pub rules_good : (memories : Bool) (ports : Ports) → process_faults (with_processes memories) ports m [] m.processes ≡ [] → AreGood [] (flat_map rule_lines (module_rules m))
-  rules_good memories ports e = subst (AreGood []) (by_rules m.processes) (processes_good memories ports [] m.processes e)
+  pub rules_good : (ports : Ports) → process_faults with_processes ports m [] m.processes ≡ [] → AreGood [] (flat_map rule_lines (module_rules m))
+  rules_good ports e = subst (AreGood []) (by_rules m.processes) (processes_good ports [] m.processes e)
 
   -- lines as they are numbered, and as they are checked, are as many for each memory
   abbrev pub AreAsMany : List Numbered → List EventLine → Type 0

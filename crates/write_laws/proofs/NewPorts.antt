@@ -1,5 +1,5 @@
 -- A write port of a line has no fault behind the ports before it.
-use Rattle.std.proofs.Common.{◌≡◌, ◌≤◌, ℕ, ◌+◌, Bool, true, false, List, [], ◌∷◌, ◌++◌, length, None, if◌then◌else◌, refl, sym, ◌∙◌, ap, arith, append-nil, append_assoc, length-append}
+use Rattle.std.proofs.Common.{◌≡◌, ◌≤◌, ℕ, ◌+◌, Bool, true, false, List, [], ◌∷◌, ◌++◌, length, None, if◌then◌else◌, refl, sym, ◌∙◌, ap, arith, append-nil, length-append}
 use Rattle.std.specs.Prelude.{◌||◌, ◌==◌, filter, map, max, nat_lt, not}
 use Rattle.std.specs.List.{list_any}
 use Rattle.std.specs.Option.{option_map_or}
@@ -7,20 +7,15 @@ use Rattle.std.specs.Str.{bytes_eq}
 use Rattle.std.proofs.lemmas.Bool.{eq-eqb}
 use Rattle.std.proofs.lemmas.Slice.Eq.{bytes_eq-Decides}
 use Rattle.cell_types.specs.declared.kind.CellKind.TheVariants.{Memory}
-use Rattle.cell_types.specs.declared.level.Level.{Level}
 use Rattle.cell_types.specs.declared.memory.MemoryKind.TheVariants.{MemwrV2}
 use Rattle.rtl_bits.specs.Numbers.{number_of}
 use Rattle.rtl_ir.specs.Constants.{low_bits, value_bits}
 use Rattle.rtl_ir.specs.Faults.Cells.{misfit}
 use Rattle.rtl_ir.specs.Faults.MemoryCells.{is_bad_in, is_bad_memory_cell, is_bad_write, is_unlike, store_named}
 use Rattle.rtl_ir.specs.Flat.Access.{line_mask, write_trigger}
-use Rattle.rtl_ir.specs.Follow.{follow}
-use Rattle.rtl_ir.specs.WritePorts.{Clocking, EventLine, WritePort, cell_port, cell_ports, clashes, clockings_of, event_clocking, lines_of, next_port}
+use Rattle.rtl_ir.specs.WritePorts.{EventLine, WritePort, cell_port, cell_ports, lines_of, next_port}
 use Rattle.rtl_ir.specs.declared.cell.Cell.{Cell}
-use Rattle.rtl_ir.specs.declared.module.Link.{Link}
 use Rattle.rtl_ir.specs.declared.module.Module.{Module}
-use Rattle.rtl_ir.specs.declared.process.Event.{Event}
-use Rattle.rtl_ir.specs.declared.process.Event.TheVariants.{Low as AtLow, High as AtHigh, Posedge, Negedge, Edge, Global, Init, Always}
 use Rattle.rtl_ir.specs.declared.value.Value.TheVariants.{Chars}
 use Rattle.net_model.proofs.Members.{map-append}
 use Rattle.net_model.specs.Proc.Sync.{Numbered, line_number, polarity_of, ports_in}
@@ -45,36 +40,12 @@ none_taken n (p ∷ ps) h =
     let other : (p.number == n) ≡ false = grind (arith, h) in
     λ i. other i || none_taken n ps (omega (arith, h)) i
 
--- a line acts as its port
-module _ (links : List Link) where
-  abbrev clocking_by : (event : Event) → Level → Clocking
-  clocking_by event l = record {
-    clock = map (follow links) (write_trigger event).signal;
-    rising = nat_lt 0 (number_of (low_bits (polarity_of l) 32));
-  }
-
-  clocking_is : (event : Event) → clocking_by event (write_trigger event).level ≡ event_clocking links event
-  clocking_is (Posedge s) =
-      ap (λ n. record { clock = map (follow links) s; rising = nat_lt 0 n }) (number_is 1 (omega arith))
-  clocking_is (Negedge s) =
-      ap (λ n. record { clock = map (follow links) s; rising = nat_lt 0 n }) (number_is 0 (omega arith))
-  clocking_is (AtLow s) = ap (λ n. record { clock = []; rising = nat_lt 0 n }) (number_is 0 (omega arith))
-  clocking_is (AtHigh s) = ap (λ n. record { clock = []; rising = nat_lt 0 n }) (number_is 0 (omega arith))
-  clocking_is (Edge s) = ap (λ n. record { clock = []; rising = nat_lt 0 n }) (number_is 0 (omega arith))
-  clocking_is Global = ap (λ n. record { clock = []; rising = nat_lt 0 n }) (number_is 0 (omega arith))
-  clocking_is Init = ap (λ n. record { clock = []; rising = nat_lt 0 n }) (number_is 0 (omega arith))
-  clocking_is Always = ap (λ n. record { clock = []; rising = nat_lt 0 n }) (number_is 0 (omega arith))
-
 module _ (m : Module) where
-  -- cells stand for the ports of the module and the lines before, as far as ports are asked
-  pub record StandFor (checked : List EventLine) (earlier : List Cell) : Type 0 where
-    pub numbers :
-        (name : List ℕ) →
-        next_port (cell_ports m.links name earlier) ≤ next_port (cell_ports m.links name m.cells) + length (lines_of name checked)
-    pub clocks :
-        (name : List ℕ) →
-        map (λ (p : WritePort). p.clocking) (cell_ports m.links name earlier)
-        ≡ clockings_of m.links (cell_ports m.links name m.cells) (lines_of name checked)
+  -- cells stand for the ports of the module and the lines before, as far as numbers are asked
+  abbrev pub StandFor : List EventLine → List Cell → Type 0
+  StandFor checked earlier =
+      (name : List ℕ) →
+      next_port (cell_ports m.links name earlier) ≤ next_port (cell_ports m.links name m.cells) + length (lines_of name checked)
 
   module _ (before rule : List Numbered) (checked : List EventLine) (l : EventLine) (k : ℕ) (many : AreAsMany m before checked) (good : IsGoodLine m checked l) where
     abbrev number : ℕ
@@ -86,8 +57,8 @@ module _ (m : Module) where
     small : line_number m before l.line.memory ≤ 65535
     small = small_of m before checked l many good
 
-    port_is : cell_port m.links port ≡ record { number = number; clocking = event_clocking m.links l.event }
-    port_is = λ i. record { number = number_is number small i; clocking = clocking_is m.links l.event i }
+    port_is : (cell_port m.links port).number ≡ number
+    port_is = number_is number small
 
     more_ports : (name : List ℕ) (earlier : List Cell) → cell_ports m.links name (earlier ++ port ∷ []) ≡ cell_ports m.links name earlier ++ map (cell_port m.links) (if bytes_eq name l.line.memory then port ∷ [] else [])
     more_ports name earlier =
@@ -100,8 +71,8 @@ module _ (m : Module) where
 
     module _ (earlier : List Cell) (stand : StandFor checked earlier) where
       -- the number behind them
-      far : (name : List ℕ) → next_port (cell_ports m.links name (earlier ++ port ∷ [])) ≤ next_port (cell_ports m.links name m.cells) + length (lines_of name (checked ++ l ∷ []))
-      far name = by (bytes_eq name l.line.memory) refl (more_ports name earlier) (more_lines name)
+      pub stand_more : StandFor (checked ++ l ∷ []) (earlier ++ port ∷ [])
+      stand_more name = by (bytes_eq name l.line.memory) refl (more_ports name earlier) (more_lines name)
         where
           by : (t : Bool) → bytes_eq name l.line.memory ≡ t
               → cell_ports m.links name (earlier ++ port ∷ []) ≡ cell_ports m.links name earlier ++ map (cell_port m.links) (if t then port ∷ [] else [])
@@ -110,35 +81,13 @@ module _ (m : Module) where
           by true e f g =
               let same : name ≡ good.store.name = (bytes_eq-Decides name l.line.memory).0 e ∙ sym good.named in
               let here : line_number m before l.line.memory ≡ next_port (cell_ports m.links name m.cells) + length (lines_of name checked) = number_of_line m before checked l many good ∙ ap (λ z. next_port (cell_ports m.links z m.cells) + length (lines_of z checked)) (sym same) in
-              let next : next_port (cell_ports m.links name (earlier ++ port ∷ [])) ≡ max (next_port (cell_ports m.links name earlier)) (number + 1) = ap next_port f ∙ next_more (cell_ports m.links name earlier) (cell_port m.links port) ∙ ap (λ (p : WritePort). max (next_port (cell_ports m.links name earlier)) (p.number + 1)) port_is in
+              let next : next_port (cell_ports m.links name (earlier ++ port ∷ [])) ≡ max (next_port (cell_ports m.links name earlier)) (number + 1) = ap next_port f ∙ next_more (cell_ports m.links name earlier) (cell_port m.links port) ∙ ap (λ n. max (next_port (cell_ports m.links name earlier)) (n + 1)) port_is in
               let more : length (lines_of name (checked ++ l ∷ [])) ≡ length (lines_of name checked) + 1 = ap length g ∙ length-append (lines_of name checked) (l ∷ []) in
-              omega (arith, stand.numbers name, here, next, more)
+              omega (arith, stand name, here, next, more)
           by false e f g =
               let next : next_port (cell_ports m.links name (earlier ++ port ∷ [])) ≡ next_port (cell_ports m.links name earlier) = ap next_port (f ∙ append-nil (cell_ports m.links name earlier)) in
               let more : length (lines_of name (checked ++ l ∷ [])) ≡ length (lines_of name checked) = ap length (g ∙ append-nil (lines_of name checked)) in
-              omega (arith, stand.numbers name, next, more)
-
-      abbrev times : List WritePort → List Clocking
-      times ps = map (λ (p : WritePort). p.clocking) ps
-
-      abbrev acts : List EventLine → List Clocking
-      acts ls = map (λ (x : EventLine). event_clocking m.links x.event) ls
-
-      -- when they act
-      when : (name : List ℕ) → map (λ (p : WritePort). p.clocking) (cell_ports m.links name (earlier ++ port ∷ [])) ≡ clockings_of m.links (cell_ports m.links name m.cells) (lines_of name (checked ++ l ∷ []))
-      when name =
-          ap times (more_ports name earlier)
-          ∙ map-append (λ (p : WritePort). p.clocking) (cell_ports m.links name earlier) (map (cell_port m.links) (if bytes_eq name l.line.memory then port ∷ [] else []))
-          ∙ (λ i. stand.clocks name i ++ last (bytes_eq name l.line.memory) i)
-          ∙ append_assoc (times (cell_ports m.links name m.cells)) (acts (lines_of name checked)) (acts (if bytes_eq name l.line.memory then l ∷ [] else []))
-          ∙ ap (λ z. times (cell_ports m.links name m.cells) ++ z) (sym (map-append (λ (x : EventLine). event_clocking m.links x.event) (lines_of name checked) (if bytes_eq name l.line.memory then l ∷ [] else [])) ∙ ap acts (sym (more_lines name)))
-        where
-          last : (t : Bool) → map (λ (p : WritePort). p.clocking) (map (cell_port m.links) (if t then port ∷ [] else [])) ≡ map (λ (x : EventLine). event_clocking m.links x.event) (if t then l ∷ [] else [])
-          last true = ap (λ (p : WritePort). p.clocking ∷ []) port_is
-          last false = refl
-
-      pub stand_more : StandFor (checked ++ l ∷ []) (earlier ++ port ∷ [])
-      stand_more = record { numbers = far; clocks = when }
+              omega (arith, stand name, next, more)
 
       module _ (count : ℕ) (sound : IsSound count l.event l.line) where
         word : number_of (low_bits (length l.line.value) 32) ≡ length l.line.value
@@ -162,10 +111,10 @@ module _ (m : Module) where
             let some : (length l.line.address == 0) ≡ false = grind (arith, sound.bits.address) in
             λ i. (not ((ap (λ n. n == good.store.width) word ∙ good.width) i) || (ap (λ n. n == 0) long ∙ some) i) || (ap (nat_lt 32) long ∙ good.address) i
 
-        pub port_good : (n : Module) → n.links ≡ m.links → n.memories ≡ m.memories → is_bad_memory_cell n earlier port MemwrV2 ≡ false
+        pub port_good : (n : Module) → n.links ≡ m.links → n.memories ≡ m.memories → is_bad_memory_cell false n earlier port MemwrV2 ≡ false
         port_good n links memories =
-            ap (λ o. option_map_or (is_bad_in n earlier port MemwrV2) o true) (ap (λ z. store_named z l.line.memory) memories ∙ good.there)
-            ∙ ap (λ z. is_unlike good.store port || is_bad_write z (cell_ports z good.store.name earlier) port) links
+            ap (λ o. option_map_or (is_bad_in false n earlier port MemwrV2) o true) (ap (λ z. store_named z l.line.memory) memories ∙ good.there)
+            ∙ ap (λ z. is_unlike good.store port || is_bad_write false z (cell_ports z good.store.name earlier) port) links
             ∙ (λ i. like i || writes i)
           where
             clocked : not (nat_lt 0 (number_of (low_bits 1 32))) ≡ false
@@ -177,11 +126,7 @@ module _ (m : Module) where
             taken : list_any (λ (p : WritePort). p.number == number_of (low_bits number 32)) (cell_ports m.links good.store.name earlier) ≡ false
             taken =
                 let number' = number_is number small ∙ number_of_line m before checked l many good in
-                none_taken (number_of (low_bits number 32)) (cell_ports m.links good.store.name earlier) (omega (arith, stand.numbers good.store.name, number'))
+                none_taken (number_of (low_bits number 32)) (cell_ports m.links good.store.name earlier) (omega (arith, stand good.store.name, number'))
 
-            agree : clashes (cell_port m.links port).clocking (map (λ (p : WritePort). p.clocking) (cell_ports m.links good.store.name earlier)) ≡ false
-            agree =
-                (λ i. clashes (port_is i).clocking (stand.clocks good.store.name i)) ∙ good.agrees
-
-            writes : is_bad_write m.links (cell_ports m.links good.store.name earlier) port ≡ false
-            writes = λ i. ((clocked i || few i) || taken i) || agree i
+            writes : is_bad_write false m.links (cell_ports m.links good.store.name earlier) port ≡ false
+            writes = λ i. ((clocked i || few i) || taken i) || false

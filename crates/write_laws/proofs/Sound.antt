@@ -9,6 +9,7 @@ use Rattle.rtl_ir.specs.Faults.ProcessLimits.{memory_lines, passes_limit, switch
 use Rattle.rtl_ir.specs.Faults.RuleKinds.{AtEdge, AtLevel, AtBothEdges, AtSteps, AtAll, AtStart, RuleKind, edges_agree, has_one_bit, is_one_bit, is_one_edge, kind_of_event, kinds_of, may_stand, rules_stand, writes, writes_stand}
 use Rattle.rtl_ir.specs.Flat.Access.{write_trigger}
 use Rattle.rtl_ir.specs.Rules.{acting_rules, has_item, has_line, is_init}
+use Rattle.rtl_ir.specs.Scope.{with_processes}
 use Rattle.rtl_ir.specs.Types.{Ports}
 use Rattle.rtl_ir.specs.declared.module.Module.{Module}
 use Rattle.rtl_ir.specs.declared.process.Event.{Event}
@@ -22,7 +23,7 @@ use Rattle.net_model.specs.Lists.{In}
 use Rattle.net_model.specs.Within.{BitIn, Each, EventIn, SigIn, WriteIn}
 use Rattle.pass_laws.proofs.Faultless.{no_faults}
 use Rattle.proc_laws.proofs.RebuildProcesses.{each_good}
-use Rattle.proc_laws.specs.Ready.{IsReady, with_processes}
+use Rattle.proc_laws.specs.Ready.{IsReady}
 use Rattle.write_laws.specs.Lines.{HasBits, WritesHaveBits}
 use Rattle.write_laws.proofs.WriteParts.{module_rules}
 
@@ -157,11 +158,11 @@ same_of : (t a b : ℕ) → not (a == b) ≡ false → a ≡ b
 same_of t a b e = grind (arith, e)
 
 -- each line that writes
-pub all_sound : (memories : Bool) (ports : Ports) (m : Module) → IsReady (with_processes memories) ports m → WritesHaveBits m → Each (λ (r : SyncRule). Each (IsSound (length m.wires) r.event) r.writes) (module_rules m)
-all_sound memories ports m ready bits =
+pub all_sound : (ports : Ports) (m : Module) → IsReady with_processes ports m → WritesHaveBits m → Each (λ (r : SyncRule). Each (IsSound (length m.wires) r.event) r.writes) (module_rules m)
+all_sound ports m ready bits =
     each_flat_map (λ (r : SyncRule). Each (IsSound (length m.wires) r.event) r.writes) (λ (p : Process). p.syncs) m.processes
     (λ p i r j l k.
-    let good = (each_good memories ports m [] m.processes (no_faults (with_processes memories) ports m ready.faultless).processes p i).1 in
+    let good = (each_good ports m [] m.processes (no_faults with_processes ports m ready.faultless).processes p i).1 in
     let rule = (ready.within.processes p i).syncs r j in
     let there : In l (memory_lines p) = in_lines p.syncs r l j k in
     let thin = none_of (λ (x : WriteLine). passes_limit x.value) (memory_lines p) (or_parts (switches_pass p.root.switches) (list_any (λ (x : WriteLine). passes_limit x.value) (memory_lines p)) good.narrow).1 l there in

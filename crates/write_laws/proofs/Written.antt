@@ -1,5 +1,5 @@
 -- Lines that write may become write ports: the flat netlist is the same.
-use Rattle.std.proofs.Common.{◌≡◌, ◌+◌, Bool, true, List, [], ◌∷◌, ◌++◌, length, inl, inr, refl, sym, ◌∙◌, ap, subst, append-nil, append_assoc}
+use Rattle.std.proofs.Common.{◌≡◌, ◌+◌, List, [], ◌∷◌, ◌++◌, length, inl, inr, refl, sym, ◌∙◌, ap, subst, append-nil, append_assoc}
 use Rattle.std.specs.Prelude.{map}
 use Rattle.rtl_bits.specs.declared.bit.Bit.{Bit}
 use Rattle.rtl_sig.specs.declared.sig.SigBit.{SigBit}
@@ -13,6 +13,7 @@ use Rattle.rtl_ir.specs.Flat.Process.{processes_rows}
 use Rattle.rtl_ir.specs.Flat.Rows.{rows_of}
 use Rattle.rtl_ir.specs.Flat.Start.{start_of}
 use Rattle.rtl_ir.specs.Flat.Tree as flat
+use Rattle.rtl_ir.specs.Scope.{with_processes}
 use Rattle.rtl_ir.specs.Types as types
 use Rattle.rtl_ir.specs.declared.cell.Cell.{Cell}
 use Rattle.rtl_ir.specs.declared.module.Module.{Module}
@@ -32,7 +33,7 @@ use Rattle.pass_laws.proofs.Faultless.{no_faults}
 use Rattle.pass_laws.proofs.Passes.{refines_in_turn}
 use Rattle.pass_laws.proofs.Placing.{places_more}
 use Rattle.proc_laws.proofs.RebuildPlaces.{memories_alike}
-use Rattle.proc_laws.specs.Ready.{HaveNoStarts, IsReady, with_processes}
+use Rattle.proc_laws.specs.Ready.{HaveNoStarts, IsReady}
 use Rattle.proc_laws.specs.Rebuilds.{rebuilt}
 use Rattle.sync_laws.specs.Kinds.{HaveNoAlways, HaveNoTwoEdges}
 use Rattle.sync_laws.proofs.GoodRules.{all_whole, without_rules}
@@ -83,9 +84,9 @@ sync_is m =
 pub ports_write : (m : Module) → Each IsWrite (cells_from ((building_of m).next + length (all_parts m)) (write_parts m))
 ports_write m = all_writes m [] (module_rules m) ((building_of m).next + length (all_parts m))
 
-pub numbers_small : (memories : Bool) (ports : types.Ports) (m : Module) → IsReady (with_processes memories) ports m → RulesSmall m [] (module_rules m)
-numbers_small memories ports m ready =
-    rules_small m (module_rules m) [] [] (none_numbered m) (rules_good m memories ports (no_faults (with_processes memories) ports m ready.faultless).processes)
+pub numbers_small : (ports : types.Ports) (m : Module) → IsReady with_processes ports m → RulesSmall m [] (module_rules m)
+numbers_small ports m ready =
+    rules_small m (module_rules m) [] [] (none_numbered m) (rules_good m ports (no_faults with_processes ports m ready.faultless).processes)
 
 begun_alike : (m : Module) → start_of m.wires (map writing m.processes) ≡ start_of m.wires (map without_rules m.processes)
 begun_alike m =
@@ -153,28 +154,28 @@ pub bare_is : (m : Module) → rebuilt [] (flops m) [] (map without_rules m.proc
 bare_is m =
     λ i. record m { cells = m.cells ++ flops m; wires = append-nil m.wires i; links = append-nil m.links i; processes = map without_rules m.processes }
 
-module _ (table : PortTable) (m : Module) (ready : IsReady (with_processes true) (types.table_ports table.modules) m) (acts : HaveNoAlways m) (edges : HaveNoTwoEdges m) where
+module _ (table : PortTable) (m : Module) (ready : IsReady with_processes (types.table_ports table.modules) m) (acts : HaveNoAlways m) (edges : HaveNoTwoEdges m) where
   bare_driven : (over : Ports) → IsWellDriven over m → IsWellDriven over (bare m)
   bare_driven over h =
-      subst (IsWellDriven over) (bare_is m) (flops_driven (types.table_ports table.modules) m true ready acts edges over h)
+      subst (IsWellDriven over) (bare_is m) (flops_driven (types.table_ports table.modules) m ready acts edges over h)
 
   half_driven : (over : Ports) → IsWellDriven over m → IsWellDriven over (half m)
   half_driven over h =
       driven_alike over m (m.cells ++ flops m) (m.cells ++ flops m) (map without_rules m.processes) (map writing m.processes) (λ p. bare_places m over p) refl (bare_driven over h)
 
   small : RulesSmall m [] (module_rules m)
-  small = numbers_small true (types.table_ports table.modules) m ready
+  small = numbers_small (types.table_ports table.modules) m ready
 
   plain : Each IsPlainCell (flops m)
   plain =
-      cells_plain (length m.wires) (building_of m).next (all_parts m) (all_whole (types.table_ports table.modules) m true ready acts edges).whole
+      cells_plain (length m.wires) (building_of m).next (all_parts m) (all_whole (types.table_ports table.modules) m ready acts edges).whole
 
   pub whole_driven : (over : Ports) → IsWellDriven over m → IsWellDriven over (whole m)
   whole_driven over h =
       driven_alike over m (m.cells ++ flops m) (m.cells ++ (flops m ++ ports_made m)) (map writing m.processes) (map without_rules m.processes) (λ p. ap places_of (rows_same m over p plain small)) (more_instances m) (half_driven over h)
 
   pub whole_instances : instances m.cells ≡ instances (m.cells ++ (flops m ++ ports_made m))
-  whole_instances = flops_instances (types.table_ports table.modules) m true ready acts edges ∙ more_instances m
+  whole_instances = flops_instances (types.table_ports table.modules) m ready acts edges ∙ more_instances m
 
   module _ (starts : HaveNoStarts m) where
     ports_refine : RefinesOver (half m) (whole m) (flat.table_ports table)
@@ -189,6 +190,6 @@ module _ (table : PortTable) (m : Module) (ready : IsReady (with_processes true)
     refines =
         subst (λ n. RefinesIn m n table) (sym (sync_is m))
         (refines_in_turn m (half m) (whole m) (flat.table_ports table) refl refl
-        (flops_instances (types.table_ports table.modules) m true ready acts edges)
+        (flops_instances (types.table_ports table.modules) m ready acts edges)
         (λ over agree h. half_driven over h)
         (flops_refine table m ready acts edges starts) ports_refine)

@@ -4,4 +4,4 @@ use Rattle.mem_map.proofs.expand.Goals as goal
 
 pub returns-in_err-check_limits-clause-over : goal.returns-in_err-check_limits-clause-over
 returns-in_err-check_limits-clause-over c e =
-    module_over c.args.module.now c.args.plan.now (search (rules, c.check_limits.ensures.over, e, c.from_residual.ensures))
+    module_over c.args.module c.args.plan.now (search (rules, c.check_limits.ensures.over, e, c.from_residual.ensures))

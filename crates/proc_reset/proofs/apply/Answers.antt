@@ -1,11 +1,10 @@
-use Rattle.std.proofs.Common.{true}
+use Rattle.rtl_ir.specs.Scope.{with_processes}
 use Rattle.rtl_ir.specs.Types.{table_ports}
-use Rattle.proc_laws.specs.Ready.{with_processes}
 use Rattle.proc_reset.proofs.Promised as promised
 use Rattle.proc_reset.proofs.apply.Goals as goal
 
 pub reset_of-requires : goal.reset_of-requires
-reset_of-requires c = record { fit = promised.cells_fit (with_processes true) (table_ports c.args.ports.now.modules) c.args.«module».now c.requires.ready }
+reset_of-requires c = record { fit = promised.cells_fit with_processes (table_ports c.args.ports.now.modules) c.args.«module».now c.requires.ready }
 
 pub returns : goal.returns
 returns c =

@@ -2,11 +2,10 @@ use Rattle.std.proofs.Common.{◌≡◌, Err, Ok, IfOk, OnOk, rules, sym, ◌∙
 use Rattle.net_index.specs.declared.builder_fault.PassFault.TheVariants as faults
 use Rattle.rtl_ir.specs.Types.{table_ports}
 use Rattle.proc_steps.proofs.Answering.{all_given, answered, clocked_over, clocking_inside, last_is, last_ready, latched_over, latching_inside, level_is, level_ready, level_ruled, muxed_over, next_edges, next_is, next_ready, next_starts, ruled_ready}
-use Rattle.proc_steps.proofs.Giving.{first_whole}
 use Rattle.proc_steps.proofs.apply.Goals as goal
 
 pub apply-requires-clause-ready : goal.apply-requires-clause-ready
-apply-requires-clause-ready c = first_whole c.args.ports.now c.args.module.now c.requires.begins
+apply-requires-clause-ready c = c.requires.begins.ready
 
 pub apply-requires-2-clause-ready : goal.apply-requires-2-clause-ready
 apply-requires-2-clause-ready c = ruled_ready c.args.ports.now c.args.module.now c.requires.begins c.in_ok-ruled.ruled c.in_ok-ruled.ensures.exact

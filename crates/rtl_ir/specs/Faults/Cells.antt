@@ -62,10 +62,11 @@ is_memory_kind (Cells.Storage kind) = false
 is_memory_kind (Cells.StorageGate gate) = false
 is_memory_kind (Cells.Memory kind) = true
 
--- the fault of a memory's cell behind these cells of the module
-abbrev pub memory_faults : Module → List Cell → Cell → CellKind → List Fault
-memory_faults m earlier c (Cells.Memory kind) = fault_if (is_bad_memory_cell m earlier c kind) (BadMemory (spot m.id c.name))
-memory_faults m earlier c kind = []
+-- the fault of a memory's cell behind these cells of the module, where clocks are compared or not
+abbrev pub memory_faults : Bool → Module → List Cell → Cell → CellKind → List Fault
+memory_faults clocks m earlier c (Cells.Memory kind) =
+    fault_if (is_bad_memory_cell clocks m earlier c kind) (BadMemory (spot m.id c.name))
+memory_faults clocks m earlier c kind = []
 
 -- the faults of a cell by what its type names, behind these cells of the module
 abbrev pub faults_by_type : Scope → Module → List Cell → Cell → CellType → List Fault
@@ -73,7 +74,7 @@ faults_by_type scope m earlier c (Library kind) =
     fault_if (is_memory_kind kind && not scope.memories) (UnsupportedCell (spot m.id c.name))
     ++ shape_fault (spot m.id c.name) (misfit kind c)
     ++ output_faults (spot m.id c.name) (Library kind) c.pins
-    ++ memory_faults m earlier c kind
+    ++ memory_faults scope.clocks m earlier c kind
 faults_by_type scope m earlier c (Instance ports) =
     fault_if (has_item c.params || list_any (lacks_port ports) c.pins) (BadParameterOrPort (spot m.id c.name))
     ++ fault_if (list_any (has_other_width ports) c.pins) (Width (spot m.id c.name))

@@ -47,13 +47,14 @@ constant_of (sig.Wire b) = X
 abbrev pub is_clocked : Cell → Bool
 is_clocked c = is_set (given_params c.params) Param.ClkEnable
 
--- a write port has no clock, too great a number, the number of one of these, or another clock or edge than one of them
-abbrev pub is_bad_write : List Link → List WritePort → Cell → Bool
-is_bad_write links earlier c =
+-- a write port has no clock, too great a number, the number of one of these, or another clock or edge than one of them where
+-- clocks are compared
+abbrev pub is_bad_write : Bool → List Link → List WritePort → Cell → Bool
+is_bad_write clocks links earlier c =
     not (is_clocked c)
     || nat_lt 65535 (number_at c Param.Portid)
     || list_any (λ (p : WritePort). p.number == number_at c Param.Portid) earlier
-    || clashes (cell_clocking links c) (map (λ (p : WritePort). p.clocking) earlier)
+    || (clocks && clashes (cell_clocking links c) (map (λ (p : WritePort). p.clocking) earlier))
 
 -- a number is the address of a word
 abbrev pub is_address : Store → ℕ → Bool
@@ -78,19 +79,19 @@ abbrev pub are_enables : Cell → Bool
 are_enables c = is_all_constant (signal_at c.pins (pin_text En)) || (number_at c Param.Words == 0)
 
 -- what is wrong with a cell of a memory, by its kind, with the module's connections and the write ports before it
-abbrev pub is_bad_access : List Link → List WritePort → Store → Cell → MemoryKind → Bool
-is_bad_access links earlier s c Memrd = is_clocked c
-is_bad_access links earlier s c MemrdV2 = is_clocked c
-is_bad_access links earlier s c MemwrV2 = is_bad_write links earlier c
-is_bad_access links earlier s c Meminit = not (are_words s c)
-is_bad_access links earlier s c MeminitV2 = not (are_words s c) || not (are_enables c)
+abbrev pub is_bad_access : Bool → List Link → List WritePort → Store → Cell → MemoryKind → Bool
+is_bad_access clocks links earlier s c Memrd = is_clocked c
+is_bad_access clocks links earlier s c MemrdV2 = is_clocked c
+is_bad_access clocks links earlier s c MemwrV2 = is_bad_write clocks links earlier c
+is_bad_access clocks links earlier s c Meminit = not (are_words s c)
+is_bad_access clocks links earlier s c MeminitV2 = not (are_words s c) || not (are_enables c)
 
 -- a cell of this memory is a fault of it
-abbrev pub is_bad_in : Module → List Cell → Cell → MemoryKind → Store → Bool
-is_bad_in m earlier c kind s =
-    is_unlike s c || is_bad_access m.links (cell_ports m.links s.name earlier) s c kind
+abbrev pub is_bad_in : Bool → Module → List Cell → Cell → MemoryKind → Store → Bool
+is_bad_in clocks m earlier c kind s =
+    is_unlike s c || is_bad_access clocks m.links (cell_ports m.links s.name earlier) s c kind
 
 -- a cell of a memory names none of the module, or is a fault of it, behind these cells
-abbrev pub is_bad_memory_cell : Module → List Cell → Cell → MemoryKind → Bool
-is_bad_memory_cell m earlier c kind =
-    option_map_or (is_bad_in m earlier c kind) (option_and_then (store_named m.memories) (memory_name c.params)) true
+abbrev pub is_bad_memory_cell : Bool → Module → List Cell → Cell → MemoryKind → Bool
+is_bad_memory_cell clocks m earlier c kind =
+    option_map_or (is_bad_in clocks m earlier c kind) (option_and_then (store_named m.memories) (memory_name c.params)) true

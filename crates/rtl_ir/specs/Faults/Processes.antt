@@ -1,5 +1,5 @@
 -- The faults of processes.
-use Rattle.std.specs.Prelude.{◌+◌, nat_lt, ◌==◌, Bool, true, false, not, ◌||◌, List, [], ◌∷◌, ◌++◌, length, flat_map}
+use Rattle.std.specs.Prelude.{◌+◌, nat_lt, ◌==◌, Bool, true, false, not, ◌&&◌, ◌||◌, List, [], ◌∷◌, ◌++◌, length, flat_map}
 use Rattle.std.specs.List.{list_all}
 use Rattle.std.specs.Option.{option_map_or}
 use Rattle.rtl_sig.specs.declared.sig.WireBit.{WireBit}
@@ -39,24 +39,24 @@ is_bad_process ports m p =
     || not (two_edges_stand ports m root bits (acting_rules p.syncs))
 
 -- a line writes a memory with words of another width, an address of more than 32 bits, too great a number, or another
--- clock or edge than a port before it, where these are the lines before it
-abbrev pub is_bad_write_in : Module → List EventLine → EventLine → Store → Bool
-is_bad_write_in m before l s =
+-- clock or edge than a port before it where clocks are compared; these are the lines before it
+abbrev pub is_bad_write_in : Bool → Module → List EventLine → EventLine → Store → Bool
+is_bad_write_in clocks m before l s =
     let ports = cell_ports m.links s.name m.cells in
     let lines = lines_of s.name before in
     not (length l.line.value == s.width)
     || nat_lt 32 (length l.line.address)
     || nat_lt 65535 (next_port ports + length lines)
-    || clashes (event_clocking m.links l.event) (clockings_of m.links ports lines)
+    || (clocks && clashes (event_clocking m.links l.event) (clockings_of m.links ports lines))
 
 -- a line writes no memory of the module, or is a fault of it
-abbrev pub is_bad_line : Module → List EventLine → EventLine → Bool
-is_bad_line m before l = option_map_or (is_bad_write_in m before l) (store_named m.memories l.line.memory) true
+abbrev pub is_bad_line : Bool → Module → List EventLine → EventLine → Bool
+is_bad_line clocks m before l = option_map_or (is_bad_write_in clocks m before l) (store_named m.memories l.line.memory) true
 
 -- one of these lines is a fault, behind those before
-abbrev pub has_bad_line : Module → List EventLine → List EventLine → Bool
-has_bad_line m before [] = false
-has_bad_line m before (l ∷ ls) = is_bad_line m before l || has_bad_line m (before ++ l ∷ []) ls
+abbrev pub has_bad_line : Bool → Module → List EventLine → List EventLine → Bool
+has_bad_line clocks m before [] = false
+has_bad_line clocks m before (l ∷ ls) = is_bad_line clocks m before l || has_bad_line clocks m (before ++ l ∷ []) ls
 
 -- the faults of a process, behind these processes of the module
 abbrev pub faults_of_process : Scope → Ports → Module → List Process → Process → List Fault
@@ -67,7 +67,7 @@ faults_of_process scope ports m earlier p =
     ++ fault_if (has_uneven p) (Width here)
     ++ fault_if (gives_to_constant p) (BadPort here)
     ++ fault_if (is_bad_process ports m p) (BadProcess here)
-    ++ fault_if (has_bad_line m (flat_map write_lines earlier) (write_lines p)) (BadMemory here)
+    ++ fault_if (has_bad_line scope.clocks m (flat_map write_lines earlier) (write_lines p)) (BadMemory here)
 
 -- the faults of processes, behind these processes of the module
 abbrev pub process_faults : Scope → Ports → Module → List Process → List Process → List Fault

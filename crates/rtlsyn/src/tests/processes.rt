@@ -1,9 +1,8 @@
 //! Designs with processes.
 
-use super::{answers, call};
+use super::{answers, lines_beginning};
 use crate::program::Status;
 use std::alloc::{AllocError, Global};
-use std::process::Abort;
 use std::test::Fail;
 
 const ASSIGN_BEHIND: &[u8] =
@@ -42,21 +41,42 @@ fn trees_become_multiplexers(rt: HostRuntime) -> Result<(), Fail> {
     Ok(())
 }
 
-/// How many lines of what is written for the text begin with these bytes.
-fn lines_beginning(
-    rt: &impl Abort,
-    alloc: Global,
-    text: &str,
-    start: &[u8],
-) -> Result<usize, Fail> {
-    let (ended, sink) = call(alloc, text.as_bytes(), &[], &[])?;
-    assert_eq!(rt; ended, Status::Done);
-    Ok(
-        sink.bytes()
-            .split(|byte| *byte == b'\n')
-            .filter(|line| line.starts_with(start))
-            .count(),
-    )
+const RESET_AND_ENABLE: &[u8] =
+    b"module \\ff_with_en_and_async_reset\n  wire input 1 \\clock\n  wire input 2 \\reset\n  wire input 3 \\enable\n  wire input 4 \\d\n  wire output 5 \\q\n  wire $0\\q[0:0]\n  process $p\n    assign $0\\q[0:0] \\q\n    switch \\reset\n      case 1'1\n        assign $0\\q[0:0] 1'0\n      case\n        switch \\enable\n          case 1'1\n            assign $0\\q[0:0] \\d\n          case\n        end\n    end\n    sync posedge \\clock\n      update \\q $0\\q[0:0]\n    sync posedge \\reset\n      update \\q $0\\q[0:0]\n  end\nend\n";
+
+const RESET_AND_ENABLE_GATES: &[u8] =
+    b"module \\ff_with_en_and_async_reset\n  wire input 1 \\clock\n  wire input 2 \\reset\n  wire input 3 \\enable\n  wire input 4 \\d\n  wire output 5 \\q\n  wire $syn$3\n  cell $_DFF_PP0_ $syn$4\n    connect \\D $syn$3\n    connect \\C \\clock\n    connect \\R \\reset\n    connect \\Q \\q\n  end\n  cell $_MUX_ $syn$5\n    connect \\A \\q\n    connect \\B \\d\n    connect \\S \\enable\n    connect \\Y $syn$3\n  end\nend\n";
+
+const LATCH: &[u8] =
+    b"module \\m\n  wire input 1 \\d\n  wire input 2 \\en\n  wire output 3 \\q\n  wire $0\\q\n  wire $1\\q\n  process $p\n    assign $0\\q $1\\q\n    switch \\en\n      case 1'1\n        assign $1\\q \\d\n      case\n        assign $1\\q \\q\n    end\n    sync always\n      update \\q $0\\q\n  end\nend\n";
+
+const LATCH_GATE: &[u8] =
+    b"module \\m\n  wire input 1 \\d\n  wire input 2 \\en\n  wire output 3 \\q\n  cell $_DLATCH_P_ $syn$6\n    connect \\D \\d\n    connect \\E \\en\n    connect \\Q \\q\n  end\nend\n";
+
+const RESET_BEHIND_AN_INVERTER: &[u8] =
+    b"autoidx 7\nattribute \\src \"dff.v:1.1-9.10\"\nmodule \\dff\n  wire $0\\q[0:0]\n  wire $n\n  wire input 1 \\clk\n  wire input 2 \\rst_n\n  wire input 3 \\d\n  wire output 4 \\q\n  cell $logic_not $c\n    parameter \\A_SIGNED 0\n    parameter \\A_WIDTH 1\n    parameter \\Y_WIDTH 1\n    connect \\A \\rst_n\n    connect \\Y $n\n  end\n  process $p\n    assign { } { }\n    assign $0\\q[0:0] \\d\n    switch $n\n      case 1'1\n        assign $0\\q[0:0] 1'0\n      case\n    end\n    sync posedge \\clk\n      update \\q $0\\q[0:0]\n    sync negedge \\rst_n\n      update \\q $0\\q[0:0]\n  end\nend\n";
+
+const RESET_GATE: &[u8] =
+    b"attribute \\src \"dff.v:1.1-9.10\"\nmodule \\dff\n  wire input 1 \\clk\n  wire input 2 \\rst_n\n  wire input 3 \\d\n  wire output 4 \\q\n  cell $_DFF_PN0_ $syn$2\n    connect \\D \\d\n    connect \\C \\clk\n    connect \\R \\rst_n\n    connect \\Q \\q\n  end\nend\n";
+
+#[test]
+fn processes_with_storage_become_gates(rt: HostRuntime) -> Result<(), Fail> {
+    for (row, input, output) in [
+        (
+            "a reset and an enable",
+            RESET_AND_ENABLE,
+            RESET_AND_ENABLE_GATES,
+        ),
+        ("a latch", LATCH, LATCH_GATE),
+        (
+            "a reset behind an inverter",
+            RESET_BEHIND_AN_INVERTER,
+            RESET_GATE,
+        ),
+    ] {
+        answers(&rt, rt.alloc(), row, input, output, Status::Done)?;
+    }
+    Ok(())
 }
 
 /// A bit that so many switches in one another choose.
@@ -80,7 +100,7 @@ fn nested_text(alloc: Global, depth: u32) -> Result<String, AllocError> {
 fn switches_in_one_another(rt: HostRuntime) -> Result<(), Fail> {
     let text = nested_text(rt.alloc(), 512)?;
     assert_eq!(rt;
-        lines_beginning(&rt, rt.alloc(), text.as_str(), b"  cell $mux ")?,
+        lines_beginning(&rt, rt.alloc(), text.as_str(), b"  cell $_MUX_ ")?,
         512
     );
     Ok(())
@@ -118,8 +138,8 @@ fn patterns_text(alloc: Global, count: u32) -> Result<String, AllocError> {
 fn a_case_of_many_patterns(rt: HostRuntime) -> Result<(), Fail> {
     let most = patterns_text(rt.alloc(), 4_096)?;
     assert_eq!(rt;
-        lines_beginning(&rt, rt.alloc(), most.as_str(), b"  cell $eq ")?,
-        4_096
+        lines_beginning(&rt, rt.alloc(), most.as_str(), b"  cell $_OR_ ")?,
+        4_095
     );
     let more = patterns_text(rt.alloc(), 4_097)?;
     answers(
@@ -141,23 +161,25 @@ fn made_text(alloc: Global, made: &str) -> Result<String, AllocError> {
 
 #[test]
 fn multiplexers_pass_a_limit(rt: HostRuntime) -> Result<(), Fail> {
-    let last = made_text(rt.alloc(), "$syn$999999997")?;
+    let last = made_text(rt.alloc(), "$syn$999999996")?;
     assert_eq!(rt;
-        lines_beginning(
-            &rt,
-            rt.alloc(),
-            last.as_str(),
-            b"  cell $mux $syn$999999998"
-        )?,
+        lines_beginning(&rt, rt.alloc(), last.as_str(), b"  cell $_")?,
         1
     );
-    let over = made_text(rt.alloc(), "$syn$999999998")?;
-    answers(
-        &rt,
-        rt.alloc(),
-        "a name too many",
-        over.as_bytes(),
-        b"error 20 \\m proc built 1 reused 0\n",
-        Status::Refused,
-    )
+    for (made, output) in [
+        ("$syn$999999997", "error 20 \\m techmap built 1 reused 0\n"),
+        ("$syn$999999998", "error 20 \\m proc built 1 reused 0\n"),
+    ] {
+        let over = made_text(rt.alloc(), made)?;
+        let input = over.as_bytes();
+        answers(
+            &rt,
+            rt.alloc(),
+            made,
+            input,
+            output.as_bytes(),
+            Status::Refused,
+        )?;
+    }
+    Ok(())
 }

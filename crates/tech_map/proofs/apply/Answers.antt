@@ -17,6 +17,9 @@ returns-clause-well_formed c = promised.well_formed c.args.module.now c.mapped.r
 pub returns-clause-faultless : goal.returns-clause-faultless
 returns-clause-faultless c = promised.stays_faultless c.args.module.now c.mapped.result c.mapped.ensures.exact c.mapped.ensures.within c.args.ports.now c.requires.ready
 
+pub returns-clause-gates : goal.returns-clause-gates
+returns-clause-gates c = promised.gates c.args.module.now c.mapped.result c.mapped.ensures.exact c.mapped.ensures.within c.args.ports.now c.requires.ready
+
 pub returns-clause-same_id : goal.returns-clause-same_id
 returns-clause-same_id c = promised.same_id c.args.module.now c.mapped.result c.mapped.ensures.exact c.mapped.ensures.within c.args.ports.now c.requires.ready
 

@@ -6,8 +6,8 @@ use Rattle.proc_laws.proofs.laws.steps_may_build.Goals as goal
 
 pub returns : goal.returns
 returns c = record {
-  ready = λ ports m fresh new more changed memories ready r keeps. still_ready ports m fresh new more changed memories ready r keeps;
-  last = λ ports m fresh new more memories ready r keeps. last_ready ports m fresh new more [] memories ready r keeps refl;
+  ready = still_ready;
+  last = λ ports m fresh new more ready r. last_ready ports m fresh new more [] ready r refl;
   driven = λ ports over m fresh new more changed within r. still_driven ports m fresh new more changed within r over;
   same_ports = λ ports m fresh new more changed r. sym (ports_more m.wires fresh r.inner);
   same_instances = λ ports m fresh new more changed r. instances_stay ports m fresh new more changed r;

@@ -6,10 +6,10 @@ use Rattle.reset_laws.proofs.forming.resets_stay_ready.Goals as goal
 
 pub returns : goal.returns
 returns c = record {
-  stays = λ table m ruled starts placed trees memories ready. reset_ready (table_ports table.modules) m memories ready placed trees starts ruled;
-  ruled = λ ports m memories ready ruled starts placed trees q i.
-      ((resets_refine ports m memories ready placed trees starts ruled (λ id. [])).1 q i).ruled;
-  no_starts = λ ports m memories ready ruled starts placed trees. reset_starts ports m memories ready placed trees starts ruled;
-  placed = λ ports m memories ready ruled starts placed trees. reset_placed ports m memories ready placed trees starts ruled;
-  trees = λ ports m memories ready ruled starts placed trees. reset_trees ports m memories ready placed trees starts ruled;
+  stays = λ table m ruled starts placed trees ready. reset_ready (table_ports table.modules) m ready placed trees starts ruled;
+  ruled = λ ports m ready ruled starts placed trees q i.
+      ((resets_refine ports m ready placed trees starts ruled (λ id. [])).1 q i).ruled;
+  no_starts = λ ports m ready ruled starts placed trees. reset_starts ports m ready placed trees starts ruled;
+  placed = λ ports m ready ruled starts placed trees. reset_placed ports m ready placed trees starts ruled;
+  trees = λ ports m ready ruled starts placed trees. reset_trees ports m ready placed trees starts ruled;
 }

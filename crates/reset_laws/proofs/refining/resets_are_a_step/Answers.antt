@@ -6,7 +6,7 @@ use Rattle.reset_laws.proofs.refining.resets_are_a_step.Goals as goal
 
 pub returns : goal.returns
 returns c = record {
-  step = λ table m memories ready ruled starts placed trees.
-      let good = (resets_refine (table_ports table.modules) m memories ready placed trees starts ruled (flat.table_ports table)).0 in
+  step = λ table m ready ruled starts placed trees.
+      let good = (resets_refine (table_ports table.modules) m ready placed trees starts ruled (flat.table_ports table)).0 in
       record { id = refl; ports = refl; instances = refl; driven = λ over agree h. good.driven over h; refines = good.refines };
 }

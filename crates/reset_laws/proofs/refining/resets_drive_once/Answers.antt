@@ -3,6 +3,6 @@ use Rattle.reset_laws.proofs.refining.resets_drive_once.Goals as goal
 
 pub returns : goal.returns
 returns c = record {
-  driven = λ ports over m memories ready ruled starts placed trees h.
-      (resets_refine ports m memories ready placed trees starts ruled over).0.driven over h;
+  driven = λ ports over m ready ruled starts placed trees h.
+      (resets_refine ports m ready placed trees starts ruled over).0.driven over h;
 }

@@ -5,6 +5,6 @@ use Rattle.reset_laws.proofs.refining.resets_refine.Goals as goal
 
 pub returns : goal.returns
 returns c = record {
-  refines = λ table m memories ready ruled starts placed trees.
-      (resets_refine (table_ports table.modules) m memories ready placed trees starts ruled (flat.table_ports table)).0.refines;
+  refines = λ table m ready ruled starts placed trees.
+      (resets_refine (table_ports table.modules) m ready placed trees starts ruled (flat.table_ports table)).0.refines;
 }

@@ -1,15 +1,19 @@
-use Rattle.std.proofs.Common.{◌≡◌, ◌<◌, ◌∙◌, ℕ, ap, map, refl, subst, sym}
+use Rattle.std.proofs.Common.{◌≡◌, ◌<◌, ◌∙◌, ℕ, false, ap, length, map, refl, subst, sym}
+use Rattle.std.specs.Prelude.{flat_map}
 use Rattle.std.specs.List.{AllByRecursion}
 use Rattle.rtl_ir.specs.Flat.Driver.{Given, Joined, Worked, Stored, Decided}
 use Rattle.flat_net.specs.declared.leaves.HeldBit.{HeldBit}
+use Rattle.flat_net.specs.declared.memory.WordBit.{WordBit}
 use Rattle.flat_net.specs.declared.net.Output.{Output}
 use Rattle.flat_net.specs.declared.net.StoreBit.{StoreBit}
 use Rattle.flat_net.specs.Parts.{held_row, inputs_of, output_row, part_rows, raced_row, store_row}
 use Rattle.flat_net.specs.Picks.{tree_pick, tree_row}
 use Rattle.flat_net.specs.Points.{place_at, pins_of, point_of}
-use Rattle.flat_net.specs.Within.{IsHeldBitWithin, IsHeldWithin, IsLogicWithin, IsOutputWithin, IsPartWithin, IsRacedWithin, IsStoreWithin, IsTreeWithin}
-use Rattle.sim_eval.specs.First.{IsFirstOf, marked, unmarked}
-use Rattle.sim_eval.proofs.Firsts.{first_items, first_single, held_within, stores_within, within_unmarked}
+use Rattle.flat_net.specs.Within.{IsFetchedWithin, IsHeldBitWithin, IsHeldWithin, IsLogicWithin, IsOutputWithin, IsPartWithin, IsRacedWithin, IsReadPortWithin, IsRememberedWithin, IsStoreWithin, IsTreeWithin}
+use Rattle.flat_net.specs.Words.{port_rows, word_row}
+use Rattle.sim_eval.specs.First.{IsFirstOf, and_places, firsts, marked, marked_ports, unmarked, unmarked_ports}
+use Rattle.sim_eval.specs.Shown.{found}
+use Rattle.sim_eval.proofs.Firsts.{first_items, first_single, held_within, ports_marked, ports_unmarked, ports_within, stores_within, within_unmarked}
 use Rattle.sim_eval.proofs.Trees.{numbers_within}
 use Rattle.sim_eval.proofs.first.first_of_part.Goals as goal
 
@@ -129,4 +133,55 @@ returns-in_ok-raced-in-Raced c =
           record { tree = k.tree; clock = k.clock; reset = k.reset; bits = subst (AllByRecursion (IsHeldBitWithin count raced.tree.width)) (sym is) (within_unmarked number (IsHeldBitWithin count raced.tree.width) seen raced.bits k.bits) } in
           subst (λ z. IsRacedWithin count (record z { bits = outs })) (sym c.deref_mut-in-Raced.ensures.value) there)
           is marks;
+    }
+
+pub returns-in_ok-words-in-Remembered : goal.returns-in_ok-words-in-Remembered
+returns-in_ok-words-in-Remembered c =
+    let seen = c.args.seen.now in
+    let words = c.in-Remembered.words.value in
+    let outs = c.in_ok-words-in-Remembered.field-0 in
+    let number : WordBit → ℕ = λ b. b.number in
+    let were : c.as_slice-in-Remembered.result.now ≡ words.bits = c.as_slice-in-Remembered.ensures.value ∙ ap (λ z. z.bits) c.deref-in-Remembered.ensures in
+    let is : outs ≡ unmarked number seen words.bits = c.in_ok-words-in-Remembered.ensures.value ∙ ap (unmarked number seen) were in
+    let marks : c.first_words.new.seen ≡ marked number seen words.bits = c.in_ok-words-in-Remembered.ensures.seen ∙ ap (marked number seen) were in
+    record {
+      first = first_items number (λ ps (b : WordBit). (word_row ps words b).driver) seen c.first_words.new.seen c.args.part _ words.bits outs
+          (λ ps. ap (part_rows ps) c.in-Remembered.is)
+          (λ ps. ap (λ z. map (word_row ps z) outs) c.deref_mut-in-Remembered.ensures.value)
+          (λ count h. let k : IsRememberedWithin count words = subst (IsPartWithin count) c.in-Remembered.is h in k.bits)
+          (λ count h.
+          let k : IsRememberedWithin count words = subst (IsPartWithin count) c.in-Remembered.is h in
+          let there : IsRememberedWithin count (record words { bits = outs }) =
+          record { clock = k.clock; ports = k.ports; bits = subst (AllByRecursion (λ (b : WordBit). b.number < count)) (sym is) (within_unmarked number (λ (b : WordBit). b.number < count) seen words.bits k.bits) } in
+          subst (λ z. IsRememberedWithin count (record z { bits = outs })) (sym c.deref_mut-in-Remembered.ensures.value) there)
+          is marks;
+    }
+
+pub returns-in_ok-fetched-in-Fetched : goal.returns-in_ok-fetched-in-Fetched
+returns-in_ok-fetched-in-Fetched c =
+    let seen = c.args.seen.now in
+    let fetched = c.in-Fetched.fetched.value in
+    let outs = c.in_ok-fetched-in-Fetched.field-0 in
+    let were : c.as_slice-in-Fetched.result.now ≡ fetched.ports = c.as_slice-in-Fetched.ensures.value ∙ ap (λ z. z.ports) c.deref-in-Fetched.ensures in
+    let is : outs ≡ unmarked_ports seen fetched.ports = c.in_ok-fetched-in-Fetched.ensures.value ∙ ap (unmarked_ports seen) were in
+    let marks : c.first_ports.new.seen ≡ marked_ports seen fetched.ports = c.in_ok-fetched-in-Fetched.ensures.seen ∙ ap (marked_ports seen) were in
+    record {
+      first = record {
+        rows = λ ps apart same h.
+            let k : IsFetchedWithin (length ps) fetched = subst (IsPartWithin (length ps)) c.in-Fetched.is h in
+            ap (λ z. flat_map (port_rows ps z) outs) c.deref_mut-in-Fetched.ensures.value
+            ∙ ap (flat_map (port_rows ps fetched)) is
+            ∙ ports_unmarked fetched ps apart seen fetched.ports same k.ports
+            ∙ sym (ap (λ z. firsts (found false ps seen) (part_rows ps z)) c.in-Fetched.is);
+        marks = λ ps apart same h.
+            let k : IsFetchedWithin (length ps) fetched = subst (IsPartWithin (length ps)) c.in-Fetched.is h in
+            ap (found false ps) marks
+            ∙ ports_marked fetched ps apart seen fetched.ports same k.ports
+            ∙ sym (ap (λ z. and_places (found false ps seen) (part_rows ps z)) c.in-Fetched.is);
+        within = λ count h.
+            let k : IsFetchedWithin count fetched = subst (IsPartWithin count) c.in-Fetched.is h in
+            let there : IsFetchedWithin count (record fetched { ports = outs }) =
+            record { columns = k.columns; ports = subst (AllByRecursion (IsReadPortWithin count)) (sym is) (ports_within count seen fetched.ports k.ports) } in
+            subst (λ z. IsFetchedWithin count (record z { ports = outs })) (sym c.deref_mut-in-Fetched.ensures.value) there;
+      };
     }

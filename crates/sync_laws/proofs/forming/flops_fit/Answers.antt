@@ -5,9 +5,9 @@ use Rattle.sync_laws.proofs.forming.flops_fit.Goals as goal
 
 pub returns : goal.returns
 returns c = record {
-  same_id = λ ports m memories ready acts edges quiet. sym (ap (λ (b : Module). b.id) (sync_is ports m memories ready acts edges quiet));
-  same_ports = λ ports m memories ready acts edges quiet. sync_ports ports m memories ready acts edges quiet;
-  same_instances = λ ports m memories ready acts edges quiet. sync_instances ports m memories ready acts edges quiet;
-  driven = λ ports over m memories ready acts edges quiet h. sync_driven ports m memories ready acts edges quiet over h;
+  same_id = λ ports m ready acts edges quiet. sym (ap (λ (b : Module). b.id) (sync_is ports m ready acts edges quiet));
+  same_ports = λ ports m ready acts edges quiet. sync_ports ports m ready acts edges quiet;
+  same_instances = λ ports m ready acts edges quiet. sync_instances ports m ready acts edges quiet;
+  driven = λ ports over m ready acts edges quiet h. sync_driven ports m ready acts edges quiet over h;
   ready = stays_ready;
 }

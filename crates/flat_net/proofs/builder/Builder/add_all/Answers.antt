@@ -5,7 +5,8 @@ use Rattle.rtl_ir.specs.declared.wire.Role.TheVariants.{Input}
 use Rattle.rtl_ir.specs.Ports.{ports_of}
 use Rattle.flat_net.specs.Known.{Known}
 use Rattle.flat_net.specs.Reads.{AreNumbers}
-use Rattle.flat_net.proofs.Ending.{AreNumbers-kept, all_added}
+use Rattle.flat_net.proofs.Ending.{all_added}
+use Rattle.flat_net.proofs.Reading.{AreNumbers-kept}
 use Rattle.flat_net.proofs.builder.Builder.add_all.Goals as goal
 
 pub add_tree-requires : goal.add_tree-requires
@@ -20,4 +21,4 @@ returns-clause-rows c = λ d table.
 
 pub returns-clause-outputs : goal.returns-clause-outputs
 returns-clause-outputs c =
-    AreNumbers-kept _ _ _ _ c.in_ok-add_tree.ensures.grows.places (subst (λ (k : Known). AreNumbers k.places c.in_ok-ends.ends.outputs (output_places c.args.body.now)) (sym c.in_ok-give.ensures.places) c.in_ok-ends.ensures.value.outputs_are)
+    AreNumbers-kept _ _ c.in_ok-add_tree.ensures.grows.places _ _ (subst (λ (k : Known). AreNumbers k.places c.in_ok-ends.ends.outputs (output_places c.args.body.now)) (sym c.in_ok-give.ensures.places) c.in_ok-ends.ensures.value.outputs_are)

@@ -1,4 +1,4 @@
-use Rattle.std.proofs.Common.{◌≡◌, sym, subst, Some, slice_get}
+use Rattle.std.proofs.Common.{◌≡◌, sym, subst, None, Some, slice_get}
 use Rattle.flat_net.specs.Keys.{Fits}
 use Rattle.flat_net.proofs.Results.{on_ok, if_ok}
 use Rattle.flat_net.specs.declared.places.SpotKey.{SpotKey}
@@ -16,14 +16,14 @@ pub invariant_of-self-2 : goal.invariant_of-self-2
 invariant_of-self-2 c =
     let keeps = Keeps-named c.self.inside.names c.intern.new.self _ c.in_ok-name.ensures.names in
     let distinct = distinct-named c.self.inside.names c.intern.new.self _ c.in_ok-name.ensures.names c.self.invariant.names_apart in
-    let key : SpotKey = record { path = c.args.path; name = c.in_ok-name.field-0.index; at = c.args.at } in
+    let key : SpotKey = record { path = c.args.path; name = c.in_ok-name.field-0.index; address = None; at = c.args.at } in
     spot_fits _ _ _ _ _ c.self.invariant keeps distinct c.args.self.now c.self.view_is key c.in_ok-index.ensures.keys c.requires.in_range c.in_ok-name.ensures.within
 
 pub returns : goal.returns
 returns c =
     let keeps = Keeps-named c.self.inside.names c.intern.new.self _ c.in_ok-name.ensures.names in
     let distinct = distinct-named c.self.inside.names c.intern.new.self _ c.in_ok-name.ensures.names c.self.invariant.names_apart in
-    let key : SpotKey = record { path = c.args.path; name = c.in_ok-name.field-0.index; at = c.args.at } in
+    let key : SpotKey = record { path = c.args.path; name = c.in_ok-name.field-0.index; address = None; at = c.args.at } in
     let extends = spot_extends _ _ _ _ _ c.self.invariant keeps distinct c.args.self.now c.self.view_is key c.in_ok-index.ensures.keys in
     let stands = spot_stands _ _ _ _ _ c.self.invariant keeps distinct c.args.self.now c.self.view_is key c.in_ok-index.ensures.keys c.args.name.now in
     let there = spot_there _ key c.in_ok-index.index c.in_ok-index.ensures.stored in

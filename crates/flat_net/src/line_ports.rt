@@ -1,0 +1,256 @@
+//! The lines of processes that write a memory, as write ports.
+
+ghost use Rattle.std.specs.Prelude.{◌≡◌, ◌+◌, ◌<◌, ◌++◌, ◌==◌, ◌∷◌, ◌||◌, [], ℕ, List, false, IfOk, OnOk, if◌then◌else◌, length, map, option_map, slice_index_or};
+ghost use Rattle.rtl_bits.specs.Numbers.{is_one};
+ghost use Rattle.net_model.specs.Mem.Gather.{write_port};
+ghost use Rattle.rtl_ir.specs.declared.process.Event.{Event};
+ghost use Rattle.rtl_ir.specs.declared.process.WriteLine.{WriteLine};
+ghost use Rattle.rtl_ir.specs.Flat.Access.{line_access, line_accesses, line_follows, line_mask, rule_accesses, write_trigger};
+ghost use Rattle.flat_net.specs.Accesses.{event_of, have_line, next_of, rules_of};
+ghost use Rattle.flat_net.specs.Registers.{trigger_of};
+
+use crate::registers::Trigger;
+use crate::values::value_bits;
+use cell_types::Level;
+use rtl_bits::{Bit, Bits, Copied, Memory, Seq};
+use rtl_ir::{Event, Process, SyncRule, WriteLine, WritePort};
+use std::alloc::Global;
+
+/// The first number behind those of the ports. One of 2^32 is taken for want of memory.
+pub(crate) fn next_number(ports: &[WritePort]) -> Result<u32, Memory>
+    ensures value { IfOk result (λ next. next ≡ next_of ports.now) }
+{
+    let mut next = 0;
+    for at in (0..ports.len()).rev() {
+        next = ports[at].number.checked_add(1).ok_or(Memory)?.max(next);
+    }
+    Ok(next)
+}
+
+/// The number of so many ports behind a number. More than 2^32 are taken for want of memory.
+fn number_behind(number: u32, count: usize) -> Result<u32, Memory>
+    ensures value { IfOk result (λ behind. behind ≡ number + count) }
+{
+    let count = u32::try_from(count).ok().ok_or(Memory)?;
+    number.checked_add(count).ok_or(Memory)
+}
+
+/// The lines that write the memory of this name, as ports numbered from here on.
+pub(crate) fn line_ports(
+    alloc: Global,
+    name: &[u8],
+    number: u32,
+    processes: &[Process],
+) -> Result<Vec<WritePort>, Memory>
+    ensures value { IfOk result (λ ports. ports.items ≡ map write_port (rule_accesses name.now number (rules_of processes.now))) }
+{
+    let mut ports = Vec::new(alloc);
+    for process in processes {
+        put_rules(alloc, name, number, process.syncs.as_slice(), &mut ports)?;
+    }
+    Ok(ports)
+}
+
+/// Puts the lines of the rules that write the memory last.
+fn put_rules(
+    alloc: Global,
+    name: &[u8],
+    number: u32,
+    rules: &[SyncRule],
+    ports: &mut Vec<WritePort>,
+) -> Result<(), Memory>
+    ensures ok { OnOk result (ports.new.items ≡ ports.old.items ++ map write_port (rule_accesses name.now (number + length ports.old.items) rules.now)) }
+{
+    for rule in rules {
+        put_lines(alloc, name, number, rule.writes.as_slice(), ports)?;
+    }
+    Ok(())
+}
+
+/// Puts the lines of a rule that write the memory last.
+fn put_lines(
+    alloc: Global,
+    name: &[u8],
+    number: u32,
+    lines: &[WriteLine],
+    ports: &mut Vec<WritePort>,
+) -> Result<(), Memory>
+    ensures ok { (event : Event) → OnOk result (ports.new.items ≡ ports.old.items ++ map write_port (line_accesses name.now event (number + length ports.old.items) [] lines.now)) }
+{
+    let mut before = Vec::new(alloc);
+    for line in lines {
+        put_line(alloc, name, number, line, &mut before, ports)?;
+    }
+    Ok(())
+}
+
+/// Puts a line last among the lines of its rule, and where it writes the memory last among the ports.
+fn put_line(
+    alloc: Global,
+    name: &[u8],
+    number: u32,
+    line: &WriteLine,
+    before: &mut Vec<Option<u32>>,
+    ports: &mut Vec<WritePort>,
+) -> Result<(), Memory>
+    ensures ok { (event : Event) (rest : List WriteLine) → OnOk result (
+        ports.old.items ++ map write_port (line_accesses name.now event (number + length ports.old.items) before.old.items (line.now ∷ rest))
+        ≡ ports.new.items ++ map write_port (line_accesses name.now event (number + length ports.new.items) before.new.items rest)) }
+{
+    if name == line.memory.as_slice() {
+        let at = number_behind(number, ports.len())?;
+        let port = line_port(alloc, at, before.as_slice(), line)?;
+        ports.push(port)?;
+        before.push(Some(at))?;
+        return Ok(());
+    }
+    before.push(None)?;
+    Ok(())
+}
+
+/// A line as the port of a number, behind these lines of its rule.
+fn line_port(
+    alloc: Global,
+    number: u32,
+    before: &[Option<u32>],
+    line: &WriteLine,
+) -> Result<WritePort, Memory>
+    ensures value { (event : Event) → IfOk result (λ port. port ≡ write_port (line_access event number before.now line.now)) }
+{
+    let mask = value_bits(alloc, &line.mask)?;
+    Ok(WritePort {
+        number,
+        address: line.address.copy()?,
+        data: line.value.copy()?,
+        enable: line.enable.copy()?,
+        mask: line_mask(alloc, number, before, mask.as_slice())?,
+    })
+}
+
+/// The mask of a line as that of a port of this number: a bit for each number before it, at least one bit.
+fn line_mask(
+    alloc: Global,
+    number: u32,
+    before: &[Option<u32>],
+    mask: &[Bit],
+) -> Result<Bits, Memory>
+    ensures value { IfOk result (λ bits. bits ≡ line_mask number before.now mask.now) }
+{
+    let count = number.max(1) as usize;
+    let marks = followed(alloc, count, before, mask)?;
+    let mut bits = Vec::with_capacity(alloc, count)?;
+    for port in 0..count {
+        bits.push(mask_bit(marks[port]))?;
+    }
+    Ok(Seq::from_vec(bits))
+}
+
+/// Which of so many ports a line may follow: of the earlier lines of its rule those that are ports, where the bit of the
+/// mask is set.
+fn followed(
+    alloc: Global,
+    count: usize,
+    before: &[Option<u32>],
+    mask: &[Bit],
+) -> Result<Vec<bool>, Memory>
+    ensures length { IfOk result (λ marks. length marks.items ≡ count) }
+    ensures value { IfOk result (λ marks. (k : ℕ) → k < count → slice_index_or marks.items k false ≡ line_follows k before.now mask.now) }
+{
+    let mut marks = vec![in alloc; false; count]?;
+    for at in 0..before.len().min(mask.len()) {
+        put_mark(&mut marks, before[at], mask[at]);
+    }
+    Ok(marks)
+}
+
+/// Marks the port that an earlier line is, where it is one of the ports and the bit of the mask is set.
+fn put_mark(marks: &mut Vec<bool>, port: Option<u32>, bit: Bit)
+    ensures marks { (k : ℕ) → k < length marks.old.items → slice_index_or marks.new.items k false ≡ (line_follows k (port ∷ []) (bit ∷ []) || slice_index_or marks.old.items k false) }
+    ensures length { length marks.new.items ≡ length marks.old.items }
+{
+    if let Some(number) = port {
+        if is_one(bit) {
+            mark(marks, number);
+        }
+    }
+}
+
+/// Whether a bit is 1.
+fn is_one(bit: Bit) -> bool
+    ensures value { result ≡ is_one bit }
+{
+    matches!(bit, Bit::S1)
+}
+
+/// Marks the number, where it is one of the numbers.
+fn mark(marks: &mut Vec<bool>, number: u32)
+    ensures marks { (k : ℕ) → k < length marks.old.items → slice_index_or marks.new.items k false ≡ ((number == k) || slice_index_or marks.old.items k false) }
+    ensures length { length marks.new.items ≡ length marks.old.items }
+{
+    if let Some(mark) = marks.get_mut(number as usize) {
+        *mark = true;
+    }
+}
+
+/// The bit of a mark.
+fn mask_bit(mark: bool) -> Bit
+    ensures value { result ≡ (if mark then Bit.S1 else Bit.S0) }
+{
+    if mark { Bit::S1 } else { Bit::S0 }
+}
+
+/// The event of the first rule with a line that writes the memory of this name.
+pub(crate) fn first_event<'a>(name: &[u8], processes: &'a [Process]) -> Option<&'a Event>
+    ensures value { option_map (λ e. e.now) result ≡ event_of name.now (rules_of processes.now) }
+{
+    for process in processes {
+        if let Some(event) = first_rule(name, process.syncs.as_slice()) {
+            return Some(event);
+        }
+    }
+    None
+}
+
+/// The event of the first of the rules with a line that writes the memory.
+fn first_rule<'a>(name: &[u8], rules: &'a [SyncRule]) -> Option<&'a Event>
+    ensures value { option_map (λ e. e.now) result ≡ event_of name.now rules.now }
+{
+    for rule in rules {
+        if writes(name, rule.writes.as_slice()) {
+            return Some(&rule.event);
+        }
+    }
+    None
+}
+
+/// Whether one of the lines writes the memory.
+fn writes(name: &[u8], lines: &[WriteLine]) -> bool
+    ensures value { result ≡ have_line name.now lines.now }
+{
+    for line in lines {
+        if name == line.memory.as_slice() {
+            return true;
+        }
+    }
+    false
+}
+
+/// The edge at which the lines of a rule write.
+pub(crate) fn write_trigger(event: &Event) -> Trigger<'_>
+    ensures value { trigger_of result ≡ write_trigger event.now }
+{
+    match event {
+        Event::Posedge(signal) => Trigger {
+            signal: signal.as_slice(),
+            level: Level::High,
+        },
+        Event::Negedge(signal) => Trigger {
+            signal: signal.as_slice(),
+            level: Level::Low,
+        },
+        _ => Trigger {
+            signal: &[],
+            level: Level::Low,
+        },
+    }
+}

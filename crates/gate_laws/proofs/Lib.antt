@@ -1,0 +1,5 @@
+pub mod Changes
+pub mod Sweeping
+pub mod Keeping
+pub mod Rounding
+pub mod Netlists

@@ -1,0 +1,4 @@
+//! What the passes of `opt` leave of a netlist of gates.
+#![tactic(auto)]
+
+pub mod laws;

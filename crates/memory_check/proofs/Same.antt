@@ -1,0 +1,118 @@
+-- Equal clockings are one.
+use Rattle.std.proofs.Common.{◌≡◌, ℕ, suc, ◌+◌, ◌<◌, ◌≤◌, Bool, true, false, ◌&&◌, List, [], ◌∷◌, length, map, get_or, drop, refl, sym, ◌∙◌, ap, subst, add-one}
+use Rattle.std.proofs.Math.Seq.{drop-cons}
+use Rattle.std.proofs.lemmas.Bool.{false≢true, and_parts, eqb-true, eq-eqb}
+use Rattle.std.proofs.lemmas.List.{drop_all}
+use Rattle.std.specs.Bool.{Decides, one_answer}
+use Rattle.std.specs.Cmp.Lexicographic.{pointwise_decides}
+use Rattle.rtl_bits.specs.declared.bit.Bit.{Bit}
+use Rattle.rtl_bits.specs.declared.bit.Bit.TheVariants.{S0, S1, X, Z, M, Dash}
+use Rattle.rtl_sig.specs.declared.sig.SigBit.{SigBit}
+use Rattle.rtl_sig.specs.declared.sig.SigBit.TheVariants as sig
+use Rattle.rtl_sig.specs.declared.sig.WireBit.{WireBit}
+use Rattle.rtl_ir.specs.Signals.{same_bit}
+use Rattle.rtl_ir.specs.WritePorts.{Clocking, same_clocking, same_flag, same_place, same_signal, same_value}
+
+value_same : (a b : Bit) → same_value a b ≡ true → a ≡ b
+value_same S0 S0 e = refl
+value_same S1 S1 e = refl
+value_same X X e = refl
+value_same Z Z e = refl
+value_same M M e = refl
+value_same Dash Dash e = refl
+value_same a b e = absurd (false≢true e)
+
+value_own : (a : Bit) → same_value a a ≡ true
+value_own S0 = refl
+value_own S1 = refl
+value_own X = refl
+value_own Z = refl
+value_own M = refl
+value_own Dash = refl
+
+bit_same : (a b : WireBit) → same_bit a b ≡ true → a ≡ b
+bit_same a b e =
+    let p = and_parts _ _ e in
+    let wire = eqb-true a.wire b.wire p.0 in
+    let at = eqb-true a.at b.at p.1 in
+    (λ i. record { wire = wire i; at = at i })
+
+place_same : (a b : SigBit) → same_place a b ≡ true → a ≡ b
+place_same (sig.Fixed a) (sig.Fixed b) e = ap sig.Fixed (value_same a b e)
+place_same (sig.Wire a) (sig.Wire b) e = ap sig.Wire (bit_same a b e)
+place_same (sig.Fixed a) (sig.Wire b) e = absurd (false≢true e)
+place_same (sig.Wire a) (sig.Fixed b) e = absurd (false≢true e)
+
+place_own : (a : SigBit) → same_place a a ≡ true
+place_own (sig.Fixed a) = value_own a
+place_own (sig.Wire a) = rw (eq-eqb a.wire a.wire refl, eq-eqb a.at a.at refl) refl
+
+pub place-decides : (a b : SigBit) → Decides (same_place a b) (a ≡ b)
+place-decides a b = (place_same a b, λ e. subst (λ c. same_place a c ≡ true) e (place_own a))
+
+signal-decides : (a b : List SigBit) → Decides (same_signal a b) (a ≡ b)
+signal-decides = pointwise_decides place-decides
+
+flag_same : (a b : Bool) → same_flag a b ≡ true → a ≡ b
+flag_same true true e = refl
+flag_same false false e = refl
+flag_same true false e = absurd (false≢true e)
+flag_same false true e = absurd (false≢true e)
+
+-- the same edge of the same clock is one clocking
+pub clocking_same : (a b : Clocking) → same_clocking a b ≡ true → a ≡ b
+clocking_same a b e =
+    let p = and_parts (same_signal a.clock b.clock) (same_flag a.rising b.rising) e in
+    let clock = (signal-decides a.clock b.clock).0 p.0 in
+    let rising = flag_same a.rising b.rising p.1 in
+    (λ i. record { clock = clock i; rising = rising i })
+
+front : {A : Type 0} (items : List A) (k : ℕ) (d x : A) → k < length items → x ≡ get_or items k d → drop k items ≡ x ∷ drop (k + 1) items
+front items k d x lt is =
+    let next : suc k ≡ k + 1 = sym (add-one k) in
+    drop-cons items k d lt ∙ (λ j. sym is j ∷ drop (next j) items)
+
+-- two signals that lead to the same places, place by place
+pub signal_front : (f : SigBit → SigBit) (xs ys : List SigBit) (k : ℕ) (d x y : SigBit) → k < length xs → k < length ys → x ≡ get_or xs k d → y ≡ get_or ys k d
+    → same_signal (map f (drop k xs)) (map f (drop k ys)) ≡ (same_place (f x) (f y) && same_signal (map f (drop (k + 1) xs)) (map f (drop (k + 1) ys)))
+signal_front f xs ys k d x y lx ly ix iy = λ i. same_signal (map f (front xs k d x lx ix i)) (map f (front ys k d y ly iy i))
+
+-- signals of different lengths lead to different places
+pub signals_unlike : (f : SigBit → SigBit) (xs ys : List SigBit) → (length xs ≡ length ys → ⊥) → same_signal (map f xs) (map f ys) ≡ false
+signals_unlike f [] [] n = absurd (n refl)
+signals_unlike f [] (y ∷ ys) n = refl
+signals_unlike f (x ∷ xs) [] n = refl
+signals_unlike f (x ∷ xs) (y ∷ ys) n =
+    (λ i. same_place (f x) (f y) && signals_unlike f xs ys (λ e. n (ap suc e)) i) ∙ by (same_place (f x) (f y))
+  where
+    by : (b : Bool) → (b && false) ≡ false
+    by true = refl
+    by false = refl
+
+module _ (f : SigBit → SigBit) (xs ys : List SigBit) (k : ℕ) (all : Bool) (so_far : same_signal (map f (drop k xs)) (map f (drop k ys)) ≡ all) where
+  module _ (d : SigBit) (lx : k < length xs) (ly : k < length ys) (same : Bool) (equal : same ≡ true → f (get_or xs k d) ≡ f (get_or ys k d)) (complete : f (get_or xs k d) ≡ f (get_or ys k d) → same ≡ true) where
+    x : SigBit
+    x = get_or xs k d
+
+    y : SigBit
+    y = get_or ys k d
+
+    place_is : same ≡ same_place (f x) (f y)
+    unfolding x y
+    place_is = one_answer same (same_place (f x) (f y)) (equal, complete) (place-decides (f x) (f y))
+
+    split : (same && same_signal (map f (drop (k + 1) xs)) (map f (drop (k + 1) ys))) ≡ all
+    unfolding x y
+    split = (λ i. place_is i && same_signal (map f (drop (k + 1) xs)) (map f (drop (k + 1) ys))) ∙ sym (signal_front f xs ys k d x y lx ly refl refl) ∙ so_far
+
+    -- a place that differs
+    pub place_differs : same ≡ false → false ≡ all
+    place_differs e = (λ i. sym e i && same_signal (map f (drop (k + 1) xs)) (map f (drop (k + 1) ys))) ∙ split
+
+    -- a place that is the same
+    pub place_agrees : same ≡ true → same_signal (map f (drop (k + 1) xs)) (map f (drop (k + 1) ys)) ≡ all
+    place_agrees e = (λ i. sym e i && same_signal (map f (drop (k + 1) xs)) (map f (drop (k + 1) ys))) ∙ split
+
+  -- all places are the same
+  pub places_end : length xs ≤ k → length ys ≤ k → true ≡ all
+  places_end px py = (λ i. same_signal (map f (sym (drop_all k xs px) i)) (map f (sym (drop_all k ys py) i))) ∙ so_far
