@@ -1,5 +1,5 @@
 #!/bin/sh
-# Time and memory of `proc opt memory opt techmap opt`, the whole program, beside the passes of Yosys for such texts where that
+# Time and memory of `proc opt fsm opt memory opt techmap opt`, the whole program, beside the passes of Yosys for such texts where that
 # is installed: over a text of modules of `$and` and `$xor` cells, and over one module of gates.
 # usage: bench/opt.sh [BYTES [GATES]]      60,000,000 bytes and 100,000 gates without numbers
 set -eu

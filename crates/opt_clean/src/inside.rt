@@ -11,7 +11,7 @@ use rtl_ir::{Cell, Link, Module, Pin, Wire};
 use rtl_sig::{SigBit, WireBit};
 
 /// Whether each bit that the module's cells and connections name is one of its wires.
-pub(crate) fn is_all_inside(module: &Module) -> bool
+pub fn is_all_inside(module: &Module) -> bool
     ensures value { result ≡ is_all_inside «module».now }
 {
     let wires = module.wires.as_slice();

@@ -27,7 +27,7 @@ ghost use Rattle.opt_clean.specs.Linked.{IsOnce};
 ghost use Rattle.opt_clean.specs.Wires.{trimmed};
 
 use crate::followed::followed_cells;
-use crate::inside::is_all_inside;
+pub use crate::inside::is_all_inside;
 use crate::keep::shown_wires;
 use crate::kept::kept_marks;
 use crate::links::links_of;

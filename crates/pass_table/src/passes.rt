@@ -2,7 +2,6 @@
 
 ghost use Rattle.std.specs.Prelude.{◌≡◌, ◌<◌, [], ◌∷◌, IfOk, length, true};
 ghost use Rattle.rtl_trip.specs.Readable.{IsReadable};
-ghost use Rattle.script_core.specs.Fold.{HasPass, IsStageScript};
 ghost use Rattle.script_core.specs.declared.word.Word.TheVariants.{Proc};
 
 use rtl_bits::{Copied, Memory, Seq, Steps};
@@ -15,18 +14,19 @@ use std::alloc::Global;
 /// The name of the counter of builds.
 struct Builds;
 
-/// The words that have a pass, by their names.
-const WORDS: [(&str, Word); 7] = [
+/// The words, by their names.
+const WORDS: [(&str, Word); 8] = [
     ("proc", Word::Proc),
     ("opt_expr", Word::OptExpr),
     ("opt_merge", Word::OptMerge),
     ("opt_clean", Word::OptClean),
     ("opt", Word::Opt),
+    ("fsm", Word::Fsm),
     ("memory", Word::Memory),
     ("techmap", Word::Techmap),
 ];
 
-/// The word of this name, where it is one of those that have a pass.
+/// The word of this name.
 fn word_of(name: &[u8]) -> Option<Word> {
     for (own, word) in WORDS {
         if own.as_bytes() == name {
@@ -34,22 +34,6 @@ fn word_of(name: &[u8]) -> Option<Word> {
         }
     }
     None
-}
-
-/// Whether the word has a pass.
-fn has_pass(word: Word) -> bool
-    ensures there { result ≡ true → HasPass word }
-{
-    match word {
-        Word::Proc
-        | Word::OptExpr
-        | Word::OptMerge
-        | Word::OptClean
-        | Word::Opt
-        | Word::Memory
-        | Word::Techmap => true,
-        Word::Fsm => false,
-    }
 }
 
 /// The script of `proc` and the word.
@@ -70,7 +54,6 @@ fn module_after(
 ) -> Result<Option<Module>, Memory>
     requires readable { IsReadable design.now.design }
     requires in_range { at < length design.now.design.modules }
-    requires stage { IsStageScript script.now }
 {
     let key = key_of(alloc, design, at, script)?;
     let mut meter = Steps::make(&Builds);
@@ -88,7 +71,6 @@ fn module_after(
 /// The design after the script, module by module.
 fn design_after(alloc: Global, design: &Checked, script: &Script) -> Result<Option<Design>, Memory>
     requires readable { IsReadable design.now.design }
-    requires stage { IsStageScript script.now }
 {
     let mut modules = Seq::make(alloc);
     for at in 0..design.design().modules.as_slice().len() as u32 {
@@ -103,7 +85,6 @@ fn design_after(alloc: Global, design: &Checked, script: &Script) -> Result<Opti
 /// The design after `proc` and the word, where the design has no fault.
 fn checked_after(alloc: Global, design: Design, word: Word) -> Result<Option<Design>, Memory>
     requires readable { IsReadable design }
-    requires there { HasPass word }
 {
     let script = script_of(alloc, word)?;
     match check(alloc, design) {
@@ -118,9 +99,6 @@ pub fn netlist_of(alloc: Global, text: &[u8], name: &[u8]) -> Result<Option<Desi
     let Some(word) = word_of(name) else {
         return Ok(None);
     };
-    if !has_pass(word) {
-        return Ok(None);
-    }
     match read(alloc, text) {
         Ok(design) => checked_after(alloc, design, word),
         Err(ReadFault::Memory) => Err(Memory),

@@ -16,14 +16,14 @@ use Rattle.rtl_write.specs.Text.{text_of}
 use Rattle.net_model.specs.Gates.{is_gate_netlist}
 use Rattle.net_model.specs.Refine.{Refines}
 use Rattle.script_core.specs.Cold.{cold, outcome_of}
-use Rattle.script_core.specs.Fold.{IsStageScript}
+use Rattle.script_core.specs.Fold.{StartsWithProc}
 use Rattle.script_core.proofs.Refining.{cold_gates, cold_refines}
 use Rattle.rtlsyn.specs.declared.over.Overrun.{Overrun}
 use Rattle.rtlsyn.specs.declared.program.Mode.{Mode}
 use Rattle.rtlsyn.specs.declared.program.Mode.TheVariants.{Synth}
 use Rattle.rtlsyn.specs.declared.reply.Reply.{Reply}
 use Rattle.rtlsyn.specs.Said.{said_of}
-use Rattle.rtlsyn.specs.Cold.{stage_script, done_modules, first_over}
+use Rattle.rtlsyn.specs.Cold.{default_script, done_modules, first_over}
 use Rattle.rtlsyn.specs.Replies.{Said, outcomes_reply, cold_reply, checked_reply, design_reply, fault_reply, IsTextReply, IsInputReply, IsReply, IsRefinedBy}
 use Rattle.rtlsyn.proofs.ColdLemmas.{none_over}
 
@@ -51,27 +51,27 @@ no_fault : (all : List Fault) → first_answer all ≡ None → all ≡ []
 no_fault [] e = refl
 no_fault (fault ∷ all) e = absurd cc
 
--- each word of the script has a pass
-stage : IsStageScript stage_script
-stage = (refl, (tt, (tt, (tt, (tt, (tt, tt))))))
+-- the script starts with `proc`
+stage : StartsWithProc default_script
+stage = refl
 
 -- the reply to a design without faults
 of_cold : (input : List ℕ) (d : Design) → Reads input d → check_faults d.modules ≡ [] → (cold_reply d).error ≡ false → IsNetlistText input (cold_reply d).text
 unfolding cold_reply
-of_cold input d reads fine = by (first_over d.modules (cold stage_script d)) refl
+of_cold input d reads fine = by (first_over d.modules (cold default_script d)) refl
   where
-    by : (o : Option Overrun) → first_over d.modules (cold stage_script d) ≡ o → (outcomes_reply d (cold stage_script d) o).error ≡ false → IsNetlistText input (outcomes_reply d (cold stage_script d) o).text
+    by : (o : Option Overrun) → first_over d.modules (cold default_script d) ≡ o → (outcomes_reply d (cold default_script d) o).error ≡ false → IsNetlistText input (outcomes_reply d (cold default_script d) o).text
     by None e h =
-        let n : Design = record { modules = done_modules (cold stage_script d) } in
-        let run = none_over (outcome_of stage_script d.modules) d.modules e in
+        let n : Design = record { modules = done_modules (cold default_script d) } in
+        let run = none_over (outcome_of default_script d.modules) d.modules e in
         record {
           design = d;
           netlist = n;
           reads = reads;
           faultless = fine;
           whole = refl;
-          refines = cold_refines d (readable input d reads) fine stage_script stage n run;
-          gates = cold_gates d (readable input d reads) fine stage_script stage refl n run;
+          refines = cold_refines d (readable input d reads) fine default_script stage n run;
+          gates = cold_gates d (readable input d reads) fine default_script stage refl n run;
         }
     by (Some over) e h = absurd cc
 

@@ -24,7 +24,7 @@ use Rattle.rtlsyn.specs.declared.program.Mode.TheVariants.{Synth}
 use Rattle.rtlsyn.specs.declared.program.Status.{Status}
 use Rattle.rtlsyn.specs.declared.program.Status.TheVariants as statuses
 use Rattle.rtlsyn.specs.declared.over.Overrun.{Overrun}
-use Rattle.rtlsyn.specs.Cold.{done_modules, first_over, key_count, stage_script}
+use Rattle.rtlsyn.specs.Cold.{done_modules, first_over, key_count, default_script}
 
 -- a reply, and whether it is an error
 pub record Said : Type 0 where
@@ -72,11 +72,11 @@ over_words over built modules =
 abbrev pub outcomes_reply : Design → List Outcome → Option Overrun → Said
 outcomes_reply design outcomes None = record { text = text_of (record { modules = done_modules outcomes }); error = false }
 outcomes_reply design outcomes (Some over) =
-    error_line (codes "20") (over_words over (key_count stage_script design) (length design.modules))
+    error_line (codes "20") (over_words over (key_count default_script design) (length design.modules))
 
 -- the reply to a design without faults: that to its cold run
 unfoldable pub cold_reply : Design → Said
-cold_reply design = outcomes_reply design (cold stage_script design) (first_over design.modules (cold stage_script design))
+cold_reply design = outcomes_reply design (cold default_script design) (first_over design.modules (cold default_script design))
 
 -- the reply to a design: that to its cold run, or its first fault
 abbrev pub checked_reply : Design → Option CheckFault → Said

@@ -1,12 +1,11 @@
-//! The script of this stage over a design.
+//! The default script over a design.
 
 ghost use Rattle.std.specs.Prelude.{◌≡◌, ◌<◌, IfOk, Some, length, slice_get};
 ghost use Rattle.rtl_ir.specs.declared.module.Module.{Module};
 ghost use Rattle.rtl_trip.specs.Readable.{IsReadable};
 ghost use Rattle.script_core.specs.Cold.{cold, named, outcome_of};
-ghost use Rattle.script_core.specs.Fold.{IsStageScript};
 ghost use Rattle.rtlsyn.specs.Builds.{RisesUpTo};
-ghost use Rattle.rtlsyn.specs.Cold.{done_modules, stage_script};
+ghost use Rattle.rtlsyn.specs.Cold.{done_modules, default_script};
 
 use rtl_bits::{Copied, Memory, Seq, Steps, Text};
 use rtl_check::Checked;
@@ -14,12 +13,14 @@ use rtl_ir::Module;
 use script_core::{Outcome, Script, Word, build, key_of};
 use std::alloc::Global;
 
-/// The script of this stage.
-#[tactic(auto, using(crate::proofs::ColdLemmas::one_word, crate::proofs::ColdLemmas::two_words, crate::proofs::ColdLemmas::three_words, crate::proofs::ColdLemmas::four_words, crate::proofs::ColdLemmas::is_script))]
-pub fn stage_script(alloc: Global) -> Result<Script, Memory>
-    ensures value { IfOk result (λ script. script ≡ stage_script) }
+/// The default script.
+#[tactic(auto, using(crate::proofs::ColdLemmas::one_word, crate::proofs::ColdLemmas::two_words, crate::proofs::ColdLemmas::three_words, crate::proofs::ColdLemmas::four_words, crate::proofs::ColdLemmas::five_words, crate::proofs::ColdLemmas::six_words, crate::proofs::ColdLemmas::is_script))]
+pub fn default_script(alloc: Global) -> Result<Script, Memory>
+    ensures value { IfOk result (λ script. script ≡ default_script) }
 {
     let mut script = Script::make(alloc)?;
+    script.push(Word::Opt)?;
+    script.push(Word::Fsm)?;
     script.push(Word::Opt)?;
     script.push(Word::Memory)?;
     script.push(Word::Opt)?;
@@ -60,7 +61,6 @@ fn outcome_at<L>(
 ) -> Result<Outcome, Memory>
     requires readable { IsReadable design.now.design }
     requires in_range { at < length design.now.design.modules }
-    requires stage { IsStageScript script.now }
     ensures value { IfOk result (λ outcome. («module» : Module) → slice_get design.now.design.modules at ≡ Some «module» →
         outcome ≡ outcome_of script.now design.now.design.modules «module») }
     ensures builds { RisesUpTo 1 meter.old meter.new }
@@ -80,7 +80,6 @@ pub fn outcomes_of<L>(
     meter: &mut Steps<L>,
 ) -> Result<Seq<Outcome>, Memory>
     requires readable { IsReadable design.now.design }
-    requires stage { IsStageScript script.now }
     ensures value { IfOk result (λ outcomes. outcomes ≡ cold script.now design.now.design) }
     ensures builds { RisesUpTo (length design.now.design.modules) meter.old meter.new }
 {

@@ -7,11 +7,11 @@ ghost use Rattle.rtl_trip.specs.Readable.{IsReadable};
 ghost use Rattle.rtl_check.specs.Words.{fault_number, fault_words};
 ghost use Rattle.rtl_write.specs.Text.{text_of};
 ghost use Rattle.rtlsyn.specs.Builds.{CountsBuilds, RisesUpTo};
-ghost use Rattle.rtlsyn.specs.Cold.{done_modules, key_count, stage_script};
+ghost use Rattle.rtlsyn.specs.Cold.{done_modules, key_count, default_script};
 ghost use Rattle.rtlsyn.specs.Replies.{cold_reply, error_line, fault_reply, design_reply, over_words, IsTextReply};
 ghost use Rattle.rtlsyn.specs.Said.{said_of};
 
-use crate::cold::{done_modules, module_count, outcomes_of, stage_script};
+use crate::cold::{default_script, done_modules, module_count, outcomes_of};
 use crate::over::{Overrun, first_over, key_count, over_words};
 use rtl_bits::{Memory, Seq, Steps, Text};
 use rtl_check::{CheckFault, Checked, check};
@@ -114,7 +114,7 @@ fn cold_reply<L>(alloc: Global, design: &Checked, meter: &mut Steps<L>) -> Resul
     ensures value { IfOk result (λ reply. said_of reply ≡ cold_reply design.now.design) }
     ensures builds { RisesUpTo (length design.now.design.modules) meter.old meter.new }
 {
-    let script = stage_script(alloc)?;
+    let script = default_script(alloc)?;
     let outcomes = outcomes_of(alloc, design, &script, meter)?;
     let modules = design.design().modules.as_slice();
     match first_over(modules, outcomes.as_slice())? {

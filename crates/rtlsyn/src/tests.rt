@@ -2,6 +2,7 @@
 
 mod faults;
 mod limits;
+mod machines;
 mod mapped_text;
 mod memories;
 mod memory_text;
@@ -122,7 +123,7 @@ fn fourth_texts_have_their_netlists(rt: HostRuntime) -> Result<(), Fail> {
 fn first_designs_become_gates(rt: HostRuntime) -> Result<(), Fail> {
     assert_eq!(rt;
         run_rows(&rt, rt.alloc(), mapped_text::FIRST_ROWS)?,
-        (50, 50)
+        (42, 42)
     );
     Ok(())
 }
@@ -131,7 +132,7 @@ fn first_designs_become_gates(rt: HostRuntime) -> Result<(), Fail> {
 fn second_designs_become_gates(rt: HostRuntime) -> Result<(), Fail> {
     assert_eq!(rt;
         run_rows(&rt, rt.alloc(), mapped_text::SECOND_ROWS)?,
-        (45, 45)
+        (52, 52)
     );
     Ok(())
 }
@@ -140,7 +141,7 @@ fn second_designs_become_gates(rt: HostRuntime) -> Result<(), Fail> {
 fn third_designs_become_gates(rt: HostRuntime) -> Result<(), Fail> {
     assert_eq!(rt;
         run_rows(&rt, rt.alloc(), mapped_text::THIRD_ROWS)?,
-        (45, 45)
+        (46, 46)
     );
     Ok(())
 }

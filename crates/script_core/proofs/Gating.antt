@@ -27,7 +27,7 @@ use Rattle.proc_steps.specs.Limits.{is_within}
 use Rattle.script_core.specs.declared.outcome.Outcome.TheVariants.{Done}
 use Rattle.script_core.specs.declared.word.Word.{Word}
 use Rattle.script_core.specs.declared.word.Word.TheVariants.{Proc, OptExpr, OptMerge, OptClean, Opt, Fsm, Memory, Techmap}
-use Rattle.script_core.specs.Fold.{HavePasses, IsStageScript, MayGoOn, MayStart, after_word, fold_script, pass_of, techmap_within}
+use Rattle.script_core.specs.Fold.{StartsWithProc, MayGoOn, MayStart, after_word, fold_script, pass_of, techmap_within}
 use Rattle.script_core.specs.Mapping.{is_opt, maps_all, maps_last}
 use Rattle.script_core.proofs.Stepping.{GoesOn, given_word, still_none, word_goes}
 
@@ -80,11 +80,11 @@ module _ (table : PortTable) where
       by (Some k) e g = rest k e g
 
   -- behind a `memory`: a `techmap`, and then words of `opt`
-  behind_memory : (ws : List Word) (m n : Module) → HavePasses ws → MayGoOn table m → m.memories ≡ [] → maps_last ws ≡ true → fold_script ws table m ≡ Done n → HasGatesAlone n
-  behind_memory [] m n has h none e f = absurd cc
-  behind_memory (w ∷ ws) m n has h none e f =
+  behind_memory : (ws : List Word) (m n : Module) → MayGoOn table m → m.memories ≡ [] → maps_last ws ≡ true → fold_script ws table m ≡ Done n → HasGatesAlone n
+  behind_memory [] m n h none e f = absurd cc
+  behind_memory (w ∷ ws) m n h none e f =
       behind w ws m n
-      (λ k is g. let goes = word_goes table w m k has.0 (given_word table w m h) is in by w e k is (λ last. behind_memory ws k n has.1 goes.next (still_none table m k goes none) last g) g)
+      (λ k is g. let goes = word_goes table w m k (given_word table w m h) is in by w e k is (λ last. behind_memory ws k n goes.next (still_none table m k goes none) last g) g)
       f
     where
       by : (w : Word) → maps_last (w ∷ ws) ≡ true → (k : Module) → pass_of table w m ≡ Some k → (maps_last ws ≡ true → HasGatesAlone n) → fold_script ws table k ≡ Done n → HasGatesAlone n
@@ -99,11 +99,11 @@ module _ (table : PortTable) where
           ⊎_elim (λ only. tidied ws k n only (all_gates m k h none is) g) on (either (list_all is_opt ws) (maps_last ws) last)
 
   -- a `memory`, and so on
-  from_memory : (ws : List Word) (m n : Module) → HavePasses ws → MayGoOn table m → maps_all ws ≡ true → fold_script ws table m ≡ Done n → HasGatesAlone n
-  from_memory [] m n has h e f = absurd cc
-  from_memory (w ∷ ws) m n has h e f =
+  from_memory : (ws : List Word) (m n : Module) → MayGoOn table m → maps_all ws ≡ true → fold_script ws table m ≡ Done n → HasGatesAlone n
+  from_memory [] m n h e f = absurd cc
+  from_memory (w ∷ ws) m n h e f =
       behind w ws m n
-      (λ k is g. let goes = word_goes table w m k has.0 (given_word table w m h) is in by w e k is goes (λ all. from_memory ws k n has.1 goes.next all g) g)
+      (λ k is g. let goes = word_goes table w m k (given_word table w m h) is in by w e k is goes (λ all. from_memory ws k n goes.next all g) g)
       f
     where
       by : (w : Word) → maps_all (w ∷ ws) ≡ true → (k : Module) → pass_of table w m ≡ Some k → GoesOn table m k → (maps_all ws ≡ true → HasGatesAlone n) → fold_script ws table k ≡ Done n → HasGatesAlone n
@@ -115,13 +115,13 @@ module _ (table : PortTable) where
       by Fsm all k is goes on g = on all
       by Techmap all k is goes on g = on all
       by Memory all k is goes on g =
-          behind_memory ws k n has.1 goes.next (memory_gives table m h.ready h.named k is).memories all g
+          behind_memory ws k n goes.next (memory_gives table m h.ready h.named k is).memories all g
 
--- a script of this stage that maps all leaves gates and instances alone
-pub fold_gates : (script : List Word) (table : PortTable) (m n : Module) → IsStageScript script → maps_all script ≡ true → MayStart table m → fold_script script table m ≡ Done n → HasGatesAlone n
+-- a script that maps all leaves gates and instances alone
+pub fold_gates : (script : List Word) (table : PortTable) (m n : Module) → StartsWithProc script → maps_all script ≡ true → MayStart table m → fold_script script table m ≡ Done n → HasGatesAlone n
 fold_gates [] table m n is all h f = absurd is
 fold_gates (w ∷ ws) table m n is all h f =
-    by (subst (λ (v : Word). maps_all (v ∷ ws) ≡ true) is.0 all) (subst (λ (v : Word). fold_script (v ∷ ws) table m ≡ Done n) is.0 f)
+    by (subst (λ (v : Word). maps_all (v ∷ ws) ≡ true) is all) (subst (λ (v : Word). fold_script (v ∷ ws) table m ≡ Done n) is f)
   where
     by : maps_all (Proc ∷ ws) ≡ true → fold_script (Proc ∷ ws) table m ≡ Done n → HasGatesAlone n
-    by all f = behind table Proc ws m n (λ k made g. from_memory table ws k n is.1 (word_goes table Proc m k tt (inl h) made).next all g) f
+    by all f = behind table Proc ws m n (λ k made g. from_memory table ws k n (word_goes table Proc m k (inl h) made).next all g) f

@@ -29,7 +29,7 @@ use Rattle.script_core.specs.declared.outcome.Outcome.TheVariants.{Done}
 use Rattle.script_core.specs.declared.word.Word.{Word}
 use Rattle.script_core.specs.Built.{body_name, unnamed, IsValueOf}
 use Rattle.script_core.specs.Cold.{named, table_of, outcome_of, cold, IsNetlist}
-use Rattle.script_core.specs.Fold.{fold_script, IsStageScript}
+use Rattle.script_core.specs.Fold.{fold_script, StartsWithProc}
 use Rattle.script_core.specs.Keys.{key_of}
 use Rattle.script_core.proofs.BuildLemmas.{readable_in}
 use Rattle.script_core.proofs.Given.{given_first}
@@ -57,7 +57,7 @@ refines_over b c ports over agrees h = record {
 
 -- ---- modules of accepted designs
 
-module _ (d : Design) (readable : IsReadable d) (none : check_faults d.modules ≡ []) (script : List Word) (stage : IsStageScript script) where
+module _ (d : Design) (readable : IsReadable d) (none : check_faults d.modules ≡ []) (script : List Word) (stage : StartsWithProc script) where
   -- the module of a design under any name, and what the script makes of it
   module_step : (m : Module) → In m d.modules → (name : List ℕ) (n : Module) → fold_script script (table_of d.modules m) (record m { id = name }) ≡ Done n → IsStep (table_of d.modules m) (record m { id = name }) n
   module_step m i name n e =
@@ -140,7 +140,7 @@ module _ (d : Design) (readable : IsReadable d) (at : ℕ) (m : Module) (here : 
   value_named outcome h = ap (named m.id) (value_is outcome h)
 
   -- which refines it
-  pub value_refines : check_faults d.modules ≡ [] → IsStageScript script → (after : Module) → IsValueOf (key_of d.modules at script) (Done after) → (name : List ℕ)
+  pub value_refines : check_faults d.modules ≡ [] → StartsWithProc script → (after : Module) → IsValueOf (key_of d.modules at script) (Done after) → (name : List ℕ)
       → RefinesIn (record m { id = name }) (record after { id = name }) (table_of d.modules m)
   value_refines none stage after h name =
       let e : fold_script script (table_of d.modules m) (record m { id = name }) ≡ Done (record after { id = name }) =

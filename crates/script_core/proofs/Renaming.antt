@@ -20,6 +20,7 @@ use Rattle.script_core.specs.declared.word.Word as words
 use Rattle.script_core.specs.declared.word.Word.TheVariants.{Proc, OptExpr, OptMerge, OptClean, Opt, Fsm, Memory, Techmap}
 use Rattle.script_core.specs.Cold.{named}
 use Rattle.proc_steps.specs.Limits.{is_within}
+use Rattle.fsm_steps.proofs.Renaming.{fsm_renamed}
 use Rattle.mem_steps.proofs.Renaming.{memory_renamed}
 use Rattle.proc_steps.proofs.Renaming.{proc_renamed}
 use Rattle.script_core.specs.Fold.{techmap_within, pass_of, after_word, fold_script}
@@ -102,7 +103,7 @@ module _ (id : List ℕ) where
   pass_renamed table OptMerge m = ap Some (merge_renamed m)
   pass_renamed table OptClean m = ap Some (clean_renamed (table_ports table.modules) m)
   pass_renamed table Opt m = ap Some (opt_renamed (table_ports table.modules) m)
-  pass_renamed table Fsm m = refl
+  pass_renamed table Fsm m = fsm_renamed id (table_ports table.modules) m
   pass_renamed table Memory m = memory_renamed id m
   pass_renamed table Techmap m = within_renamed m
 

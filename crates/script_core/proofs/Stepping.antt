@@ -10,6 +10,8 @@ use Rattle.rtl_ir.specs.declared.process.Process.{Process}
 use Rattle.rtl_ir.specs.declared.store.Store.{Store}
 use Rattle.net_model.specs.Lists.{Distinct}
 use Rattle.memory_laws.specs.Named.{HaveOwnNames}
+use Rattle.fsm_steps.specs.Within.{fsm_within}
+use Rattle.fsm_steps.proofs.Giving.{fsm_passes, fsm_stores}
 use Rattle.mem_steps.specs.Within.{memory_within}
 use Rattle.mem_steps.proofs.Giving.{memory_gives, memory_passes}
 use Rattle.std.specs.Prelude.{map}
@@ -34,7 +36,8 @@ use Rattle.tech_map.proofs.Standing.{swapped_children, swapped_is, swapped_ports
 use Rattle.script_core.specs.declared.outcome.Outcome.TheVariants.{Done}
 use Rattle.script_core.specs.declared.word.Word.{Word}
 use Rattle.script_core.specs.declared.word.Word.TheVariants.{Proc, OptExpr, OptMerge, OptClean, Opt, Fsm, Memory, Techmap}
-use Rattle.script_core.specs.Fold.{pass_of, after_word, fold_script, AfterWord, AreApplicable, HasPass, HavePasses, IsStageScript, MayBeGiven, MayGoOn, MayStart}
+use Rattle.script_core.specs.Words.{IsScript}
+use Rattle.script_core.specs.Fold.{pass_of, after_word, fold_script, AfterWord, AreApplicable, StartsWithProc, MayBeGiven, MayGoOn, MayStart}
 use Rattle.proc_steps.specs.Limits.{is_within}
 use Rattle.proc_steps.specs.Steps.{proc_result, proc_within}
 use Rattle.proc_steps.proofs.Limits.{within_limits}
@@ -124,6 +127,10 @@ memory_goes table m n h e =
       stores = inr (memory_gives table m h.ready h.named n e).memories;
     }
 
+-- `fsm` keeps the memories
+fsm_goes : (table : PortTable) (m n : Module) → MayGoOn table m → fsm_within (table_ports table.modules) m ≡ Some n → GoesOn table m n
+fsm_goes table m n h e = goes table m n h (fsm_passes table m h.ready n e) (fsm_stores table m h.ready n e)
+
 no_process : (table : PortTable) (m n : Module) (p : Process) (ps : List Process) → m.processes ≡ p ∷ ps → MayGoOn table m → GoesOn table m n
 no_process table m n p ps e h = let none = (plain (table_ports table.modules) m h.ready.faultless).processes in absurd cc
 
@@ -146,18 +153,18 @@ proc_word table m n h e = by m.processes refl h e
     by (p ∷ ps) f (inr k) g = no_process table m n p ps f k
     by (p ∷ ps) f (inl k) g = proc_goes table m n k g
 
--- a word that has a pass
-pub word_goes : (table : PortTable) (word : Word) (m n : Module) → HasPass word → MayBeGiven table word m → pass_of table word m ≡ Some n → GoesOn table m n
-word_goes table Proc m n has h e = proc_word table m n h e
-word_goes table OptExpr m n has h e = goes_to table m (expr_of (table_ports table.modules) m) n (goes table m _ h (expr_passes table m h.ready) refl) e
-word_goes table OptMerge m n has h e = goes_to table m (merge_of m) n (goes table m _ h (merge_pass table m h.ready) (merge_stores m)) e
-word_goes table OptClean m n has h e =
+-- a word
+pub word_goes : (table : PortTable) (word : Word) (m n : Module) → MayBeGiven table word m → pass_of table word m ≡ Some n → GoesOn table m n
+word_goes table Proc m n h e = proc_word table m n h e
+word_goes table OptExpr m n h e = goes_to table m (expr_of (table_ports table.modules) m) n (goes table m _ h (expr_passes table m h.ready) refl) e
+word_goes table OptMerge m n h e = goes_to table m (merge_of m) n (goes table m _ h (merge_pass table m h.ready) (merge_stores m)) e
+word_goes table OptClean m n h e =
     goes_to table m (clean_of (table_ports table.modules) m) n (goes table m _ h (clean_pass table m h.ready) (clean_stores (table_ports table.modules) m)) e
-word_goes table Opt m n has h e =
+word_goes table Opt m n h e =
     goes_to table m (opt_of (table_ports table.modules) m) n (goes table m _ h (opt_pass table m h.ready) (opt_stores (table_ports table.modules) m)) e
-word_goes table Fsm m n has h e = absurd has
-word_goes table Memory m n has h e = memory_goes table m n h e
-word_goes table Techmap m n has h e = by (is_within (beside m)) refl e
+word_goes table Fsm m n h e = fsm_goes table m n h e
+word_goes table Memory m n h e = memory_goes table m n h e
+word_goes table Techmap m n h e = by (is_within (beside m)) refl e
   where
     by : (t : Bool) → is_within (beside m) ≡ t → cond t (Some (techmap_of m)) None ≡ Some n → GoesOn table m n
     by true w f = goes_to table m (techmap_of m) n (techmap_goes table m h (within_limits (beside m) w)) f
@@ -174,40 +181,45 @@ given_word table Fsm m h = h
 given_word table Memory m h = h
 given_word table Techmap m h = h
 
--- words that have passes may be applied to a module that may be given to each pass, and make of it what one step could
+-- words may be applied to a module that may be given to each pass, and make of it what one step could
 module _ (table : PortTable) where
-  behind : (w : Word) (ws : List Word) (m : Module) → HasPass w → MayBeGiven table w m → ((n : Module) → MayGoOn table n → AreApplicable ws table n) → AfterWord (AreApplicable ws table) (pass_of table w m)
-  behind w ws m has given rest = by (pass_of table w m) refl
+  behind : (w : Word) (ws : List Word) (m : Module) → MayBeGiven table w m → ((n : Module) → MayGoOn table n → AreApplicable ws table n) → AfterWord (AreApplicable ws table) (pass_of table w m)
+  behind w ws m given rest = by (pass_of table w m) refl
     where
       by : (o : Option Module) → pass_of table w m ≡ o → AfterWord (AreApplicable ws table) o
       by None e = tt
-      by (Some n) e = rest n (word_goes table w m n has given e).next
+      by (Some n) e = rest n (word_goes table w m n given e).next
 
-  applicable_from : (words : List Word) (m : Module) → HavePasses words → MayGoOn table m → AreApplicable words table m
-  applicable_from [] m have h = tt
-  applicable_from (w ∷ ws) m have h = (given_word table w m h, behind w ws m have.0 (given_word table w m h) (λ n k. applicable_from ws n have.1 k))
+  applicable_from : (words : List Word) (m : Module) → MayGoOn table m → AreApplicable words table m
+  applicable_from [] m h = tt
+  applicable_from (w ∷ ws) m h = (given_word table w m h, behind w ws m (given_word table w m h) (λ n k. applicable_from ws n k))
 
-  then_step : (w : Word) (ws : List Word) (m n : Module) → HasPass w → MayBeGiven table w m → ((k : Module) → MayGoOn table k → fold_script ws table k ≡ Done n → IsStep table k n) → fold_script (w ∷ ws) table m ≡ Done n → IsStep table m n
-  then_step w ws m n has given rest e = by (pass_of table w m) refl e
+  then_step : (w : Word) (ws : List Word) (m n : Module) → MayBeGiven table w m → ((k : Module) → MayGoOn table k → fold_script ws table k ≡ Done n → IsStep table k n) → fold_script (w ∷ ws) table m ≡ Done n → IsStep table m n
+  then_step w ws m n given rest e = by (pass_of table w m) refl e
     where
       by : (o : Option Module) → pass_of table w m ≡ o → after_word w (fold_script ws table) o ≡ Done n → IsStep table m n
       by None f g = absurd cc
       by (Some k) f g =
-          let first = word_goes table w m k has given f in
+          let first = word_goes table w m k given f in
           IsStep_trans table m k n first.step (rest k first.next g)
 
-  step_from : (words : List Word) (m n : Module) → HavePasses words → MayGoOn table m → fold_script words table m ≡ Done n → IsStep table m n
-  step_from [] m n have h e = let same : m ≡ n = cc in subst (IsStep table m) same (IsStep_refl table m)
-  step_from (w ∷ ws) m n have h e = then_step w ws m n have.0 (given_word table w m h) (λ k r f. step_from ws k n have.1 r f) e
+  step_from : (words : List Word) (m n : Module) → MayGoOn table m → fold_script words table m ≡ Done n → IsStep table m n
+  step_from [] m n h e = let same : m ≡ n = cc in subst (IsStep table m) same (IsStep_refl table m)
+  step_from (w ∷ ws) m n h e = then_step w ws m n (given_word table w m h) (λ k r f. step_from ws k n r f) e
 
--- a script of this stage may be applied to a module that it may be given
-pub stage_applicable : (script : List Word) (table : PortTable) (m : Module) → IsStageScript script → MayStart table m → AreApplicable script table m
+-- a script starts with `proc`
+pub starts : (words : List Word) → IsScript words → StartsWithProc words
+starts [] h = let no : None ≡ Some Proc = h.first in absurd cc
+starts (w ∷ ws) h = let first : Some w ≡ Some Proc = h.first in cc
+
+-- a script may be applied to a module that it may be given
+pub stage_applicable : (script : List Word) (table : PortTable) (m : Module) → StartsWithProc script → MayStart table m → AreApplicable script table m
 stage_applicable [] table m is h = absurd is
 stage_applicable (w ∷ ws) table m is h =
-    subst (λ (v : Word). AreApplicable (v ∷ ws) table m) (sym is.0) (inl h, behind table Proc ws m tt (inl h) (λ n k. applicable_from table ws n is.1 k))
+    subst (λ (v : Word). AreApplicable (v ∷ ws) table m) (sym is) (inl h, behind table Proc ws m (inl h) (λ n k. applicable_from table ws n k))
 
 -- what it makes of the module is what one step could
-pub fold_step : (script : List Word) (table : PortTable) (m n : Module) → IsStageScript script → MayStart table m → fold_script script table m ≡ Done n → IsStep table m n
+pub fold_step : (script : List Word) (table : PortTable) (m n : Module) → StartsWithProc script → MayStart table m → fold_script script table m ≡ Done n → IsStep table m n
 fold_step [] table m n is h e = absurd is
 fold_step (w ∷ ws) table m n is h e =
-    then_step table Proc ws m n tt (inl h) (λ k r f. step_from table ws k n is.1 r f) (subst (λ (v : Word). fold_script (v ∷ ws) table m ≡ Done n) is.0 e)
+    then_step table Proc ws m n (inl h) (λ k r f. step_from table ws k n r f) (subst (λ (v : Word). fold_script (v ∷ ws) table m ≡ Done n) is e)

@@ -4,6 +4,7 @@ use Rattle.rtl_ir.specs.declared.module.Module.{Module}
 use Rattle.rtl_ir.specs.declared.ports.PortTable.{PortTable}
 use Rattle.rtl_ir.specs.Types.{table_ports}
 use Rattle.memory_laws.specs.Named.{HaveOwnNames}
+use Rattle.fsm_steps.specs.Within.{fsm_within}
 use Rattle.mem_steps.specs.Within.{memory_within}
 use Rattle.pass_laws.specs.Ready.{IsReady}
 use Rattle.proc_steps.specs.Limits.{is_within}
@@ -22,15 +23,14 @@ use Rattle.script_core.specs.declared.word.Word.TheVariants.{Proc, OptExpr, OptM
 abbrev pub techmap_within : Module → Option Module
 techmap_within m = if is_within (beside m) then Some (techmap_of m) else None
 
--- what the pass of a word makes of a module, over the ports of a table; None where that passes a limit. The pass of `fsm` is not
--- there yet: no script of this stage has that word
+-- what the pass of a word makes of a module, over the ports of a table; None where that passes a limit
 abbrev pub pass_of : PortTable → Word → Module → Option Module
 pass_of table Proc m = proc_within (table_ports table.modules) m m.processes
 pass_of table OptExpr m = Some (expr_of (table_ports table.modules) m)
 pass_of table OptMerge m = Some (merge_of m)
 pass_of table OptClean m = Some (clean_of (table_ports table.modules) m)
 pass_of table Opt m = Some (opt_of (table_ports table.modules) m)
-pass_of table Fsm m = Some m
+pass_of table Fsm m = fsm_within (table_ports table.modules) m
 pass_of table Memory m = memory_within m
 pass_of table Techmap m = techmap_within m
 
@@ -69,23 +69,7 @@ abbrev pub AreApplicable : List Word → PortTable → Module → Type 0
 AreApplicable [] table m = Unit {0}
 AreApplicable (word ∷ words) table m = MayBeGiven table word m × AfterWord (AreApplicable words table) (pass_of table word m)
 
--- the words whose passes are there
-abbrev pub HasPass : Word → Type 0
-HasPass Proc = Unit {0}
-HasPass OptExpr = Unit {0}
-HasPass OptMerge = Unit {0}
-HasPass OptClean = Unit {0}
-HasPass Opt = Unit {0}
-HasPass Fsm = ⊥
-HasPass Memory = Unit {0}
-HasPass Techmap = Unit {0}
-
--- words of such passes alone
-abbrev pub HavePasses : List Word → Type 0
-HavePasses [] = Unit {0}
-HavePasses (word ∷ words) = HasPass word × HavePasses words
-
--- a script of such words, the first of which is `proc`
-abbrev pub IsStageScript : List Word → Type 0
-IsStageScript [] = ⊥
-IsStageScript (word ∷ words) = (word ≡ Proc) × HavePasses words
+-- the first word is `proc`
+abbrev pub StartsWithProc : List Word → Type 0
+StartsWithProc [] = ⊥
+StartsWithProc (word ∷ words) = word ≡ Proc

@@ -3,7 +3,6 @@
 ghost use Rattle.std.specs.Prelude.{◌≡◌, IfOk};
 ghost use Rattle.rtl_bits.specs.Counts.{risen};
 ghost use Rattle.script_core.specs.Built.{IsAcceptedKey, IsValueOf};
-ghost use Rattle.script_core.specs.Fold.{IsStageScript};
 
 use crate::built::Built;
 use crate::fold::fold;
@@ -19,7 +18,6 @@ const BODY_NAME: &[u8] = b"\\m";
 /// What the passes of the key's script make of the key's module.
 fn outcome_of(alloc: Global, key: &Key) -> Result<Outcome, Memory>
     requires accepted { IsAcceptedKey key.now }
-    requires stage { IsStageScript key.now.script }
     ensures value { IfOk result (λ outcome. IsValueOf key.now outcome) }
 {
     let module = read_body(alloc, key.body.as_slice(), BODY_NAME)?;
@@ -31,7 +29,6 @@ fn outcome_of(alloc: Global, key: &Key) -> Result<Outcome, Memory>
 /// of the outcome has no name of its own yet: it is named `\m`. Each call, whatever it answers, is one step.
 pub fn build<L>(alloc: Global, key: &Key, meter: &mut Steps<L>) -> Result<Built, Memory>
     requires accepted { IsAcceptedKey key.now }
-    requires stage { IsStageScript key.now.script }
     ensures key { IfOk result (λ built. built.key ≡ key.now) }
     ensures value { IfOk result (λ built. IsValueOf key.now built.outcome) }
     ensures one_tick { meter.new ≡ risen meter.old 1 }

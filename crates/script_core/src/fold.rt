@@ -46,7 +46,7 @@ fn pass(alloc: Global, word: Word, module: Module, ports: &PortTable) -> Result<
         Word::Opt => Ok(opt_rounds::apply(alloc, module, ports)?),
         Word::Techmap => mapped(alloc, &module, ports),
         Word::Memory => mem_steps::apply(alloc, module, ports),
-        Word::Fsm => Ok(module),
+        Word::Fsm => fsm_steps::apply(alloc, module, ports),
     }
 }
 

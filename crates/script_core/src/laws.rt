@@ -16,7 +16,7 @@ ghost use Rattle.script_core.specs.declared.outcome.Outcome.TheVariants.{Done};
 ghost use Rattle.script_core.specs.declared.word.Word.{Word};
 ghost use Rattle.script_core.specs.Built.{IsValueOf, unnamed};
 ghost use Rattle.script_core.specs.Cold.{IsNetlist, cold, named, outcome_of, table_of};
-ghost use Rattle.script_core.specs.Fold.{IsStageScript, MayStart, fold_script};
+ghost use Rattle.script_core.specs.Fold.{StartsWithProc, MayStart, fold_script};
 ghost use Rattle.script_core.specs.Keys.{key_of};
 ghost use Rattle.script_core.specs.Mapping.{maps_all};
 
@@ -46,7 +46,7 @@ pub fn values_are_outcomes()
 /// name that both have.
 pub fn build_refines()
     ensures { (d : Design) (at : ℕ) (before after : Module) (script : List Word) →
-        IsReadable d → check_faults d.modules ≡ [] → slice_get d.modules at ≡ Some before → IsStageScript script →
+        IsReadable d → check_faults d.modules ≡ [] → slice_get d.modules at ≡ Some before → StartsWithProc script →
         IsValueOf (key_of d.modules at script) (Done after) → (name : List ℕ) →
         RefinesIn (record before { id = name }) (record after { id = name }) (table_of d.modules before) }
 {}
@@ -54,7 +54,7 @@ pub fn build_refines()
 /// Where the cold run of an accepted design is a netlist, this refines the design.
 pub fn cold_runs_refine()
     ensures { (d netlist : Design) (script : List Word) →
-        IsReadable d → check_faults d.modules ≡ [] → IsStageScript script →
+        IsReadable d → check_faults d.modules ≡ [] → StartsWithProc script →
         IsNetlist (cold script d) netlist → Refines d netlist }
 {}
 
@@ -63,6 +63,6 @@ pub fn cold_runs_refine()
 /// modules.
 pub fn cold_runs_are_gates()
     ensures { (d netlist : Design) (script : List Word) →
-        IsReadable d → check_faults d.modules ≡ [] → IsStageScript script → maps_all script ≡ true →
+        IsReadable d → check_faults d.modules ≡ [] → StartsWithProc script → maps_all script ≡ true →
         IsNetlist (cold script d) netlist → is_gate_netlist netlist ≡ true }
 {}

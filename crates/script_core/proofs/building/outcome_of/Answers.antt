@@ -2,7 +2,7 @@ use Rattle.std.proofs.Common.{◌∙◌, sym, subst, List}
 use Rattle.script_core.specs.declared.word.Word.{Word}
 use Rattle.script_core.specs.Fold.{AreApplicable}
 use Rattle.script_core.proofs.Reading.{read_key, value_of_answer}
-use Rattle.script_core.proofs.Stepping.{stage_applicable}
+use Rattle.script_core.proofs.Stepping.{stage_applicable, starts}
 use Rattle.script_core.proofs.building.outcome_of.Goals as goal
 
 pub fold-requires : goal.fold-requires
@@ -12,7 +12,7 @@ fold-requires c =
     (λ t good e. c.in_ok-ports.ensures.round_trip t good (c.as_slice-2.ensures.value ∙ e)) c.requires.accepted in
     record {
       applicable = subst (λ (s : List Word). AreApplicable s c.in_ok-ports.ports c.in_ok-module.module) (sym c.as_slice-3.ensures.value)
-          (stage_applicable c.args.key.now.script c.in_ok-ports.ports c.in_ok-module.module c.requires.stage read.given);
+          (stage_applicable c.args.key.now.script c.in_ok-ports.ports c.in_ok-module.module (starts c.args.key.now.script c.as_slice-3.ensures.script) read.given);
     }
 
 pub returns : goal.returns

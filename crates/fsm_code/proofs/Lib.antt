@@ -1,0 +1,7 @@
+pub mod Digits
+pub mod Linking
+pub mod Freshening
+pub mod Tabling
+pub mod Marking
+mod Placing
+pub mod Recoding

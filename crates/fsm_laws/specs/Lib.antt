@@ -1,0 +1,11 @@
+pub mod Codes
+pub mod States
+pub mod Chosen
+pub mod Recoded
+pub mod Carried
+pub mod Arms
+pub mod Forks
+pub mod Flops
+pub mod Trees
+pub mod Recodes
+pub mod Machines

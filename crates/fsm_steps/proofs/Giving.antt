@@ -1,0 +1,115 @@
+-- What is promised of a module that `fsm` may be given, where no machine passes a limit.
+use Rattle.std.proofs.Common.{◌≡◌, ◌≤◌, ◌+◌, ℕ, zero, suc, Bool, true, false, cond, length, Option, Some, None, Result, Ok, Err, refl, sym, ◌∙◌, ap, subst}
+use Rattle.std.specs.Prelude.{IfOk, OnOk}
+use Rattle.std.specs.Option.{option_map_or}
+use Rattle.std.proofs.lemmas.Bool.{and_parts}
+use Rattle.rtl_ir.specs.Flat.Cell.{Ports as FlatPorts, instances}
+use Rattle.rtl_ir.specs.Flat.Tree as tree
+use Rattle.rtl_ir.specs.Ports.{ports_of}
+use Rattle.rtl_ir.specs.Types.{Ports, table_ports}
+use Rattle.rtl_ir.specs.declared.machine.Machine.{Machine}
+use Rattle.rtl_ir.specs.declared.module.Module.{Module}
+use Rattle.rtl_ir.specs.declared.ports.PortTable.{PortTable}
+use Rattle.net_index.specs.declared.builder_fault.PassFault.{PassFault}
+use Rattle.net_model.specs.Fsm.Code.{fsm_of, recoded_of}
+use Rattle.net_model.specs.Fsm.Find.{machine_of}
+use Rattle.net_model.specs.Refine.{IsWellDriven, RefinesIn}
+use Rattle.net_model.proofs.Composing.{RefinesOver_refl}
+use Rattle.pass_laws.specs.Pass.{IsPass}
+use Rattle.pass_laws.specs.Ready.{IsReady}
+use Rattle.fsm_code.specs.Limits.{widened}
+use Rattle.fsm_forms.specs.Short.{AreShort, IsShortIf}
+use Rattle.fsm_forms.proofs.InTurn.{IsFormed, all_formed}
+use Rattle.fsm_forms.proofs.Numbers.{taken}
+use Rattle.fsm_found.proofs.Refined.{machines_refine}
+use Rattle.fsm_found.proofs.Insides.{inside_drives}
+use Rattle.fsm_steps.specs.Within.{are_within, fsm_within, machine_within, machines_within}
+use Rattle.opt_clean.specs.Clean.{is_all_inside}
+use Rattle.fsm_steps.proofs.Turns.{within_limits}
+
+-- within the limits fresh names are short
+short_if : (m : Module) (o : Option Machine) → machine_within m o ≡ true → IsShortIf m o
+short_if m None e = tt
+short_if m (Some machine) e = subst (λ n. n ≤ 1000000000) (taken m machine) (within_limits (widened m machine) e).names
+
+pub are_short : (ports : Ports) (at n : ℕ) (m : Module) → are_within ports at n m ≡ true → AreShort ports at n m
+are_short ports at zero m e = tt
+are_short ports at (suc n) m e =
+    let next : Module = option_map_or (recoded_of m) (machine_of ports m at) m in
+    let both = and_parts (machine_within m (machine_of ports m at)) (are_within ports (at + 1) n next) e in
+    (short_if m (machine_of ports m at) both.0, are_short ports (at + 1) n next both.1)
+
+-- what the pass promises, where nothing passes a limit
+pub record Gives (table : PortTable) (m n : Module) : Type 0 where
+  pub id : m.id ≡ n.id
+  pub ports : ports_of m.wires ≡ ports_of n.wires
+  pub instances : instances m.cells ≡ instances n.cells
+  pub memories : n.memories ≡ m.memories
+  pub driven : (over : FlatPorts) → IsWellDriven over m → IsWellDriven over n
+  pub ready : IsReady (table_ports table.modules) n
+  pub refines : RefinesIn m n table
+
+module _ (table : PortTable) (m : Module) (ready : IsReady (table_ports table.modules) m) where
+  all_given : is_all_inside m ≡ true → are_within (table_ports table.modules) 0 (length m.wires) m ≡ true → Gives table m (fsm_of (table_ports table.modules) m)
+  all_given inside e =
+      let short : AreShort (table_ports table.modules) 0 (length m.wires) m = are_short (table_ports table.modules) 0 (length m.wires) m e in
+      let is : IsFormed (table_ports table.modules) m (fsm_of (table_ports table.modules) m) = all_formed (table_ports table.modules) m ready short in
+      record {
+        id = is.id;
+        ports = is.same_ports;
+        instances = is.same_instances;
+        memories = sym is.memories;
+        driven = is.driven;
+        ready = is.ready;
+        refines = machines_refine table m ready (inside_drives (table_ports table.modules) m ready inside) short;
+      }
+
+  -- of a module that stays as it is
+  none_given : Gives table m m
+  none_given = record {
+    id = refl;
+    ports = refl;
+    instances = refl;
+    memories = refl;
+    driven = λ over h. h;
+    ready = ready;
+    refines = RefinesOver_refl m (tree.table_ports table);
+  }
+
+  -- for the pass as one that may answer nothing
+  pub fsm_gives : (n : Module) → fsm_within (table_ports table.modules) m ≡ Some n → Gives table m n
+  fsm_gives n e = by (is_all_inside m) refl (are_within (table_ports table.modules) 0 (length m.wires) m) refl e
+    where
+      by : (t : Bool) → is_all_inside m ≡ t → (s : Bool) → are_within (table_ports table.modules) 0 (length m.wires) m ≡ s
+          → cond t (cond s (Some (fsm_of (table_ports table.modules) m)) None) (Some m) ≡ Some n → Gives table m n
+      by true i true f g = let same : fsm_of (table_ports table.modules) m ≡ n = cc in subst (Gives table m) same (all_given i f)
+      by true i false f g = absurd (cc)
+      by false i s f g = let same : m ≡ n = cc in subst (Gives table m) same none_given
+
+  pub fsm_passes : (n : Module) → fsm_within (table_ports table.modules) m ≡ Some n → IsPass table m n
+  fsm_passes n e =
+      let all : Gives table m n = fsm_gives n e in
+      record { id = all.id; ports = all.ports; instances = all.instances; driven = λ over agree. all.driven over; ready = λ h. all.ready; refines = all.refines }
+
+  -- the memories stay
+  pub fsm_stores : (n : Module) → fsm_within (table_ports table.modules) m ≡ Some n → n.memories ≡ m.memories
+  fsm_stores n e = (fsm_gives n e).memories
+
+  -- of what is answered
+  pub answer_gives : (Q : Module → Type 0) → ((n : Module) → Gives table m n → Q n) → (r : Result Module PassFault) → IfOk r (λ after. fsm_within (table_ports table.modules) m ≡ Some after) → IfOk r Q
+  answer_gives Q q (Ok after) e = q after (fsm_gives after e)
+  answer_gives Q q (Err fault) e = tt
+
+-- the answer by the limits
+module _ (ports : Ports) (m : Module) (inside : is_all_inside m ≡ true) where
+  pub answered : (r : Result Module PassFault) → IfOk r (λ after. after ≡ fsm_of ports m) → OnOk r (are_within ports 0 (length m.wires) m ≡ true) → IfOk r (λ after. fsm_within ports m ≡ Some after)
+  answered (Ok after) e f =
+      ap (λ t. cond t (machines_within ports m) (Some m)) inside ∙ ap (λ t. cond t (Some (fsm_of ports m)) None) f ∙ ap Some (sym e)
+  answered (Err fault) e f = tt
+
+  pub passed : are_within ports 0 (length m.wires) m ≡ false → fsm_within ports m ≡ None
+  passed e =
+      ap (λ t. cond t (machines_within ports m) (Some m)) inside ∙ ap (λ t. cond t (Some (fsm_of ports m)) None) e
+
+pub stays : (ports : Ports) (m : Module) → is_all_inside m ≡ false → fsm_within ports m ≡ Some m
+stays ports m e = ap (λ t. cond t (machines_within ports m) (Some m)) e
