@@ -1,6 +1,7 @@
 //! Applies passes to designs of a table, and to large modules.
 #![tactic(auto)]
 
+mod bitwise;
 mod large;
 mod passes;
 mod rows;

@@ -1,13 +1,16 @@
-//! A script of `proc` and one more word over the design of a text.
+//! A script of `proc` and one more word over the design of a text, or `memory` and gates of bitwise cells.
 
 ghost use Rattle.std.specs.Prelude.{◌≡◌, ◌<◌, [], ◌∷◌, IfOk, length, true};
 ghost use Rattle.rtl_trip.specs.Readable.{IsReadable};
-ghost use Rattle.script_core.specs.declared.word.Word.TheVariants.{Proc};
+ghost use Rattle.script_core.specs.declared.word.Word.TheVariants.{Proc, Opt, Memory as WordMemory};
 
+use crate::bitwise::with_gates;
+use net_index::PassFault;
 use rtl_bits::{Copied, Memory, Seq, Steps};
 use rtl_check::{Checked, check};
 use rtl_ir::{Design, Module};
 use rtl_read::{ReadFault, read};
+use rtl_write::write;
 use script_core::{Outcome, Script, Word, build, key_of};
 use std::alloc::Global;
 
@@ -42,6 +45,16 @@ fn script_of(alloc: Global, word: Word) -> Result<Script, Memory>
 {
     let mut script = Script::make(alloc)?;
     script.push(word)?;
+    Ok(script)
+}
+
+/// The script `proc opt memory opt`.
+fn memory_script(alloc: Global) -> Result<Script, Memory>
+    ensures words { IfOk result (λ script. script ≡ Proc ∷ Opt ∷ WordMemory ∷ Opt ∷ []) }
+{
+    let mut script = script_of(alloc, Word::Opt)?;
+    script.push(Word::Memory)?;
+    script.push(Word::Opt)?;
     Ok(script)
 }
 
@@ -82,26 +95,48 @@ fn design_after(alloc: Global, design: &Checked, script: &Script) -> Result<Opti
     Ok(Some(Design { modules }))
 }
 
-/// The design after `proc` and the word, where the design has no fault.
-fn checked_after(alloc: Global, design: Design, word: Word) -> Result<Option<Design>, Memory>
+/// The design after the script, where the design has no fault.
+fn checked_after(alloc: Global, design: Design, script: &Script) -> Result<Option<Design>, Memory>
     requires readable { IsReadable design }
 {
-    let script = script_of(alloc, word)?;
     match check(alloc, design) {
-        Ok(checked) => design_after(alloc, &checked, &script),
+        Ok(checked) => design_after(alloc, &checked, script),
         Err(_) => Ok(None),
     }
 }
 
-/// The design of the text after `proc` and the word of this name, where all of them are what they should be.
+/// The design of the text after the script, where the text is one of a design without a fault.
 #[tactic(auto, using(rtl_trip::proofs::Kept::readable))]
-pub fn netlist_of(alloc: Global, text: &[u8], name: &[u8]) -> Result<Option<Design>, Memory> {
-    let Some(word) = word_of(name) else {
-        return Ok(None);
-    };
+fn text_after(alloc: Global, text: &[u8], script: &Script) -> Result<Option<Design>, Memory> {
     match read(alloc, text) {
-        Ok(design) => checked_after(alloc, design, word),
+        Ok(design) => checked_after(alloc, design, script),
         Err(ReadFault::Memory) => Err(Memory),
         Err(_) => Ok(None),
+    }
+}
+
+/// The design of the text after `proc opt memory opt`, gates of its bitwise cells, and `opt`.
+fn bitwise_netlist(alloc: Global, text: &[u8]) -> Result<Option<Design>, Memory> {
+    let Some(design) = text_after(alloc, text, &memory_script(alloc)?)? else {
+        return Ok(None);
+    };
+    match with_gates(alloc, &design) {
+        Ok(mapped) => {
+            let between = write(alloc, &mapped)?;
+            text_after(alloc, between.as_slice(), &script_of(alloc, Word::Opt)?)
+        }
+        Err(PassFault::Over) => Ok(None),
+        Err(PassFault::Memory) => Err(Memory),
+    }
+}
+
+/// The design of the text after `proc` and the word of this name, or after what `bitwise` stands for.
+pub fn netlist_of(alloc: Global, text: &[u8], name: &[u8]) -> Result<Option<Design>, Memory> {
+    if name == b"bitwise".as_slice() {
+        return bitwise_netlist(alloc, text);
+    }
+    match word_of(name) {
+        Some(word) => text_after(alloc, text, &script_of(alloc, word)?),
+        None => Ok(None),
     }
 }
