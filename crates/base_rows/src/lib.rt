@@ -12,8 +12,6 @@ mod records;
 #[cfg(test)]
 mod signals;
 #[cfg(test)]
-mod spelled;
-#[cfg(test)]
 mod steps;
 #[cfg(test)]
 mod tables;

@@ -10,6 +10,9 @@ ghost use Rattle.rtl_ir.specs.Types.{table_ports};
 ghost use Rattle.net_model.specs.Refine.{RefinesIn};
 ghost use Rattle.pass_laws.specs.Pass.{IsPass};
 ghost use Rattle.pass_laws.specs.Ready.{IsReady};
+ghost use Rattle.opt_expr.specs.Sweep.{expr_of};
+ghost use Rattle.opt_merge.specs.Merge.{merge_of};
+ghost use Rattle.opt_clean.specs.Clean.{clean_of};
 ghost use Rattle.opt_rounds.specs.Rounds.{opt_of, round_of};
 
 use rtl_bits::Memory;
@@ -33,6 +36,13 @@ pub fn apply(alloc: Global, module: Module, ports: &PortTable) -> Result<Module,
     rounds(alloc, module, ports)
 }
 
+/// A module, and whether it is the one that it was made of.
+#[derive(Drop)]
+struct Turn {
+    module: Module,
+    is_same: bool,
+}
+
 /// Rounds, until one changes nothing.
 #[tactic(auto, using(crate::proofs::Rounding::all_left))]
 fn rounds(alloc: Global, module: Module, ports: &PortTable) -> Result<Module, Memory>
@@ -41,26 +51,75 @@ fn rounds(alloc: Global, module: Module, ports: &PortTable) -> Result<Module, Me
 {
     let mut module = module;
     for _round in 0..MAX_ROUNDS {
-        let after = round(alloc, &module, ports)?;
-        if is_same(&after, &module) {
-            return Ok(after);
+        let turn = round(alloc, module, ports)?;
+        if turn.is_same {
+            return Ok(turn.module);
         }
-        module = after;
+        module = turn.module;
     }
     Ok(module)
 }
 
-/// One round.
-fn round(alloc: Global, module: &Module, ports: &PortTable) -> Result<Module, Memory>
-    requires ready { IsReady (table_ports ports.now.modules) «module».now }
-    ensures exact { IfOk result (λ after. after ≡ round_of (table_ports ports.now.modules) «module».now) }
+/// One round. No more than two modules stand beside each other at a time.
+fn round(alloc: Global, module: Module, ports: &PortTable) -> Result<Turn, Memory>
+    requires ready { IsReady (table_ports ports.now.modules) «module» }
+    ensures exact { IfOk result (λ turn. turn.module ≡ round_of (table_ports ports.now.modules) «module») }
+    ensures same { IfOk result (λ turn. turn.is_same ≡ true → turn.module ≡ «module») }
 {
-    let folded = opt_expr::apply(alloc, module, ports)?;
-    let merged = opt_merge::apply(alloc, &folded, ports)?;
-    opt_clean::apply(alloc, &merged, ports)
+    let folded = folded(alloc, module, ports)?;
+    let merged = merged(alloc, folded.module, ports)?;
+    let cleaned = cleaned(alloc, merged.module, ports)?;
+    Ok(Turn {
+        module: cleaned.module,
+        is_same: folded.is_same && merged.is_same && cleaned.is_same,
+    })
 }
 
-/// Whether a round gave the wires, cells and connections of the module, and so the module: it changes nothing else.
+/// `opt_expr`.
+fn folded(alloc: Global, module: Module, ports: &PortTable) -> Result<Turn, Memory>
+    requires ready { IsReady (table_ports ports.now.modules) «module» }
+    ensures exact { IfOk result (λ turn. turn.module ≡ expr_of (table_ports ports.now.modules) «module») }
+    ensures ready { IfOk result (λ turn. IsReady (table_ports ports.now.modules) turn.module) }
+    ensures same { IfOk result (λ turn. turn.is_same ≡ true → turn.module ≡ «module») }
+{
+    let after = opt_expr::apply(alloc, &module, ports)?;
+    let is_same = is_same(&after, &module);
+    Ok(Turn {
+        module: after,
+        is_same,
+    })
+}
+
+/// `opt_merge`.
+fn merged(alloc: Global, module: Module, ports: &PortTable) -> Result<Turn, Memory>
+    requires ready { IsReady (table_ports ports.now.modules) «module» }
+    ensures exact { IfOk result (λ turn. turn.module ≡ merge_of «module») }
+    ensures ready { IfOk result (λ turn. IsReady (table_ports ports.now.modules) turn.module) }
+    ensures same { IfOk result (λ turn. turn.is_same ≡ true → turn.module ≡ «module») }
+{
+    let after = opt_merge::apply(alloc, &module, ports)?;
+    let is_same = is_same(&after, &module);
+    Ok(Turn {
+        module: after,
+        is_same,
+    })
+}
+
+/// `opt_clean`.
+fn cleaned(alloc: Global, module: Module, ports: &PortTable) -> Result<Turn, Memory>
+    requires ready { IsReady (table_ports ports.now.modules) «module» }
+    ensures exact { IfOk result (λ turn. turn.module ≡ clean_of (table_ports ports.now.modules) «module») }
+    ensures same { IfOk result (λ turn. turn.is_same ≡ true → turn.module ≡ «module») }
+{
+    let after = opt_clean::apply(alloc, &module, ports)?;
+    let is_same = is_same(&after, &module);
+    Ok(Turn {
+        module: after,
+        is_same,
+    })
+}
+
+/// Whether a pass gave the wires, cells and connections of the module, and so the module: it changes nothing else.
 fn is_same(after: &Module, module: &Module) -> bool
     ensures wires { result ≡ true → after.now.wires ≡ «module».now.wires }
     ensures cells { result ≡ true → after.now.cells ≡ «module».now.cells }
