@@ -1,7 +1,7 @@
 //! Rows of port tables.
 
 use rtl_bits::{Copied, Memory, Seq, Text};
-use rtl_ir::{Cell, Design, Module, PortTable, Role, Wire, port_table};
+use rtl_ir::{Cell, Design, Module, PortLine, PortTable, Role, Wire, port_table};
 use std::alloc::Global;
 use std::test::Fail;
 
@@ -62,19 +62,29 @@ fn cell(alloc: Global, kind_name: &[u8]) -> Result<Cell, Memory> {
     })
 }
 
-fn module(alloc: Global, text: &str) -> Result<Module, Memory> {
-    let mut words = text.split(' ');
-    let id = words.next().unwrap_or("");
-    let mut module = Module::empty(alloc, id.as_bytes())?;
-    for word in words {
-        let word = word.as_bytes();
-        if let Some(first) = word.first() {
-            match role(*first) {
-                Some(role) => module.wires.push(wire(alloc, role, word)?)?,
-                None => module.cells.push(cell(alloc, &word[1..])?)?,
-            }
-        }
+/// Puts the wire or cell of a word last.
+fn put_item(alloc: Global, module: &mut Module, word: &[u8]) -> Result<(), Memory> {
+    let Some(first) = word.first() else {
+        return Ok(());
+    };
+    match role(*first) {
+        Some(role) => module.wires.push(wire(alloc, role, word)?),
+        None => module.cells.push(cell(alloc, &word[1..])?),
     }
+}
+
+/// Puts the items of the words behind the first one last.
+fn put_items(alloc: Global, module: &mut Module, text: &str) -> Result<(), Memory> {
+    for word in text.split(' ').skip(1) {
+        put_item(alloc, module, word.as_bytes())?;
+    }
+    Ok(())
+}
+
+fn module(alloc: Global, text: &str) -> Result<Module, Memory> {
+    let id = text.split(' ').next().unwrap_or("");
+    let mut module = Module::empty(alloc, id.as_bytes())?;
+    put_items(alloc, &mut module, text)?;
     Ok(module)
 }
 
@@ -86,55 +96,72 @@ fn design(alloc: Global, text: &str) -> Result<Design, Memory> {
     Ok(Design { modules })
 }
 
+fn role_letter(role: Role) -> u8 {
+    match role {
+        Role::Input => b'>',
+        Role::Output => b'<',
+        Role::Inout => b'=',
+        Role::Inner => b'.',
+    }
+}
+
+/// Puts a port last, as a row has it.
+fn put_port(text: &mut Text, port: &PortLine) -> Result<(), Memory> {
+    text.push(b' ')?;
+    text.push(role_letter(port.role))?;
+    text.extend(port.name.as_slice())?;
+    let digits = format!(in text.allocator(); "{}{}", port.number, port.width)?;
+    text.extend(digits.as_bytes())
+}
+
+/// Puts a module and its ports last.
+fn put_ports(text: &mut Text, id: &Text, ports: &[PortLine]) -> Result<(), Memory> {
+    if !text.as_slice().is_empty() {
+        text.push(b';')?;
+    }
+    text.extend(id.as_slice())?;
+    for port in ports {
+        put_port(text, port)?;
+    }
+    Ok(())
+}
+
 /// The table as a row has it.
-fn spelled(alloc: Global, table: &PortTable) -> Result<Vec<u8>, Memory> {
-    let mut text = Vec::new(alloc);
+fn spelled(alloc: Global, table: &PortTable) -> Result<Text, Memory> {
+    let mut text = Text::make(alloc);
     for module in table.modules.as_slice() {
-        if !text.is_empty() {
-            text.push(b';')?;
-        }
-        text.extend_from_slice(module.id.as_slice())?;
-        for port in module.ports.as_slice() {
-            text.push(b' ')?;
-            text.push(match port.role {
-                Role::Input => b'>',
-                Role::Output => b'<',
-                Role::Inout => b'=',
-                Role::Inner => b'.',
-            })?;
-            text.extend_from_slice(port.name.as_slice())?;
-            let digits = format!(in alloc; "{}{}", port.number, port.width)?;
-            text.extend_from_slice(digits.as_bytes())?;
-        }
+        put_ports(&mut text, &module.id, module.ports.as_slice())?;
     }
     Ok(text)
 }
 
+/// Whether the table of the module at this place is as wanted, and so is its copy.
+fn has_table(alloc: Global, design: &Design, at: u32, wanted: &str) -> Result<bool, Memory> {
+    if design.modules.as_slice().len() <= at as usize {
+        return Ok(false);
+    }
+    let table = port_table(alloc, design, at)?.copy()?;
+    Ok(spelled(alloc, &table)?.as_slice() == wanted.as_bytes())
+}
+
+/// Whether the first module of the row has its table.
+fn row_holds(alloc: Global, row: &str) -> Result<bool, Memory> {
+    let mut fields = row.split('|').skip(1);
+    let design = design(alloc, fields.next().unwrap_or(""))?;
+    has_table(alloc, &design, 0, fields.next().unwrap_or("?"))
+}
+
 #[test]
 fn port_tables(rt: HostRuntime) -> Result<(), Fail> {
-    let alloc = rt.alloc();
     for row in ROWS.split('\n') {
-        let mut fields = row.split('|');
-        let name = fields.next().unwrap_or("");
-        let design = design(alloc, fields.next().unwrap_or(""))?;
-        let wanted = fields.next().unwrap_or("?");
-        assert!(rt; !design.modules.as_slice().is_empty(), "{name}");
-        let table = port_table(alloc, &design, 0)?.copy()?;
-        assert_eq!(rt;
-            spelled(alloc, &table)?.as_slice(),
-            wanted.as_bytes(),
-            "{name}"
-        );
+        assert!(rt; row_holds(rt.alloc(), row)?, "{row}");
     }
     Ok(())
 }
 
 #[test]
 fn port_table_of_another_module(rt: HostRuntime) -> Result<(), Fail> {
-    let alloc = rt.alloc();
-    let design = design(alloc, "t !a;a >p11;b !t !a")?;
-    assert_eq!(rt; design.modules.as_slice().len(), 3);
-    let table = port_table(alloc, &design, 2)?;
-    assert_eq!(rt; spelled(alloc, &table)?.as_slice(), b"a >p11;t".as_slice());
+    let design = design(rt.alloc(), "t !a;a >p11;b !t !a")?;
+    assert!(rt; has_table(rt.alloc(), &design, 2, "a >p11;t")?);
     Ok(())
 }

@@ -1,6 +1,7 @@
 -- Rounds of the three passes, one after another.
 use Rattle.std.proofs.Common.{◌≡◌, ℕ, zero, suc, ◌+◌, ◌-◌, ◌<◌, ◌≤◌, [], Bool, true, false, cond, Result, Ok, Err, refl, sym, ◌∙◌, ap, subst, arith}
-use Rattle.std.specs.Prelude.{IfOk}
+use Rattle.std.specs.Prelude.{IfOk, ◌&&◌}
+use Rattle.std.proofs.lemmas.Bool.{and_parts}
 use Rattle.rtl_ir.specs.Types as types
 use Rattle.rtl_ir.specs.declared.module.Module.{Module}
 use Rattle.rtl_ir.specs.declared.ports.PortTable.{PortTable}
@@ -73,24 +74,35 @@ module _ (P : types.Ports) where
       by true = refl
       by false = refl
 
-  round_frame : (m : Module) → frame (round_of P m) ≡ frame m
-  unfolding round_of
-  round_frame m = cleaned_frame (merge_of (expr_of P m)) ∙ merged_frame (expr_of P m)
-
-  -- a round, of what the three passes give
-  pub one_round : (m folded merged : Module) → folded ≡ expr_of P m → merged ≡ merge_of folded → (r : Result Module Memory) → IfOk r (λ after. after ≡ clean_of P merged) → IfOk r (λ after. after ≡ round_of P m)
-  unfolding round_of
-  one_round m folded merged e f (Ok after) g = g ∙ ap (clean_of P) (f ∙ ap merge_of e)
-  one_round m folded merged e f (Err fault) g = tt
-
   same_parts : (a b : Module) → frame a ≡ frame b → a.wires ≡ b.wires → a.cells ≡ b.cells → a.links ≡ b.links → a ≡ b
   same_parts a b f w c l = λ i. record (f i) { wires = w i; cells = c i; links = l i }
 
-  -- where these are the same, the round changes nothing, and is the last that counts
-  pub last_round : (r : ℕ) (m after all : Module) → after ≡ round_of P m → after.wires ≡ m.wires → after.cells ≡ m.cells → after.links ≡ m.links → rounds_of P (32 - r) m ≡ all → after ≡ all
-  last_round r m after all e w c l f =
-      let same : after ≡ m = same_parts after m (ap frame e ∙ round_frame m) w c l in
-      same ∙ sym (rounds_stay (32 - r) m (sym e ∙ same)) ∙ f
+  -- a pass that leaves these as they are leaves the module as it is
+  pub folded_same : (m after : Module) → after ≡ expr_of P m → after.wires ≡ m.wires → after.cells ≡ m.cells → after.links ≡ m.links → after ≡ m
+  folded_same m after e w c l = same_parts after m (ap frame e) w c l
+
+  pub merged_same : (m after : Module) → after ≡ merge_of m → after.wires ≡ m.wires → after.cells ≡ m.cells → after.links ≡ m.links → after ≡ m
+  merged_same m after e w c l = same_parts after m (ap frame e ∙ merged_frame m) w c l
+
+  pub cleaned_same : (m after : Module) → after ≡ clean_of P m → after.wires ≡ m.wires → after.cells ≡ m.cells → after.links ≡ m.links → after ≡ m
+  cleaned_same m after e w c l = same_parts after m (ap frame e ∙ cleaned_frame m) w c l
+
+  -- a round, of what the three passes give
+  pub one_round : (m folded merged cleaned : Module) → folded ≡ expr_of P m → merged ≡ merge_of folded → cleaned ≡ clean_of P merged → cleaned ≡ round_of P m
+  unfolding round_of
+  one_round m folded merged cleaned e f g = g ∙ ap (clean_of P) (f ∙ ap merge_of e)
+
+  -- and where none of them changes anything, the round does not
+  pub round_same : (m folded merged cleaned : Module) (s t u : Bool)
+      → (s ≡ true → folded ≡ m) → (t ≡ true → merged ≡ folded) → (u ≡ true → cleaned ≡ merged) → s && t && u ≡ true → cleaned ≡ m
+  round_same m folded merged cleaned s t u f g h e =
+      let one = and_parts s (t && u) e in
+      let two = and_parts t u one.1 in
+      h two.1 ∙ g two.0 ∙ f one.0
+
+  -- a round that changes nothing is the last that counts
+  pub last_round : (r : ℕ) (m after all : Module) → after ≡ round_of P m → after ≡ m → rounds_of P (32 - r) m ≡ all → after ≡ all
+  last_round r m after all e same f = same ∙ sym (rounds_stay (32 - r) m (sym e ∙ same)) ∙ f
 
 module _ (table : PortTable) where
   abbrev P : types.Ports
