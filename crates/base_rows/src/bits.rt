@@ -79,52 +79,64 @@ fn put_table(text: &mut Vec<u8>, table: Table, seconds: &[Bit]) -> Result<(), Al
     Ok(())
 }
 
-/// Whether the function has these values, with so many second bits.
-fn has_values(alloc: Global, table: Table, seconds: &[Bit], wanted: &[u8]) -> Result<bool, Fail> {
+/// The rows of one bit: a function, and its values for the six bits.
+const ONE_BIT: &str = "\
+known 110000
+seen 01xxxx
+not 10xxxx";
+
+/// The rows of two bits: a function, and its values, a row for each first bit, a column for each second one. Behind `mux`
+/// stands the selecting bit.
+const TWO_BITS: &str = "\
+merge 0xxxxxx1xxxxxxxxxxxxxxxxxxxxxxxxxxxx
+and 00000001xxxx0xxxxx0xxxxx0xxxxx0xxxxx
+or 01xxxx111111x1xxxxx1xxxxx1xxxxx1xxxx
+xor 01xxxx10xxxxxxxxxxxxxxxxxxxxxxxxxxxx
+mux0 000000111111xxxxxxxxxxxxxxxxxxxxxxxx
+mux1 01xxxx01xxxx01xxxx01xxxx01xxxx01xxxx
+muxx 0xxxxxx1xxxxxxxxxxxxxxxxxxxxxxxxxxxx
+muxz 0xxxxxx1xxxxxxxxxxxxxxxxxxxxxxxxxxxx
+muxm 0xxxxxx1xxxxxxxxxxxxxxxxxxxxxxxxxxxx
+mux- 0xxxxxx1xxxxxxxxxxxxxxxxxxxxxxxxxxxx";
+
+/// The function of this name.
+fn table_of(name: &str) -> Option<Table> {
+    match name.as_bytes() {
+        [b'k', ..] => Some(Table::Known),
+        [b's', ..] => Some(Table::Seen),
+        [b'n', ..] => Some(Table::Not),
+        [b'm', b'e', ..] => Some(Table::Merge),
+        [b'a', ..] => Some(Table::And),
+        [b'o', ..] => Some(Table::Or),
+        [b'x', ..] => Some(Table::Xor),
+        [b'm', b'u', b'x', s] => Some(Table::Mux(bit_of(*s))),
+        _ => None,
+    }
+}
+
+/// Whether the function of the row has the values, with these second bits.
+fn has_values(alloc: Global, row: &str, seconds: &[Bit]) -> Result<bool, Fail> {
+    let mut fields = row.split(' ');
+    let Some(table) = table_of(fields.next().unwrap_or("")) else {
+        return Ok(false);
+    };
     let mut text = Vec::new(alloc);
     put_table(&mut text, table, seconds)?;
-    Ok(text.as_slice() == wanted)
+    Ok(text.as_slice() == fields.next().unwrap_or("").as_bytes())
 }
 
 #[test]
 fn tables_of_one_bit(rt: HostRuntime) -> Result<(), Fail> {
-    let alone = [Bit::X];
-    for (table, wanted) in [
-        (Table::Known, b"110000"),
-        (Table::Seen, b"01xxxx"),
-        (Table::Not, b"10xxxx"),
-    ] {
-        assert!(rt; has_values(rt.alloc(), table, alone.as_slice(), wanted.as_slice())?);
+    for row in ONE_BIT.split('\n') {
+        assert!(rt; has_values(rt.alloc(), row, [Bit::X].as_slice())?, "{row}");
     }
     Ok(())
 }
 
 #[test]
-fn tables_of_two_bits(rt: HostRuntime) -> Result<(), Fail> {
-    for (table, wanted) in [
-        (Table::Merge, b"0xxxxxx1xxxxxxxxxxxxxxxxxxxxxxxxxxxx"),
-        (Table::And, b"00000001xxxx0xxxxx0xxxxx0xxxxx0xxxxx"),
-        (Table::Or, b"01xxxx111111x1xxxxx1xxxxx1xxxxx1xxxx"),
-        (Table::Xor, b"01xxxx10xxxxxxxxxxxxxxxxxxxxxxxxxxxx"),
-    ] {
-        assert!(rt; has_values(rt.alloc(), table, BITS.as_slice(), wanted.as_slice())?);
-    }
-    Ok(())
-}
-
-/// A table for each selecting bit.
-#[test]
-fn tables_of_three_bits(rt: HostRuntime) -> Result<(), Fail> {
-    for (s, wanted) in [
-        (Bit::S0, b"000000111111xxxxxxxxxxxxxxxxxxxxxxxx"),
-        (Bit::S1, b"01xxxx01xxxx01xxxx01xxxx01xxxx01xxxx"),
-        (Bit::X, b"0xxxxxx1xxxxxxxxxxxxxxxxxxxxxxxxxxxx"),
-        (Bit::Z, b"0xxxxxx1xxxxxxxxxxxxxxxxxxxxxxxxxxxx"),
-        (Bit::M, b"0xxxxxx1xxxxxxxxxxxxxxxxxxxxxxxxxxxx"),
-        (Bit::Dash, b"0xxxxxx1xxxxxxxxxxxxxxxxxxxxxxxxxxxx"),
-    ] {
-        let table = Table::Mux(s);
-        assert!(rt; has_values(rt.alloc(), table, BITS.as_slice(), wanted.as_slice())?);
+fn tables_of_two_bits_and_of_choices(rt: HostRuntime) -> Result<(), Fail> {
+    for row in TWO_BITS.split('\n') {
+        assert!(rt; has_values(rt.alloc(), row, BITS.as_slice())?, "{row}");
     }
     Ok(())
 }
@@ -143,13 +155,20 @@ x|?|?
 m10|?|?
 1-0|?|?";
 
+/// Whether the bits are these numbers, without a sign and with one.
+fn are(bits: &Bits, unsigned: &str, signed: &str) -> bool {
+    bits.unsigned() == unsigned.parse::<u128>().ok() && bits.signed() == signed.parse::<i128>().ok()
+}
+
 /// Whether the bits are the numbers of the row.
 fn are_numbers(alloc: Global, row: &str) -> Result<bool, Fail> {
     let mut fields = row.split('|');
     let bits = bits_of(alloc, fields.next().unwrap_or("").as_bytes())?;
-    let unsigned = fields.next().unwrap_or("").parse::<u128>().ok();
-    let signed = fields.next().unwrap_or("").parse::<i128>().ok();
-    Ok(bits.unsigned() == unsigned && bits.signed() == signed)
+    Ok(are(
+        &bits,
+        fields.next().unwrap_or(""),
+        fields.next().unwrap_or(""),
+    ))
 }
 
 #[test]
@@ -163,35 +182,38 @@ fn numbers_of_written_bits(rt: HostRuntime) -> Result<(), Fail> {
 /// The greatest number of 127 bits.
 const BELOW: u128 = 170141183460469231731687303715884105727;
 
-/// Whether so many bits, all of them the same, are these numbers.
-fn are_filled(
-    alloc: Global,
-    bit: Bit,
-    width: u32,
-    unsigned: Option<u128>,
-    signed: Option<i128>,
-) -> Result<bool, Fail> {
-    let bits = Bits::filled(alloc, bit, width)?;
+/// The rows: a bit, how often it stands, and the numbers without a sign and with one; `?` where there are none.
+const FILLED: &str = "\
+1 0 0 ?
+1 1 1 -1
+1 127 170141183460469231731687303715884105727 -1
+1 128 340282366920938463463374607431768211455 -1
+1 129 ? ?
+0 128 0 0
+0 129 ? ?
+x 1 ? ?";
+
+/// Whether so many bits, all of them the same, are the numbers of the row.
+fn are_filled(alloc: Global, row: &str) -> Result<bool, Fail> {
+    let mut fields = row.split(' ');
+    let bit = fields.next().unwrap_or("").as_bytes().first();
+    let width = fields.next().unwrap_or("").parse::<u32>()?;
+    let bits = Bits::filled(alloc, bit_of(*bit.unwrap_or(&b'x')), width)?;
     let is_wide = bits.as_slice().len() == width as usize;
-    Ok(is_wide && bits.unsigned() == unsigned && bits.signed() == signed)
+    Ok(
+        is_wide
+            && are(
+                &bits,
+                fields.next().unwrap_or(""),
+                fields.next().unwrap_or(""),
+            ),
+    )
 }
 
 #[test]
 fn numbers_of_one_bit_repeated(rt: HostRuntime) -> Result<(), Fail> {
-    for (bit, width, unsigned, signed) in [
-        (Bit::S1, 0, Some(0), None),
-        (Bit::S1, 1, Some(1), Some(-1)),
-        (Bit::S1, 127, Some(BELOW), Some(-1)),
-        (Bit::S1, 128, Some(u128::MAX), Some(-1)),
-        (Bit::S1, 129, None, None),
-        (Bit::S0, 128, Some(0), Some(0)),
-        (Bit::S0, 129, None, None),
-        (Bit::X, 1, None, None),
-    ] {
-        assert!(rt;
-            are_filled(rt.alloc(), bit, width, unsigned, signed)?,
-            "{width}"
-        );
+    for row in FILLED.split('\n') {
+        assert!(rt; are_filled(rt.alloc(), row)?, "{row}");
     }
     Ok(())
 }
@@ -221,8 +243,19 @@ fn has_bits(alloc: Global, row: &str) -> Result<bool, Fail> {
     Ok(Bits::from_number(alloc, number, width)?.as_slice() == wanted.as_slice())
 }
 
-/// Whether the greatest number has so many ones at a width, and so many zeros above.
-fn has_ones(alloc: Global, width: u32, ones: u32, zeros: u32) -> Result<bool, Fail> {
+/// The rows: a width, how many ones the greatest number has at it, and how many zeros above.
+const ONES: &str = "\
+127 127 0
+128 128 0
+129 128 1
+200 128 72";
+
+/// Whether the greatest number has the bits of the row.
+fn has_ones(alloc: Global, row: &str) -> Result<bool, Fail> {
+    let mut fields = row.split(' ');
+    let width = fields.next().unwrap_or("").parse::<u32>()?;
+    let ones = fields.next().unwrap_or("").parse::<u32>()?;
+    let zeros = fields.next().unwrap_or("").parse::<u32>()?;
     let mut wanted = Bits::filled(alloc, Bit::S1, ones)?;
     wanted.extend(Bits::filled(alloc, Bit::S0, zeros)?.as_slice())?;
     Ok(Bits::from_number(alloc, u128::MAX, width)?.as_slice() == wanted.as_slice())
@@ -233,8 +266,8 @@ fn bits_of_numbers(rt: HostRuntime) -> Result<(), Fail> {
     for row in BITS_OF_NUMBERS.split('\n') {
         assert!(rt; has_bits(rt.alloc(), row)?, "{row}");
     }
-    for (width, ones, zeros) in [(127, 127, 0), (128, 128, 0), (129, 128, 1), (200, 128, 72)] {
-        assert!(rt; has_ones(rt.alloc(), width, ones, zeros)?, "{width}");
+    for row in ONES.split('\n') {
+        assert!(rt; has_ones(rt.alloc(), row)?, "{row}");
     }
     Ok(())
 }
