@@ -7,3 +7,4 @@ pub mod Passing
 pub mod Trees
 pub mod Wiring
 pub mod Asking
+pub mod Promised

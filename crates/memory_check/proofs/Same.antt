@@ -47,8 +47,12 @@ place_own : (a : SigBit) → same_place a a ≡ true
 place_own (sig.Fixed a) = value_own a
 place_own (sig.Wire a) = rw (eq-eqb a.wire a.wire refl, eq-eqb a.at a.at refl) refl
 
-pub place-decides : (a b : SigBit) → Decides (same_place a b) (a ≡ b)
+place-decides : (a b : SigBit) → Decides (same_place a b) (a ≡ b)
 place-decides a b = (place_same a b, λ e. subst (λ c. same_place a c ≡ true) e (place_own a))
+
+-- a comparison of places is the test of the definition
+pub place_is : (same : Bool) (a b : SigBit) → (same ≡ true → a ≡ b) → (a ≡ b → same ≡ true) → same ≡ same_place a b
+place_is same a b equal complete = one_answer same (same_place a b) (equal, complete) (place-decides a b)
 
 signal-decides : (a b : List SigBit) → Decides (same_signal a b) (a ≡ b)
 signal-decides = pointwise_decides place-decides
@@ -90,20 +94,9 @@ signals_unlike f (x ∷ xs) (y ∷ ys) n =
     by false = refl
 
 module _ (f : SigBit → SigBit) (xs ys : List SigBit) (k : ℕ) (all : Bool) (so_far : same_signal (map f (drop k xs)) (map f (drop k ys)) ≡ all) where
-  module _ (d : SigBit) (lx : k < length xs) (ly : k < length ys) (same : Bool) (equal : same ≡ true → f (get_or xs k d) ≡ f (get_or ys k d)) (complete : f (get_or xs k d) ≡ f (get_or ys k d) → same ≡ true) where
-    x : SigBit
-    x = get_or xs k d
-
-    y : SigBit
-    y = get_or ys k d
-
-    place_is : same ≡ same_place (f x) (f y)
-    unfolding x y
-    place_is = one_answer same (same_place (f x) (f y)) (equal, complete) (place-decides (f x) (f y))
-
+  module _ (d : SigBit) (lx : k < length xs) (ly : k < length ys) (same : Bool) (is : same ≡ same_place (f (get_or xs k d)) (f (get_or ys k d))) where
     split : (same && same_signal (map f (drop (k + 1) xs)) (map f (drop (k + 1) ys))) ≡ all
-    unfolding x y
-    split = (λ i. place_is i && same_signal (map f (drop (k + 1) xs)) (map f (drop (k + 1) ys))) ∙ sym (signal_front f xs ys k d x y lx ly refl refl) ∙ so_far
+    split = (λ i. is i && same_signal (map f (drop (k + 1) xs)) (map f (drop (k + 1) ys))) ∙ sym (signal_front f xs ys k d (get_or xs k d) (get_or ys k d) lx ly refl refl) ∙ so_far
 
     -- a place that differs
     pub place_differs : same ≡ false → false ≡ all

@@ -122,9 +122,26 @@ fn same_signal(index: &Index, one: &[SigBit], other: &[SigBit]) -> bool
         return false;
     }
     for at in 0..one.len() {
-        if !index.follow(one[at]).same(&index.follow(other[at])) {
+        if !have_same_end(index, one[at], other[at]) {
             return false;
         }
     }
     true
+}
+
+/// Whether the two bits lead back along the connections to the same place.
+fn have_same_end(index: &Index, one: SigBit, other: SigBit) -> bool
+    ensures value { (m : Module) → IsIndex index.now (table_ports []) m → result ≡ ports.same_place (follow m.links one) (follow m.links other) }
+{
+    let here = index.follow(one);
+    let there = index.follow(other);
+    is_same_place(here, there)
+}
+
+/// Whether the two bits or constants are the same.
+#[tactic(auto, using(crate::proofs::Same::place_is))]
+fn is_same_place(one: SigBit, other: SigBit) -> bool
+    ensures value { result ≡ ports.same_place one other }
+{
+    one.same(&other)
 }
