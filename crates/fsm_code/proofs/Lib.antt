@@ -5,3 +5,4 @@ pub mod Tabling
 pub mod Marking
 mod Placing
 pub mod Recoding
+pub mod Giving

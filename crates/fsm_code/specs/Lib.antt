@@ -4,3 +4,4 @@ pub mod Parts
 pub mod Links
 pub mod Places
 pub mod Limits
+pub mod Machines

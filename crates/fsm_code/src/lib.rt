@@ -14,9 +14,16 @@ mod wires;
 
 ghost use Rattle.std.specs.Prelude.{◌≡◌, Err, IfOk, OnOk, option_map, slice_get};
 ghost use Rattle.rtl_ir.specs.Build.{building_of};
+ghost use Rattle.rtl_ir.specs.Flat.Cell.{Ports, instances};
+ghost use Rattle.rtl_ir.specs.Ports.{ports_of};
+ghost use Rattle.rtl_ir.specs.Types.{table_ports};
 ghost use Rattle.net_index.specs.Builder.{IsInLimits, PassesLimit};
 ghost use Rattle.net_model.specs.Fsm.Code.{recoded, recoded_of};
+ghost use Rattle.net_model.specs.Refine.{IsWellDriven, RefinesIn};
+ghost use Rattle.pass_laws.specs.Ready.{IsReady};
+ghost use Rattle.fsm_found.specs.Inside.{DrivesInside};
 ghost use Rattle.fsm_code.specs.Limits.{recoding, widened};
+ghost use Rattle.fsm_code.specs.Machines.{IsMachineOf};
 
 use crate::cells::recoded_cells;
 use crate::coding::Coding;
@@ -34,7 +41,36 @@ use std::alloc::Global;
 /// the state become its bits. `Over` comes where the module with the fresh wires would pass a limit on cells, on bits
 /// of wires or on fresh names. After an error the module is given up. In the Yosys manual, the command `fsm_recode`,
 /// with `fsm_map`.
+///
+/// Where a pass may be given the module, the machine is the one that is found for a wire of it, and no bit past the end of
+/// a wire is driven, no known output bit is lost. The answer may be given to the next pass.
 pub fn recode(
+    alloc: Global,
+    module: Module,
+    ports: &PortTable,
+    machine: &Machine,
+) -> Result<Module, PassFault>
+    ensures exact { IfOk result (λ after. after ≡ recoded_of «module» machine.now) }
+    ensures over { result ≡ Err PassFault.Over → PassesLimit (recoding «module» machine.now) }
+    ensures within { OnOk result (IsInLimits (recoding «module» machine.now)) }
+    ensures refines { IfOk result (λ after. IsMachineOf ports.now «module» machine.now →
+        DrivesInside (table_ports ports.now.modules) «module» → RefinesIn «module» after ports.now) }
+    ensures well_driven { IfOk result (λ after. (over : Ports) → IsMachineOf ports.now «module» machine.now →
+        IsWellDriven over «module» → IsWellDriven over after) }
+    ensures well_formed { IfOk result (λ after. IsMachineOf ports.now «module» machine.now → IsReady (table_ports ports.now.modules) after) }
+    ensures inside { IfOk result (λ after. IsMachineOf ports.now «module» machine.now →
+        DrivesInside (table_ports ports.now.modules) «module» → DrivesInside (table_ports ports.now.modules) after) }
+    ensures same_id { IfOk result (λ after. after.id ≡ «module».id) }
+    ensures same_ports { IfOk result (λ after. ports_of after.wires ≡ ports_of «module».wires) }
+    ensures same_instances { IfOk result (λ after. IsMachineOf ports.now «module» machine.now →
+        instances after.cells ≡ instances «module».cells) }
+    ensures same_memories { IfOk result (λ after. after.memories ≡ «module».memories) }
+{
+    recoded_module(alloc, module, ports, machine)
+}
+
+/// The same, from the width of the state wire.
+fn recoded_module(
     alloc: Global,
     module: Module,
     ports: &PortTable,

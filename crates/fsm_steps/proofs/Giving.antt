@@ -1,5 +1,5 @@
 -- What is promised of a module that `fsm` may be given, where no machine passes a limit.
-use Rattle.std.proofs.Common.{◌≡◌, ◌≤◌, ◌+◌, ℕ, zero, suc, Bool, true, false, cond, length, Option, Some, None, Result, Ok, Err, refl, sym, ◌∙◌, ap, subst}
+use Rattle.std.proofs.Common.{◌≡◌, ◌+◌, ℕ, zero, suc, Bool, true, false, cond, length, Option, Some, None, Result, Ok, Err, refl, sym, ◌∙◌, ap, subst}
 use Rattle.std.specs.Prelude.{IfOk, OnOk}
 use Rattle.std.specs.Option.{option_map_or}
 use Rattle.std.proofs.lemmas.Bool.{and_parts}
@@ -17,10 +17,10 @@ use Rattle.net_model.specs.Refine.{IsWellDriven, RefinesIn}
 use Rattle.net_model.proofs.Composing.{RefinesOver_refl}
 use Rattle.pass_laws.specs.Pass.{IsPass}
 use Rattle.pass_laws.specs.Ready.{IsReady}
+use Rattle.fsm_code.proofs.Giving.{short_within}
 use Rattle.fsm_code.specs.Limits.{widened}
 use Rattle.fsm_forms.specs.Short.{AreShort, IsShortIf}
 use Rattle.fsm_forms.proofs.InTurn.{IsFormed, all_formed}
-use Rattle.fsm_forms.proofs.Numbers.{taken}
 use Rattle.fsm_found.proofs.Refined.{machines_refine}
 use Rattle.fsm_found.proofs.Insides.{inside_drives}
 use Rattle.fsm_steps.specs.Within.{are_within, fsm_within, machine_within, machines_within}
@@ -30,7 +30,7 @@ use Rattle.fsm_steps.proofs.Turns.{within_limits}
 -- within the limits fresh names are short
 short_if : (m : Module) (o : Option Machine) → machine_within m o ≡ true → IsShortIf m o
 short_if m None e = tt
-short_if m (Some machine) e = subst (λ n. n ≤ 1000000000) (taken m machine) (within_limits (widened m machine) e).names
+short_if m (Some machine) e = short_within m machine (within_limits (widened m machine) e)
 
 pub are_short : (ports : Ports) (at n : ℕ) (m : Module) → are_within ports at n m ≡ true → AreShort ports at n m
 are_short ports at zero m e = tt

@@ -1,19 +1,17 @@
 -- One machine after another: what is left to do, and whether it stays within the limits.
-use Rattle.std.proofs.Common.{◌≡◌, ◌≤◌, nat_lt, ◌+◌, ◌-◌, ℕ, zero, suc, Bool, true, false, [], Option, Some, None, refl, sym, ◌∙◌, ap, arith}
+use Rattle.std.proofs.Common.{◌≡◌, ◌≤◌, nat_lt, ◌+◌, ◌-◌, ℕ, zero, suc, Bool, true, false, [], None, refl, sym, ◌∙◌, ap, arith}
 use Rattle.std.proofs.lemmas.Bool.Decides.{nat_tests}
-use Rattle.std.specs.Prelude.{◌&&◌, slice_get}
+use Rattle.std.specs.Prelude.{◌&&◌}
 use Rattle.std.specs.Option.{option_map_or}
-use Rattle.rtl_ir.specs.Build.{Building, building_of}
+use Rattle.rtl_ir.specs.Build.{Building}
 use Rattle.rtl_ir.specs.declared.machine.Machine.{Machine}
 use Rattle.rtl_ir.specs.declared.module.Module.{Module}
-use Rattle.rtl_ir.specs.declared.wire.Wire.{Wire}
 use Rattle.rtl_ir.specs.Types.{Ports}
 use Rattle.net_index.specs.Builder.{IsInLimits, PassesLimit}
-use Rattle.net_model.specs.Fsm.Code.{recoded, recoded_of, wires_recoded}
-use Rattle.net_model.specs.Fsm.Find.{machine_of, whole_wire}
+use Rattle.net_model.specs.Fsm.Code.{recoded_of, wires_recoded}
+use Rattle.net_model.specs.Fsm.Find.{machine_of}
 use Rattle.fsm_code.specs.Limits.{recoding, widened}
-use Rattle.fsm_laws.proofs.Machines.{found_machine}
-use Rattle.fsm_laws.proofs.Recoding.{recoded_is}
+use Rattle.fsm_code.proofs.Giving.{recoding_is, stays}
 use Rattle.fsm_steps.specs.Search.{HasNone, IsNext}
 use Rattle.fsm_steps.specs.Within.{are_within, is_within, machine_within}
 
@@ -78,27 +76,15 @@ module _ (ports : Ports) (m : Module) where
         skip_within (wire - from) from (suc rest) left wire (omega (arith, l, r, is.after, is.before)) (omega (arith, is.after)) is.none
         ∙ ap (λ o. machine_within m o && are_within ports (wire + 1) rest (option_map_or (recoded_of m) o m)) is.is
 
-    -- the state wire is there
-    pub recoding_is : recoding m machine ≡ widened m machine
-    recoding_is =
-        let f = found_machine ports m wire machine is.is in
-        let place : machine.wire ≡ wire = ap (λ (x : Machine). x.wire) f.made in
-        ap (λ k. option_map_or (λ (w : Wire). widened m machine) (slice_get m.wires k) (building_of m)) place
-        ∙ ap (λ o. option_map_or (λ (w : Wire). widened m machine) o (building_of m)) f.there
-
     pub step_within : IsInLimits (recoding m machine) → is_within (widened m machine) ≡ true
-    step_within h = ap is_within (sym recoding_is) ∙ limits_within (recoding m machine) h
+    step_within h = ap is_within (sym (recoding_is ports m wire machine is.is)) ∙ limits_within (recoding m machine) h
 
     pub step_passes : PassesLimit (recoding m machine) → is_within (widened m machine) ≡ false
-    step_passes h = ap is_within (sym recoding_is) ∙ limits_passed (recoding m machine) h
+    step_passes h = ap is_within (sym (recoding_is ports m wire machine is.is)) ∙ limits_passed (recoding m machine) h
 
 -- no process comes
 pub processes_stay : (m : Module) (machine : Machine) → (recoded_of m machine).processes ≡ m.processes
-processes_stay m machine = by (slice_get m.wires machine.wire)
-  where
-    by : (o : Option Wire) → (option_map_or (λ (w : Wire). recoded m machine (whole_wire machine.wire w)) o m).processes ≡ m.processes
-    by None = refl
-    by (Some w) = ap (λ (n : Module). n.processes) (recoded_is m machine (whole_wire machine.wire w))
+processes_stay m machine = stays (λ n. n.processes ≡ m.processes) m machine refl (λ state. refl)
 
 -- one wire more that is none
 pub none_more : (ports : Ports) (m : Module) (from wire : ℕ) → HasNone ports m from wire → machine_of ports m wire ≡ None → HasNone ports m from (wire + 1)

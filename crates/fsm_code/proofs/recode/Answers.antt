@@ -1,18 +1,50 @@
--- The state wire is there, or it is not.
-use Rattle.std.proofs.Common.{rules, ◌∙◌, List, sym, ap}
-use Rattle.std.specs.Prelude.{option_map, slice_get}
-use Rattle.rtl_ir.specs.declared.wire.Wire.{Wire}
-use Rattle.fsm_code.proofs.Recoding.{over_before, recoded_there}
+use Rattle.std.proofs.Common.{◌≡◌, sym}
+use Rattle.rtl_ir.specs.Flat.Cell.{Ports, instances}
+use Rattle.rtl_ir.specs.Ports.{ports_of}
+use Rattle.rtl_ir.specs.Types.{table_ports}
+use Rattle.net_model.specs.Refine.{IsWellDriven, RefinesIn}
+use Rattle.pass_laws.specs.Ready.{IsReady}
+use Rattle.fsm_found.specs.Inside.{DrivesInside}
+use Rattle.fsm_code.specs.Machines.{IsMachineOf}
+use Rattle.fsm_code.proofs.Giving.{answer_gives}
 use Rattle.fsm_code.proofs.recode.Goals as goal
 
--- src/lib.rt:47:5
-pub returns-in_err-check_limits-clause-over : goal.returns-in_err-check_limits-clause-over
-returns-in_err-check_limits-clause-over c e =
-    over_before c.args.module c.args.machine.now (search (rules, c.check_limits.ensures.over, e, c.from_residual.ensures))
+pub returns-clause-refines : goal.returns-clause-refines
+returns-clause-refines c =
+    answer_gives c.args.ports.now c.args.module c.args.machine.now (λ after. IsMachineOf c.args.ports.now c.args.module c.args.machine.now → DrivesInside (table_ports c.args.ports.now.modules) c.args.module → RefinesIn c.args.module after c.args.ports.now) (λ n g. g.refines)
+    c.recoded_module.result c.recoded_module.ensures.exact c.recoded_module.ensures.within
 
--- src/lib.rt:37:1
-pub returns-in_ok-after-in-Some-clause-exact : goal.returns-in_ok-after-in-Some-clause-exact
-returns-in_ok-after-in-Some-clause-exact c =
-    recoded_there c.args.module c.args.machine.now c.in-Some.width c.in_ok-state-in-Some.state c.in_ok-after-in-Some.after
-    (sym c.in-Some.is ∙ c.width_at.ensures.value ∙ ap (λ (wires : List Wire). option_map (λ (w : Wire). w.width) (slice_get wires c.args.machine.now.wire)) c.as_slice.ensures.value)
-    c.in_ok-state-in-Some.ensures.value c.in_ok-after-in-Some.ensures.exact
+pub returns-clause-well_driven : goal.returns-clause-well_driven
+returns-clause-well_driven c =
+    answer_gives c.args.ports.now c.args.module c.args.machine.now (λ after. (over : Ports) → IsMachineOf c.args.ports.now c.args.module c.args.machine.now → IsWellDriven over c.args.module → IsWellDriven over after) (λ n g over of. (g.formed of).driven over)
+    c.recoded_module.result c.recoded_module.ensures.exact c.recoded_module.ensures.within
+
+pub returns-clause-well_formed : goal.returns-clause-well_formed
+returns-clause-well_formed c =
+    answer_gives c.args.ports.now c.args.module c.args.machine.now (λ after. IsMachineOf c.args.ports.now c.args.module c.args.machine.now → IsReady (table_ports c.args.ports.now.modules) after) (λ n g of. (g.formed of).ready)
+    c.recoded_module.result c.recoded_module.ensures.exact c.recoded_module.ensures.within
+
+pub returns-clause-inside : goal.returns-clause-inside
+returns-clause-inside c =
+    answer_gives c.args.ports.now c.args.module c.args.machine.now (λ after. IsMachineOf c.args.ports.now c.args.module c.args.machine.now → DrivesInside (table_ports c.args.ports.now.modules) c.args.module → DrivesInside (table_ports c.args.ports.now.modules) after) (λ n g. g.inside)
+    c.recoded_module.result c.recoded_module.ensures.exact c.recoded_module.ensures.within
+
+pub returns-clause-same_id : goal.returns-clause-same_id
+returns-clause-same_id c =
+    answer_gives c.args.ports.now c.args.module c.args.machine.now (λ after. after.id ≡ c.args.module.id) (λ n g. g.id)
+    c.recoded_module.result c.recoded_module.ensures.exact c.recoded_module.ensures.within
+
+pub returns-clause-same_ports : goal.returns-clause-same_ports
+returns-clause-same_ports c =
+    answer_gives c.args.ports.now c.args.module c.args.machine.now (λ after. ports_of after.wires ≡ ports_of c.args.module.wires) (λ n g. g.ports)
+    c.recoded_module.result c.recoded_module.ensures.exact c.recoded_module.ensures.within
+
+pub returns-clause-same_instances : goal.returns-clause-same_instances
+returns-clause-same_instances c =
+    answer_gives c.args.ports.now c.args.module c.args.machine.now (λ after. IsMachineOf c.args.ports.now c.args.module c.args.machine.now → instances after.cells ≡ instances c.args.module.cells) (λ n g of. sym (g.formed of).same_instances)
+    c.recoded_module.result c.recoded_module.ensures.exact c.recoded_module.ensures.within
+
+pub returns-clause-same_memories : goal.returns-clause-same_memories
+returns-clause-same_memories c =
+    answer_gives c.args.ports.now c.args.module c.args.machine.now (λ after. after.memories ≡ c.args.module.memories) (λ n g. g.memories)
+    c.recoded_module.result c.recoded_module.ensures.exact c.recoded_module.ensures.within

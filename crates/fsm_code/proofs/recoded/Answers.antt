@@ -13,14 +13,12 @@ use Rattle.fsm_code.specs.Places.{AreMarks, ArePlaces}
 use Rattle.fsm_code.proofs.Recoding.{over_code, over_outputs, recoded_is, same_cells, within_all}
 use Rattle.fsm_code.proofs.recoded.Goals as goal
 
--- src/lib.rt:85:16
 pub returns-in_err-code-clause-over : goal.returns-in_err-code-clause-over
 returns-in_err-code-clause-over c e =
     let named : map (λ at. option_map (λ (c : Cell). at_pin c Y) (slice_get c.args.module.cells at)) c.args.machine.now.muxes ≡ map Some c.in_ok-old.old.items = (λ i. map (λ at. option_map (λ (c : Cell). at_pin c Y) (slice_get (sym c.as_slice.ensures.value i) at)) (sym c.as_slice-2.ensures.value i)) ∙ c.in_ok-old.ensures.value in
     over_code c.args.module c.args.machine.now c.in_ok-old.old.items named c.as_slice-states.result.now c.as_slice-states.ensures.value c.in_ok-builder.builder c.in_ok-builder.ensures.value
     (search (rules, c.code_wire.ensures.over, e, c.from_residual-in_err-code.ensures))
 
--- src/lib.rt:86:19
 pub returns-in_err-outputs-clause-over : goal.returns-in_err-outputs-clause-over
 returns-in_err-outputs-clause-over c e =
     let named : map (λ at. option_map (λ (c : Cell). at_pin c Y) (slice_get c.args.module.cells at)) c.args.machine.now.muxes ≡ map Some c.in_ok-old.old.items = (λ i. map (λ at. option_map (λ (c : Cell). at_pin c Y) (slice_get (sym c.as_slice.ensures.value i) at)) (sym c.as_slice-2.ensures.value i)) ∙ c.in_ok-old.ensures.value in
@@ -28,7 +26,6 @@ returns-in_err-outputs-clause-over c e =
     c.in_ok-code.code c.code_wire.new.builder c.in_ok-code.ensures.exact
     (search (rules, c.fresh_outputs.ensures.over, e, c.from_residual-in_err-outputs.ensures))
 
--- src/lib.rt:66:1
 pub returns-clause-exact : goal.returns-clause-exact
 returns-clause-exact c =
     let ports : Ports = table_ports c.args.ports.now.modules in
@@ -46,7 +43,6 @@ returns-clause-exact c =
     c.in_ok-code.code c.code_wire.new.builder c.in_ok-code.ensures.exact (outputs_of c.in_ok-outputs.outputs) c.fresh_outputs.new.builder c.in_ok-outputs.ensures.exact)
     ∙ (λ i. with_cells (coded_cells c.args.module c.args.machine.now coding 0 c.args.module.cells (record { body = c.finish-wide.ensures.value i; next = c.fresh_outputs.new.builder.next }))))
 
--- src/lib.rt:66:1
 pub returns-clause-within : goal.returns-clause-within
 returns-clause-within c =
     let named : map (λ at. option_map (λ (c : Cell). at_pin c Y) (slice_get c.args.module.cells at)) c.args.machine.now.muxes ≡ map Some c.in_ok-old.old.items = (λ i. map (λ at. option_map (λ (c : Cell). at_pin c Y) (slice_get (sym c.as_slice.ensures.value i) at)) (sym c.as_slice-2.ensures.value i)) ∙ c.in_ok-old.ensures.value in
