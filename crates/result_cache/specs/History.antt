@@ -1,0 +1,68 @@
+-- What a cache does with its keys, one call after another.
+use Rattle.std.specs.Prelude.{◌≡◌, ◌≢◌, ℕ, ◌+◌, List, [], ◌∷◌, if◌then◌else◌}
+use Rattle.std.specs.Str.{bytes_eq}
+use Rattle.result_cache.specs.declared.call.Act.{Act}
+use Rattle.result_cache.specs.declared.call.Act.TheVariants.{Hit, Busy, Yours, Fill, GiveBack}
+use Rattle.result_cache.specs.declared.call.Call.{Call}
+
+-- a key is free, or held by a seat, or filled with the value of a number
+pub data Mode : Type 0 where
+  free : Mode
+  held : ℕ → Mode
+  filled : ℕ → Mode
+
+-- a key of this mode is filled
+abbrev pub IsFilled : Mode → Type 0
+IsFilled free = ⊥
+IsFilled (held seat) = ⊥
+IsFilled (filled number) = Unit {0}
+
+-- a state gives each key its mode
+abbrev pub State : Type 0
+State = List ℕ → Mode
+
+-- at the start each key is free
+abbrev pub all_free : State
+all_free key = free
+
+-- a call on a key, with its reply
+abbrev pub call : ℕ → List ℕ → Act → Call
+call seat key act = record { seat = seat; key = key; act = act }
+
+-- a call behind n others may be made by the seat on a key of this mode, and has that reply there: a seat claims what it does not hold, and fills or gives back what it holds; a value's number is that of the calls before its filling
+abbrev pub IsAllowed : ℕ → ℕ → Act → Mode → Type 0
+IsAllowed n seat (Hit number) mode = mode ≡ filled number
+IsAllowed n seat (Busy by) mode = (mode ≡ held by) × (by ≢ seat)
+IsAllowed n seat Yours mode = mode ≡ free
+IsAllowed n seat (Fill number) mode = (mode ≡ held seat) × (number ≡ n)
+IsAllowed n seat GiveBack mode = mode ≡ held seat
+
+-- the mode of a key after a call on it
+abbrev pub mode_after : ℕ → Act → Mode → Mode
+mode_after seat (Hit number) mode = mode
+mode_after seat (Busy by) mode = mode
+mode_after seat Yours mode = held seat
+mode_after seat (Fill number) mode = filled number
+mode_after seat GiveBack mode = free
+
+-- the state after a call: all other keys stay as they are
+abbrev pub cache_step : State → Call → State
+cache_step state c key = if bytes_eq c.key key then mode_after c.seat c.act (state key) else state key
+
+-- the state after calls, from another state
+abbrev pub state_from : State → List Call → State
+state_from state [] = state
+state_from state (c ∷ calls) = state_from (cache_step state c) calls
+
+-- the state after a history
+abbrev pub state_after : List Call → State
+state_after calls = state_from all_free calls
+
+-- behind n calls, which led to this state, each of these calls is allowed and has its reply
+abbrev pub IsLegalFrom : ℕ → State → List Call → Type 0
+IsLegalFrom n state [] = Unit {0}
+IsLegalFrom n state (c ∷ calls) = IsAllowed n c.seat c.act (state c.key) × IsLegalFrom (n + 1) (cache_step state c) calls
+
+-- a history is legal: from the start, each call is allowed and has its reply
+abbrev pub IsLegal : List Call → Type 0
+IsLegal calls = IsLegalFrom 0 all_free calls

@@ -1,0 +1,4 @@
+pub mod History
+pub mod Tickets
+pub mod Stored
+pub mod Claims

@@ -1,0 +1,67 @@
+-- Tickets and fillings, as a history has them.
+use Rattle.std.specs.Prelude.{ℕ, ◌+◌, List, [], ◌∷◌, Bool, true, false, if◌then◌else◌, ◌==◌}
+use Rattle.std.specs.Str.{bytes_eq}
+use Rattle.result_cache.specs.declared.call.Act.{Act}
+use Rattle.result_cache.specs.declared.call.Act.TheVariants.{Hit, Busy, Yours, Fill, GiveBack}
+use Rattle.result_cache.specs.declared.call.Call.{Call}
+
+-- a claim that is answered Yours gives one ticket, and no other call gives any
+abbrev pub gives : Act → ℕ
+gives Yours = 1
+gives (Hit number) = 0
+gives (Busy by) = 0
+gives (Fill number) = 0
+gives GiveBack = 0
+
+-- filling and giving back take one ticket each, and no other call takes any
+abbrev pub takes : Act → ℕ
+takes Yours = 0
+takes (Hit number) = 0
+takes (Busy by) = 0
+takes (Fill number) = 1
+takes GiveBack = 1
+
+-- how many tickets were given out
+abbrev pub given : List Call → ℕ
+given [] = 0
+given (c ∷ calls) = gives c.act + given calls
+
+-- how many tickets came back
+abbrev pub returned : List Call → ℕ
+returned [] = 0
+returned (c ∷ calls) = takes c.act + returned calls
+
+-- the calls of a seat
+abbrev pub calls_by : ℕ → List Call → List Call
+calls_by seat [] = []
+calls_by seat (c ∷ calls) = if c.seat == seat then c ∷ calls_by seat calls else calls_by seat calls
+
+-- whether a seat has the ticket of a key after a call of its own on it, by whether it had it before
+abbrev pub ticket_after : Act → Bool → Bool
+ticket_after (Hit number) had = had
+ticket_after (Busy by) had = had
+ticket_after Yours had = true
+ticket_after (Fill number) had = false
+ticket_after GiveBack had = false
+
+-- whether a seat has the ticket of a key after these calls of its own, by whether it had it before
+abbrev pub ticket_from : Bool → List ℕ → List Call → Bool
+ticket_from had key [] = had
+ticket_from had key (c ∷ calls) = ticket_from (if bytes_eq c.key key then ticket_after c.act had else had) key calls
+
+-- whether a seat that made these calls has the ticket of a key
+abbrev pub has_ticket : List Call → List ℕ → Bool
+has_ticket calls key = ticket_from false key calls
+
+-- a filling counts as one, and no other call counts
+abbrev pub fillings : Act → ℕ
+fillings Yours = 0
+fillings (Hit number) = 0
+fillings (Busy by) = 0
+fillings (Fill number) = 1
+fillings GiveBack = 0
+
+-- how often a key was filled
+abbrev pub times_filled : List ℕ → List Call → ℕ
+times_filled key [] = 0
+times_filled key (c ∷ calls) = (if bytes_eq c.key key then fillings c.act else 0) + times_filled key calls

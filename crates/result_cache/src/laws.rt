@@ -1,0 +1,40 @@
+//! Laws of legal histories, and what holds of every shard.
+
+ghost use Rattle.std.specs.Prelude.{◌≡◌, ◌↔◌, ◌≤◌, ◌+◌, ◌++◌, ℕ, List, true, IfSome, IsSome};
+ghost use Rattle.rtl_sig.specs.Names.{AreDistinct};
+ghost use Rattle.result_cache.specs.History.{held, filled, state_after, IsFilled, IsLegal};
+ghost use Rattle.result_cache.specs.Tickets.{calls_by, has_ticket, times_filled, given, returned};
+ghost use Rattle.result_cache.specs.Stored.{value_at, mode_at, kept_mode, held_keys};
+
+use crate::call::Call;
+use crate::keyed::Keyed;
+use crate::shard::Shard;
+
+/// In a legal history no key is filled twice: a filled key keeps its value.
+#[tactic(auto, using(crate::proofs::Filled::filled_once, crate::proofs::Filled::filled_stays))]
+pub fn keys_are_filled_once()
+    ensures once { (calls : List Call) (key : List ℕ) → IsLegal calls → times_filled key calls ≤ 1 }
+    ensures stays { (calls more : List Call) (key : List ℕ) (number : ℕ) → IsLegal (calls ++ more) → state_after calls key ≡ filled number → state_after (calls ++ more) key ≡ filled number }
+{}
+
+/// In a legal history a seat holds just the keys that it has the tickets of by its own calls, and
+/// no two seats have the ticket of one key.
+#[tactic(auto, using(crate::proofs::Holders::own_ticket, crate::proofs::Holders::one_holder))]
+pub fn keys_have_one_holder()
+    ensures own { (calls : List Call) (seat : ℕ) (key : List ℕ) → IsLegal calls → (state_after calls key ≡ held seat) ↔ (has_ticket (calls_by seat calls) key ≡ true) }
+    ensures one { (calls : List Call) (a b : ℕ) (key : List ℕ) → IsLegal calls → has_ticket (calls_by a calls) key ≡ true → has_ticket (calls_by b calls) key ≡ true → a ≡ b }
+{}
+
+/// The history of a shard is legal, and replayed from the start it gives what is kept of each key,
+/// of which none stands twice. A key has a value exactly where it is filled, and the value stands for
+/// it. As many keys are held as tickets were given out and did not come back.
+pub fn shards_are_sound<V: Keyed>(shard: &Shard<V>)
+    ensures legal { IsLegal shard.now.history }
+    ensures replays { (key : List ℕ) → mode_at shard.now key ≡ kept_mode shard.now key }
+    ensures distinct { AreDistinct shard.now.keys }
+    ensures filled { (key : List ℕ) → IsSome (value_at shard.now key) ↔ IsFilled (mode_at shard.now key) }
+    ensures stands { (key : List ℕ) → IfSome (value_at shard.now key) (λ value. V.stands_for value key) }
+    ensures tickets { held_keys shard.now + returned shard.now.history ≡ given shard.now.history }
+{
+    shard.facts();
+}
