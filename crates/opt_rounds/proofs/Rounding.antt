@@ -96,9 +96,9 @@ module _ (P : types.Ports) where
   pub round_same : (m folded merged cleaned : Module) (s t u : Bool)
       → (s ≡ true → folded ≡ m) → (t ≡ true → merged ≡ folded) → (u ≡ true → cleaned ≡ merged) → s && t && u ≡ true → cleaned ≡ m
   round_same m folded merged cleaned s t u f g h e =
-      let one = and_parts s (t && u) e in
-      let two = and_parts t u one.1 in
-      h two.1 ∙ g two.0 ∙ f one.0
+      let two = and_parts (s && t) u e in
+      let one = and_parts s t two.0 in
+      h two.1 ∙ g one.1 ∙ f one.0
 
   -- a round that changes nothing is the last that counts
   pub last_round : (r : ℕ) (m after all : Module) → after ≡ round_of P m → after ≡ m → rounds_of P (32 - r) m ≡ all → after ≡ all

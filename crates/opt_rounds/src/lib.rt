@@ -3,7 +3,7 @@
 
 pub mod laws;
 
-ghost use Rattle.std.specs.Prelude.{◌≡◌, true, IfOk};
+ghost use Rattle.std.specs.Prelude.{◌≡◌, ◌&&◌, true, IfOk};
 ghost use Rattle.rtl_ir.specs.Flat.Cell.{instances};
 ghost use Rattle.rtl_ir.specs.Ports.{ports_of};
 ghost use Rattle.rtl_ir.specs.Types.{table_ports};
@@ -71,8 +71,15 @@ fn round(alloc: Global, module: Module, ports: &PortTable) -> Result<Turn, Memor
     let cleaned = cleaned(alloc, merged.module, ports)?;
     Ok(Turn {
         module: cleaned.module,
-        is_same: folded.is_same && merged.is_same && cleaned.is_same,
+        is_same: are_all(folded.is_same, merged.is_same, cleaned.is_same),
     })
+}
+
+/// Whether all three hold.
+fn are_all(one: bool, two: bool, three: bool) -> bool
+    ensures value { result ≡ (one && two && three) }
+{
+    one && two && three
 }
 
 /// `opt_expr`.

@@ -1,8 +1,12 @@
+use Rattle.std.proofs.Common.{◌≡◌, Bool, true, sym, subst}
 use Rattle.rtl_ir.specs.Types.{table_ports}
-use Rattle.opt_rounds.proofs.Rounding.{one_round}
+use Rattle.opt_rounds.proofs.Rounding.{one_round, round_same}
 use Rattle.opt_rounds.proofs.round.Goals as goal
 
-pub returns : goal.returns
-returns c = record {
-  exact = one_round (table_ports c.args.ports.now.modules) c.args.module.now c.in_ok-folded.folded c.in_ok-merged.merged c.in_ok-folded.ensures.exact c.in_ok-merged.ensures.exact c.apply-3.result c.apply-3.ensures.exact;
-}
+pub returns-clause-exact : goal.returns-clause-exact
+returns-clause-exact c =
+    one_round (table_ports c.args.ports.now.modules) c.args.module c.in_ok-folded.folded.module c.in_ok-merged.merged.module c.in_ok-cleaned.cleaned.module c.in_ok-folded.ensures.exact c.in_ok-merged.ensures.exact c.in_ok-cleaned.ensures.exact
+
+pub returns-clause-same : goal.returns-clause-same
+returns-clause-same c =
+    subst (λ (t : Bool). t ≡ true → c.in_ok-cleaned.cleaned.module ≡ c.args.module) (sym c.are_all.ensures.value) (round_same (table_ports c.args.ports.now.modules) c.args.module c.in_ok-folded.folded.module c.in_ok-merged.merged.module c.in_ok-cleaned.cleaned.module c.in_ok-folded.folded.is_same c.in_ok-merged.merged.is_same c.in_ok-cleaned.cleaned.is_same c.in_ok-folded.ensures.same c.in_ok-merged.ensures.same c.in_ok-cleaned.ensures.same)
