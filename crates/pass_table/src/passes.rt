@@ -49,6 +49,7 @@ fn script_of(alloc: Global, word: Word) -> Result<Script, Memory>
 }
 
 /// The script `proc opt memory opt`.
+#[tactic(auto, using(crate::proofs::Scripts::three_words, crate::proofs::Scripts::four_words))]
 fn memory_script(alloc: Global) -> Result<Script, Memory>
     ensures words { IfOk result (λ script. script ≡ Proc ∷ Opt ∷ WordMemory ∷ Opt ∷ []) }
 {
