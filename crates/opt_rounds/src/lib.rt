@@ -39,7 +39,7 @@ pub fn apply(alloc: Global, module: Module, ports: &PortTable) -> Result<Module,
 /// A module, and whether it is the one that it was made of.
 #[derive(Drop)]
 struct Turn {
-    module: Module,
+    after: Module,
     is_same: bool,
 }
 
@@ -53,9 +53,9 @@ fn rounds(alloc: Global, module: Module, ports: &PortTable) -> Result<Module, Me
     for _round in 0..MAX_ROUNDS {
         let turn = round(alloc, module, ports)?;
         if turn.is_same {
-            return Ok(turn.module);
+            return Ok(turn.after);
         }
-        module = turn.module;
+        module = turn.after;
     }
     Ok(module)
 }
@@ -63,14 +63,14 @@ fn rounds(alloc: Global, module: Module, ports: &PortTable) -> Result<Module, Me
 /// One round. No more than two modules stand beside each other at a time.
 fn round(alloc: Global, module: Module, ports: &PortTable) -> Result<Turn, Memory>
     requires ready { IsReady (table_ports ports.now.modules) «module» }
-    ensures exact { IfOk result (λ turn. turn.module ≡ round_of (table_ports ports.now.modules) «module») }
-    ensures same { IfOk result (λ turn. turn.is_same ≡ true → turn.module ≡ «module») }
+    ensures exact { IfOk result (λ turn. turn.after ≡ round_of (table_ports ports.now.modules) «module») }
+    ensures same { IfOk result (λ turn. turn.is_same ≡ true → turn.after ≡ «module») }
 {
     let folded = folded(alloc, module, ports)?;
-    let merged = merged(alloc, folded.module, ports)?;
-    let cleaned = cleaned(alloc, merged.module, ports)?;
+    let merged = merged(alloc, folded.after, ports)?;
+    let cleaned = cleaned(alloc, merged.after, ports)?;
     Ok(Turn {
-        module: cleaned.module,
+        after: cleaned.after,
         is_same: are_all(folded.is_same, merged.is_same, cleaned.is_same),
     })
 }
@@ -85,45 +85,36 @@ fn are_all(one: bool, two: bool, three: bool) -> bool
 /// `opt_expr`.
 fn folded(alloc: Global, module: Module, ports: &PortTable) -> Result<Turn, Memory>
     requires ready { IsReady (table_ports ports.now.modules) «module» }
-    ensures exact { IfOk result (λ turn. turn.module ≡ expr_of (table_ports ports.now.modules) «module») }
-    ensures ready { IfOk result (λ turn. IsReady (table_ports ports.now.modules) turn.module) }
-    ensures same { IfOk result (λ turn. turn.is_same ≡ true → turn.module ≡ «module») }
+    ensures exact { IfOk result (λ turn. turn.after ≡ expr_of (table_ports ports.now.modules) «module») }
+    ensures ready { IfOk result (λ turn. IsReady (table_ports ports.now.modules) turn.after) }
+    ensures same { IfOk result (λ turn. turn.is_same ≡ true → turn.after ≡ «module») }
 {
     let after = opt_expr::apply(alloc, &module, ports)?;
     let is_same = is_same(&after, &module);
-    Ok(Turn {
-        module: after,
-        is_same,
-    })
+    Ok(Turn { after, is_same })
 }
 
 /// `opt_merge`.
 fn merged(alloc: Global, module: Module, ports: &PortTable) -> Result<Turn, Memory>
     requires ready { IsReady (table_ports ports.now.modules) «module» }
-    ensures exact { IfOk result (λ turn. turn.module ≡ merge_of «module») }
-    ensures ready { IfOk result (λ turn. IsReady (table_ports ports.now.modules) turn.module) }
-    ensures same { IfOk result (λ turn. turn.is_same ≡ true → turn.module ≡ «module») }
+    ensures exact { IfOk result (λ turn. turn.after ≡ merge_of «module») }
+    ensures ready { IfOk result (λ turn. IsReady (table_ports ports.now.modules) turn.after) }
+    ensures same { IfOk result (λ turn. turn.is_same ≡ true → turn.after ≡ «module») }
 {
     let after = opt_merge::apply(alloc, &module, ports)?;
     let is_same = is_same(&after, &module);
-    Ok(Turn {
-        module: after,
-        is_same,
-    })
+    Ok(Turn { after, is_same })
 }
 
 /// `opt_clean`.
 fn cleaned(alloc: Global, module: Module, ports: &PortTable) -> Result<Turn, Memory>
     requires ready { IsReady (table_ports ports.now.modules) «module» }
-    ensures exact { IfOk result (λ turn. turn.module ≡ clean_of (table_ports ports.now.modules) «module») }
-    ensures same { IfOk result (λ turn. turn.is_same ≡ true → turn.module ≡ «module») }
+    ensures exact { IfOk result (λ turn. turn.after ≡ clean_of (table_ports ports.now.modules) «module») }
+    ensures same { IfOk result (λ turn. turn.is_same ≡ true → turn.after ≡ «module») }
 {
     let after = opt_clean::apply(alloc, &module, ports)?;
     let is_same = is_same(&after, &module);
-    Ok(Turn {
-        module: after,
-        is_same,
-    })
+    Ok(Turn { after, is_same })
 }
 
 /// Whether a pass gave the wires, cells and connections of the module, and so the module: it changes nothing else.

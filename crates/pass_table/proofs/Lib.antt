@@ -1,1 +1,1 @@
-mod Scripts
+pub mod Scripts

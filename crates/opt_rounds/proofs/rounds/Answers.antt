@@ -9,14 +9,14 @@ pub returns-then-turn : goal.returns-then-turn
 returns-then-turn c =
     let P = table_ports c.args.ports.now.modules in
     record {
-      exact = last_round P c.loop-round._round c.loop-round.module c.in_ok-turn.turn.module (opt_of P c.args.module) c.in_ok-turn.ensures.exact (c.in_ok-turn.ensures.same c.if-turn.true) c.loop-round.invariant.0;
+      exact = last_round P c.loop-round._round c.loop-round.module c.in_ok-turn.turn.after (opt_of P c.args.module) c.in_ok-turn.ensures.exact (c.in_ok-turn.ensures.same c.if-turn.true) c.loop-round.invariant.0;
     }
 
 pub loop-round-preserved : goal.loop-round-preserved
 loop-round-preserved c =
     let P = table_ports c.args.ports.now.modules in
     let ready = round_ready c.args.ports.now c.loop-round.module c.loop-round.invariant.1 in (
-      fewer_left P c.loop-round._round c.loop-round.module c.in_ok-turn.turn.module (opt_of P c.args.module) c.loop-round-test.true c.in_ok-turn.ensures.exact c.loop-round.invariant.0,
+      fewer_left P c.loop-round._round c.loop-round.module c.in_ok-turn.turn.after (opt_of P c.args.module) c.loop-round-test.true c.in_ok-turn.ensures.exact c.loop-round.invariant.0,
       subst (IsReady P) (sym c.in_ok-turn.ensures.exact) ready,
     )
 
