@@ -92,7 +92,7 @@ fn with_kept(alloc: Global, module: &Module, types: &Types, index: &Index) -> Re
 fn marked_cells(alloc: Global, cells: Vec<Cell>, marks: &[bool]) -> Result<Vec<Cell>, Memory>
     ensures value { IfOk result (λ kept. kept.items ≡ marked marks.now cells.items) }
 {
-    let mut kept = Vec::new(alloc);
+    let mut kept = Vec::with_capacity(alloc, cells.len())?;
     let mut place = 0;
     for cell in cells {
         if place < marks.len() {

@@ -1,6 +1,6 @@
 //! Cells with their inputs followed through the connections.
 
-ghost use Rattle.std.specs.Prelude.{◌≡◌, List, IfOk, OnOk, map};
+ghost use Rattle.std.specs.Prelude.{◌≡◌, true, List, IfOk, OnOk, map};
 ghost use Rattle.rtl_sig.specs.declared.sig.SigBit.{SigBit};
 ghost use Rattle.rtl_ir.specs.Follow.{follow};
 ghost use Rattle.rtl_ir.specs.Types as rtl;
@@ -13,27 +13,34 @@ use net_alias::Aliases;
 use net_index::{CellType, Types, drives_pin};
 use rtl_bits::{Copied, Memory, Seq};
 use rtl_ir::{Cell, Pin};
+use rtl_same::Same;
 use rtl_sig::{SigBit, SigSpec};
 use std::alloc::Global;
 
-/// The cell with its input bits followed.
+/// A cell whose input bits are followed, and whether that is the cell itself.
+#[derive(Drop)]
+pub(crate) struct Followed {
+    pub(crate) cell: Cell,
+    pub(crate) is_same: bool,
+}
+
+/// The cell with its input bits followed. All but its pins moves.
 pub(crate) fn followed_cell(
     alloc: Global,
     types: &Types,
     aliases: &mut Aliases,
-    cell: &Cell,
-) -> Result<Cell, Memory>
-    ensures value { IfOk result (λ after. (ports : rtl.Ports) (links : List Link) → AreTypes types.now ports → IsAliases aliases.old links → after ≡ followed_cell ports links cell.now) }
+    cell: Cell,
+) -> Result<Followed, Memory>
+    ensures value { IfOk result (λ after. (ports : rtl.Ports) (links : List Link) → AreTypes types.now ports → IsAliases aliases.old links → after.cell ≡ followed_cell ports links cell) }
+    ensures same { IfOk result (λ after. after.is_same ≡ true → after.cell ≡ cell) }
     ensures keeps { (links : List Link) → IsAliases aliases.old links → IsAliases aliases.new links }
 {
     let cell_type = types.find(cell.kind_name.as_slice());
     let pins = followed_pins(alloc, &cell_type, aliases, cell.pins.as_slice())?;
-    Ok(Cell {
-        kind_name: cell.kind_name.copy()?,
-        name: cell.name.copy()?,
-        params: cell.params.copy()?,
-        pins,
-        attributes: cell.attributes.copy()?,
+    let is_same = pins.same(&cell.pins);
+    Ok(Followed {
+        cell: Cell { pins, ..cell },
+        is_same,
     })
 }
 

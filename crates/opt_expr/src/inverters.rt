@@ -15,16 +15,17 @@ use rtl_bits::{Bit, Memory};
 use rtl_ir::Cell;
 use rtl_sig::{SigBit, SigSpec};
 use std::alloc::Global;
+use std::collections::VecDeque;
 
 /// What another cell than the one between those that are done and the rest inverts to the word.
 pub(crate) fn inverted(
     alloc: Global,
     places: &Places,
     done: &[Option<Cell>],
-    rest: &[Cell],
+    rest: &VecDeque<Cell>,
     word: &[SigBit],
 ) -> Result<Option<SigSpec>, Memory>
-    ensures value { IfOk result (λ input. (cells : List Cell) → ArePlaces places.now cells → input ≡ inverted cells done.now rest.now word.now) }
+    ensures value { IfOk result (λ input. (cells : List Cell) → ArePlaces places.now cells → input ≡ inverted cells done.now rest.now.items word.now) }
 {
     match place_of(places, word) {
         Some(place) => input_at(alloc, place, done, rest, false, word),
@@ -37,10 +38,10 @@ pub(crate) fn inverted_bit(
     alloc: Global,
     places: &Places,
     done: &[Option<Cell>],
-    rest: &[Cell],
+    rest: &VecDeque<Cell>,
     word: &[SigBit],
 ) -> Result<Option<SigBit>, Memory>
-    ensures value { IfOk result (λ bit. (cells : List Cell) → ArePlaces places.now cells → bit ≡ inverted_bit cells done.now rest.now word.now) }
+    ensures value { IfOk result (λ bit. (cells : List Cell) → ArePlaces places.now cells → bit ≡ inverted_bit cells done.now rest.now.items word.now) }
 {
     if word.len() != 1 {
         return Ok(None);
@@ -69,11 +70,11 @@ fn input_at(
     alloc: Global,
     place: usize,
     done: &[Option<Cell>],
-    rest: &[Cell],
+    rest: &VecDeque<Cell>,
     logic: bool,
     word: &[SigBit],
 ) -> Result<Option<SigSpec>, Memory>
-    ensures value { IfOk result (λ input. input ≡ input_at logic (other_at done.now rest.now (Some place)) word.now) }
+    ensures value { IfOk result (λ input. input ≡ input_at logic (other_at done.now rest.now.items (Some place)) word.now) }
 {
     let count = done.len();
     if place < count {
@@ -81,8 +82,10 @@ fn input_at(
             Some(cell) => input_of(alloc, cell, logic, word),
             None => Ok(None),
         }
-    } else if place > count && place - count - 1 < rest.len() {
-        input_of(alloc, &rest[place - count - 1], logic, word)
+    } else if place > count
+        && let Some(cell) = rest.get(place - count - 1)
+    {
+        input_of(alloc, cell, logic, word)
     } else {
         Ok(None)
     }

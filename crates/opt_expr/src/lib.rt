@@ -8,8 +8,9 @@ mod kept;
 mod places;
 mod sweep;
 mod values;
+mod visit;
 
-ghost use Rattle.std.specs.Prelude.{◌≡◌, IfOk};
+ghost use Rattle.std.specs.Prelude.{◌≡◌, true, IfOk};
 ghost use Rattle.rtl_ir.specs.Flat.Cell.{Ports, instances};
 ghost use Rattle.rtl_ir.specs.Flat.Tree as flat;
 ghost use Rattle.rtl_ir.specs.Ports.{ports_of};
@@ -19,9 +20,16 @@ ghost use Rattle.pass_laws.specs.Ready.{IsReady};
 ghost use Rattle.opt_expr.specs.Sweep.{expr_of};
 
 use crate::sweep::sweep;
-use rtl_bits::Memory;
+use rtl_bits::{Copied, Memory};
 use rtl_ir::{Module, PortTable};
 use std::alloc::Global;
+
+/// What the pass makes of a module, and whether that is the module itself.
+#[derive(Drop)]
+pub struct Turn {
+    pub after: Module,
+    pub is_same: bool,
+}
 
 /// The module after one sweep: in order, each cell gets its input bits followed through the connections, and then goes
 /// or becomes another one by the first rule that fits, unless it has a nonzero `\keep`. In the Yosys manual, the pass
@@ -36,5 +44,23 @@ pub fn apply(alloc: Global, module: &Module, ports: &PortTable) -> Result<Module
     ensures same_ports { IfOk result (λ after. ports_of after.wires ≡ ports_of «module».now.wires) }
     ensures same_instances { IfOk result (λ after. instances after.cells ≡ instances «module».now.cells) }
 {
-    sweep(alloc, module, ports)
+    let turn = apply_owned(alloc, module.copy()?, ports)?;
+    Ok(turn.after)
+}
+
+/// As `apply`, of a module that is given away: when a cell's turn comes, what stays of it moves and the rest is freed, so
+/// that the cells before the pass and after it do not stand beside each other.
+pub fn apply_owned(alloc: Global, module: Module, ports: &PortTable) -> Result<Turn, Memory>
+    requires ready { IsReady (table_ports ports.now.modules) «module» }
+    ensures exact { IfOk result (λ turn. turn.after ≡ expr_of (table_ports ports.now.modules) «module») }
+    ensures same { IfOk result (λ turn. turn.is_same ≡ true → turn.after ≡ «module») }
+    ensures refines { IfOk result (λ turn. RefinesIn «module» turn.after ports.now) }
+    ensures well_driven { IfOk result (λ turn. (over : Ports) → AgreeOn (flat.table_ports ports.now) over (instances «module».cells) → IsWellDriven over «module» → IsWellDriven over turn.after) }
+    ensures well_formed { IfOk result (λ turn. IsReady (table_ports ports.now.modules) turn.after) }
+    ensures same_id { IfOk result (λ turn. turn.after.id ≡ «module».id) }
+    ensures same_ports { IfOk result (λ turn. ports_of turn.after.wires ≡ ports_of «module».wires) }
+    ensures same_instances { IfOk result (λ turn. instances turn.after.cells ≡ instances «module».cells) }
+{
+    let turn = sweep(alloc, module, ports)?;
+    Ok(turn)
 }

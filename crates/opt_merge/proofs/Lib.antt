@@ -15,4 +15,6 @@ pub mod Placing
 pub mod Stepping
 pub mod Refining
 pub mod Starting
+pub mod Picking
+pub mod Counting
 pub mod Whole

@@ -33,6 +33,11 @@ module _ {A : Type 0} where
   get_within (y ∷ ys) zero x e = omega arith
   get_within (y ∷ ys) (suc at) x e = omega (arith, get_within ys at x e)
 
+  pub get_beyond : (xs : List A) (at : ℕ) → slice_get xs at ≡ None → length xs ≤ at
+  get_beyond [] at e = omega arith
+  get_beyond (y ∷ ys) zero e = absurd (cc)
+  get_beyond (y ∷ ys) (suc at) e = omega (arith, get_beyond ys at e)
+
   pub get_there : (xs : List A) (at : ℕ) (x : A) → slice_get xs at ≡ Some x → (d : A) → get_or xs at d ≡ x
   get_there [] at x e d = absurd (cc)
   get_there (y ∷ ys) zero x e d = let same : y ≡ x = cc in same

@@ -1,8 +1,6 @@
 -- The whole pass.
-use Rattle.std.proofs.Common.{◌≡◌, ℕ, ◌+◌, ◌<◌, ◌≤◌, true, false, cond, List, [], ◌∷◌, ◌++◌, append_assoc, length, get_or, drop, map, Some, refl, sym, ◌∙◌, ap}
-use Rattle.std.specs.Prelude.{IfOk, Result, Ok, Err, slice_get}
-use Rattle.std.proofs.Math.ListN.{drop_of_length-le}
-use Rattle.std.proofs.lemmas.List.{append-nil}
+use Rattle.std.proofs.Common.{◌≡◌, ℕ, true, false, cond, List, [], sym, ◌∙◌, ap, subst}
+use Rattle.std.specs.Prelude.{IfOk, Result, Ok, Err}
 use Rattle.rtl_bits.specs.declared.memory.Memory.{Memory}
 use Rattle.rtl_ir.specs.declared.cell.Cell.{Cell}
 use Rattle.rtl_ir.specs.declared.module.Link.{Link}
@@ -10,31 +8,24 @@ use Rattle.rtl_ir.specs.declared.module.Module.{Module}
 use Rattle.rtl_ir.specs.Flat.Start.{start_of}
 use Rattle.rtl_ir.specs.Types.{Ports}
 use Rattle.pass_laws.specs.Ready.{IsReady}
-use Rattle.opt_merge.specs.Merge.{after_cells, drives_own, merge_of, merging_of, with_merging}
-use Rattle.opt_merge.proofs.Sofar.{drop_here, get_at}
+use Rattle.opt_merge.specs.declared.merger.Merger.{Merger}
+use Rattle.opt_merge.specs.Picked.{AreThese}
+use Rattle.opt_merge.specs.State.{IsState}
+use Rattle.opt_merge.specs.Merge.{Merging, after_cells, drives_own, merge_of, merging_of, with_merging}
 
--- the cells at places, one more
-abbrev pub Left : List Cell → List ℕ → ℕ → List Cell → List Cell → Type 0
-Left cells places at kept all = (rest : List Cell) × (kept ++ rest ≡ all) × (map (slice_get cells) (drop at places) ≡ map Some rest)
+-- what a sweep from the first cell on leaves
+abbrev pub first_of : Module → Merging
+first_of m = record { cells = []; links = m.links }
 
-pub left_next : (cells : List Cell) (places : List ℕ) (at d : ℕ) (kept new all : List Cell) → at < length places → Left cells places at kept all
-    → ((c : Cell) → slice_get cells (get_or places at d) ≡ Some c → new ≡ kept ++ c ∷ []) → Left cells places (at + 1) new all
-left_next cells places at d kept new all lt left pushed =
-    by left.0 left.1 (sym (ap (map (slice_get cells)) (drop_here places at (get_or places at d) (get_at places at d (get_or places at d) lt refl))) ∙ left.2)
-  where
-    by : (rest : List Cell) → kept ++ rest ≡ all → map (slice_get cells) (get_or places at d ∷ drop (at + 1) places) ≡ map Some rest → Left cells places (at + 1) new all
-    by [] e f = absurd (cc)
-    by (c ∷ rest) e f =
-        let here : slice_get cells (get_or places at d) ≡ Some c = cc in
-        let tail : map (slice_get cells) (drop (at + 1) places) ≡ map Some rest = cc in
-        (rest, ap (λ z. z ++ rest) (pushed c here) ∙ append_assoc kept (c ∷ []) rest ∙ e, tail)
+pub state_over : (m : Module) (cells : List Cell) (merger : Merger) → cells ≡ m.cells → IsState merger m.wires m.links m.cells 0 (first_of m) → IsState merger m.wires m.links cells 0 (first_of m)
+state_over m cells merger same state = subst (λ cs. IsState merger m.wires m.links cs 0 (first_of m)) (sym same) state
 
-pub left_none : (cells : List Cell) (places : List ℕ) (at : ℕ) (kept all : List Cell) → length places ≤ at → Left cells places at kept all → kept ≡ all
-left_none cells places at kept all h left = by left.0 left.1 (sym (ap (map (slice_get cells)) (drop_of_length-le places h)) ∙ left.2)
-  where
-    by : (rest : List Cell) → kept ++ rest ≡ all → [] ≡ map Some rest → kept ≡ all
-    by [] e f = sym (append-nil kept) ∙ e
-    by (c ∷ rest) e f = absurd (cc)
+module _ (m : Module) (cells : List Cell) (merger : Merger) (same : cells ≡ m.cells) (state : (at : ℕ) × IsState merger m.wires m.links cells at (after_cells (start_of m.wires []) (first_of m) cells)) where
+  pub swept_cells : AreThese m.cells merger.kept.items (after_cells (start_of m.wires []) (first_of m) m.cells).cells
+  swept_cells = subst (λ cs. AreThese cs merger.kept.items (after_cells (start_of m.wires []) (first_of m) cs).cells) same (record { there = state.1.kept; rising = state.1.rising })
+
+  pub swept_links : merger.links ≡ (after_cells (start_of m.wires []) (first_of m) m.cells).links
+  swept_links = state.1.links ∙ ap (λ cs. (after_cells (start_of m.wires []) (first_of m) cs).links) same
 
 -- the module that a sweep leaves
 pub merged_is : (m : Module) (kept : List Cell) (links : List Link) → m.processes ≡ [] → kept ≡ (after_cells (start_of m.wires []) (record { cells = []; links = m.links }) m.cells).cells

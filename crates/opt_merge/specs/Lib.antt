@@ -7,3 +7,4 @@ pub mod Readers
 pub mod Reading
 pub mod Entries
 pub mod State
+pub mod Picked

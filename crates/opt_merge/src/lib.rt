@@ -12,11 +12,11 @@ mod signals;
 mod table;
 mod values;
 
-ghost use Rattle.std.specs.Prelude.{◌≡◌, ◌∷◌, ◌++◌, List, [], IfOk, OnOk, Some, map, slice_get};
+ghost use Rattle.std.specs.Prelude.{◌≡◌, ◌==◌, ◌∷◌, ◌++◌, [], false, IfOk, OnOk, if◌then◌else◌, length, slice_get};
 ghost use Rattle.std.specs.List.{list_all};
-ghost use Rattle.std.specs.Option.{is_some};
-ghost use Rattle.rtl_ir.specs.declared.cell.Cell.{Cell};
+ghost use Rattle.std.specs.Option.{is_some, option_map_or};
 ghost use Rattle.rtl_ir.specs.Flat.Cell.{Ports, instances};
+ghost use Rattle.rtl_ir.specs.Flat.Start.{start_of};
 ghost use Rattle.rtl_ir.specs.Flat.Tree as tree;
 ghost use Rattle.rtl_ir.specs.Ports.{ports_of};
 ghost use Rattle.rtl_ir.specs.Signals.{wire_bits};
@@ -25,7 +25,8 @@ ghost use Rattle.net_model.specs.Refine.{AgreeOn, IsWellDriven, RefinesIn};
 ghost use Rattle.rtl_ir.specs.Types.{table_ports};
 ghost use Rattle.net_index.specs.Numbering.{number_of};
 ghost use Rattle.pass_laws.specs.Ready.{IsReady};
-ghost use Rattle.opt_merge.specs.Merge.{bits_by, drives_own, merge_of, merging_of, with_merging};
+ghost use Rattle.opt_merge.specs.Merge.{after_cells, bits_by, drives_own, merge_of, merging_of, with_merging};
+ghost use Rattle.opt_merge.specs.Picked.{AreThese, picked};
 ghost use Rattle.opt_merge.specs.State.{IsDrivenOnce};
 
 use crate::kinds::merging_kind;
@@ -50,15 +51,31 @@ pub fn apply(alloc: Global, module: &Module, ports: &PortTable) -> Result<Module
     ensures same_ports { IfOk result (λ after. ports_of after.wires ≡ ports_of «module».now.wires) }
     ensures same_instances { IfOk result (λ after. instances after.cells ≡ instances «module».now.cells) }
 {
+    apply_owned(alloc, module.copy()?, ports)
+}
+
+/// As `apply`, of a module that is given away: the cells that stay are moved, and none is copied. The answer has as many
+/// cells as the module only where it is the module.
+pub fn apply_owned(alloc: Global, module: Module, ports: &PortTable) -> Result<Module, Memory>
+    requires ready { IsReady (table_ports ports.now.modules) «module» }
+    ensures exact { IfOk result (λ after. after ≡ merge_of «module») }
+    ensures refines { IfOk result (λ after. RefinesIn «module» after ports.now) }
+    ensures well_driven { IfOk result (λ after. (over : Ports) → AgreeOn (tree.table_ports ports.now) over (instances «module».cells) → IsWellDriven over «module» → IsWellDriven over after) }
+    ensures well_formed { IfOk result (λ after. IsReady (table_ports ports.now.modules) after) }
+    ensures same_id { IfOk result (λ after. after.id ≡ «module».id) }
+    ensures same_ports { IfOk result (λ after. ports_of after.wires ≡ ports_of «module».wires) }
+    ensures same_instances { IfOk result (λ after. instances after.cells ≡ instances «module».cells) }
+    ensures fewer { IfOk result (λ after. length after.cells ≡ length «module».cells → after ≡ «module») }
+{
     merge(alloc, module)
 }
 
 /// The module after the pass.
-fn merge(alloc: Global, module: &Module) -> Result<Module, Memory>
-    ensures exact { IfOk result (λ after. (ports : types.Ports) → IsReady ports «module».now → after ≡ merge_of «module».now) }
+fn merge(alloc: Global, module: Module) -> Result<Module, Memory>
+    ensures exact { IfOk result (λ after. (ports : types.Ports) → IsReady ports «module» → after ≡ merge_of «module») }
 {
-    if !drives_own(alloc, module)? {
-        return Ok(module.copy()?);
+    if !drives_own(alloc, &module)? {
+        return Ok(module);
     }
     let after = merged(alloc, module)?;
     Ok(after)
@@ -109,52 +126,67 @@ fn is_own(numbering: &Numbering, bit: SigBit) -> bool
     }
 }
 
-/// The sweep, and the module that it leaves.
-fn merged(alloc: Global, module: &Module) -> Result<Module, Memory>
-    ensures exact { IfOk result (λ after. IsDrivenOnce (record { cells = []; links = «module».now.links }) «module».now.cells → «module».now.processes ≡ [] → after ≡ with_merging «module».now (merging_of «module».now)) }
+/// What a sweep over the cells leaves: the places of the cells that stay, and the connections.
+#[derive(Drop)]
+struct Sweep {
+    kept: Vec<usize>,
+    links: Seq<Link>,
+}
+
+/// The sweep over the cells of a module. What it compares them by is freed at its end.
+fn swept(alloc: Global, module: &Module) -> Result<Sweep, Memory>
+    ensures kept { IfOk result (λ sweep. IsDrivenOnce (record { cells = []; links = «module».now.links }) «module».now.cells → AreThese «module».now.cells sweep.kept.items (after_cells (start_of «module».now.wires []) (record { cells = []; links = «module».now.links }) «module».now.cells).cells) }
+    ensures links { IfOk result (λ sweep. IsDrivenOnce (record { cells = []; links = «module».now.links }) «module».now.cells → sweep.links ≡ (after_cells (start_of «module».now.wires []) (record { cells = []; links = «module».now.links }) «module».now.cells).links) }
 {
-    let cells = module.cells.as_slice();
     let mut merger = Merger::of(alloc, module)?;
-    merger.visit_all(cells)?;
-    let kept = kept_cells(alloc, cells, merger.kept.as_slice())?;
-    let after = with_parts(module, kept, merger.links)?;
-    Ok(after)
-}
-
-/// The cells at these places.
-fn kept_cells(alloc: Global, cells: &[Cell], places: &[usize]) -> Result<Seq<Cell>, Memory>
-    ensures value { IfOk result (λ kept. (all : List Cell) → map (slice_get cells.now) places.now ≡ map Some all → kept ≡ all) }
-{
-    let mut kept = Seq::make(alloc);
-    for place in places {
-        push_cell(&mut kept, cells, *place)?;
-    }
-    Ok(kept)
-}
-
-/// The cell at the place goes last.
-fn push_cell(kept: &mut Seq<Cell>, cells: &[Cell], place: usize) -> Result<(), Memory>
-    ensures ok { OnOk result ((c : Cell) → slice_get cells.now place ≡ Some c → kept.new ≡ kept.old ++ c ∷ []) }
-{
-    if place >= cells.len() {
-        return Ok(());
-    }
-    kept.push(cells[place].copy()?)?;
-    Ok(())
-}
-
-/// The module with these cells and connections.
-fn with_parts(module: &Module, cells: Seq<Cell>, links: Seq<Link>) -> Result<Module, Memory>
-    ensures value { IfOk result (λ after. after ≡ record «module».now { cells = cells; links = links }) }
-{
-    Ok(Module {
-        id: module.id.copy()?,
-        attributes: module.attributes.copy()?,
-        parameters: module.parameters.copy()?,
-        wires: module.wires.copy()?,
-        memories: module.memories.copy()?,
-        cells,
-        processes: module.processes.copy()?,
-        links,
+    merger.visit_all(module.cells.as_slice())?;
+    Ok(Sweep {
+        kept: merger.kept,
+        links: merger.links,
     })
+}
+
+/// The sweep, and the module that it leaves.
+fn merged(alloc: Global, module: Module) -> Result<Module, Memory>
+    ensures exact { IfOk result (λ after. IsDrivenOnce (record { cells = []; links = «module».links }) «module».cells → «module».processes ≡ [] → after ≡ with_merging «module» (merging_of «module»)) }
+{
+    let sweep = swept(alloc, &module)?;
+    let cells = kept_cells(alloc, module.cells.into_vec(), sweep.kept.as_slice())?;
+    Ok(Module {
+        cells,
+        links: sweep.links,
+        ..module
+    })
+}
+
+/// The cells at these places, which rise.
+fn kept_cells(alloc: Global, cells: Vec<Cell>, places: &[usize]) -> Result<Seq<Cell>, Memory>
+    ensures value { IfOk result (λ kept. kept ≡ picked 0 cells.items places.now) }
+{
+    let mut kept = Vec::with_capacity(alloc, places.len())?;
+    for (at, cell) in cells.into_iter().enumerate() {
+        let is_next = stands_at(places, kept.len(), at);
+        add_if(&mut kept, cell, is_next)?;
+    }
+    Ok(Seq::from_vec(kept))
+}
+
+/// Whether the place of this number is this one.
+fn stands_at(places: &[usize], number: usize, at: usize) -> bool
+    ensures value { result ≡ option_map_or (λ p. p == at) (slice_get places.now number) false }
+{
+    match places.get(number) {
+        Some(place) => *place == at,
+        None => false,
+    }
+}
+
+/// Puts the cell last, if it is to stay.
+fn add_if(kept: &mut Vec<Cell>, cell: Cell, stays: bool) -> Result<(), Memory>
+    ensures ok { OnOk result (kept.new.items ≡ kept.old.items ++ (if stays then cell ∷ [] else [])) }
+{
+    if stays {
+        kept.push(cell)?;
+    }
+    Ok(())
 }

@@ -7,7 +7,7 @@ ghost use Rattle.rtl_ir.specs.Flat.Cell.{cell_shape};
 ghost use Rattle.rtl_ir.specs.Flat.Start.{start_of};
 ghost use Rattle.rtl_ir.specs.Follow.{follow};
 ghost use Rattle.net_alias.specs.Aliases.{IsAliases};
-ghost use Rattle.opt_merge.specs.Traits.{bit_number, flag_number, inputs_of, level_number, plain_numbers, shape_numbers, starts_of, traits_of};
+ghost use Rattle.opt_merge.specs.Traits.{bit_number, flag_number, inputs_of, level_number, output_of, plain_numbers, shape_numbers, starts_of, traits_of};
 ghost use Rattle.opt_merge.specs.Rows.{bits_numbers, inits_of, lists_numbers, place_numbers, row_of, signal_numbers, signals_numbers, sized};
 ghost use Rattle.opt_merge.specs.View.{IsView};
 
@@ -20,6 +20,9 @@ use rtl_bits::{Bit, Bits, Memory};
 use rtl_ir::{Cell, Pin};
 use rtl_sig::SigBit;
 use std::alloc::Global;
+
+/// How many numbers the row of most gates has room in; longer ones grow.
+const GATE_ROW: usize = 52;
 
 /// What is known of a module where its cells are compared: the start values of its wires, and where bits lead back to.
 #[derive(Drop)]
@@ -35,10 +38,7 @@ impl View {
         ensures value { IfOk result (λ row. (wires : List Wire) (links : List Link) → IsView self.old wires links → row.items ≡ row_of (traits_of (start_of wires []) links kind cell.now)) }
         ensures keeps { (wires : List Wire) (links : List Link) → IsView self.old wires links → IsView self.new wires links }
     {
-        let mut row = Vec::new(self.alloc);
-        row.push(output_of(kind, cell).len() as u64)?;
-        push_bytes(&mut row, cell.kind_name.as_slice())?;
-        push_shape(&mut row, &shape_of(self.alloc, kind, cell)?)?;
+        let mut row = own_row(self.alloc, kind, cell)?;
         push_inputs(
             &mut row,
             &mut self.aliases,
@@ -48,6 +48,17 @@ impl View {
         push_starts(&mut row, self.inits.as_slice(), kind, cell)?;
         Ok(row)
     }
+}
+
+/// The row of what the cell itself says: the width of its output, its type and its parameters.
+fn own_row(alloc: Global, kind: CellKind, cell: &Cell) -> Result<Vec<u64>, Memory>
+    ensures value { IfOk result (λ row. row.items ≡ length (output_of kind cell.now) ∷ (sized cell.now.kind_name ++ lists_numbers (shape_numbers (cell_shape kind cell.now.params)))) }
+{
+    let mut row = Vec::with_capacity(alloc, GATE_ROW)?;
+    row.push(output_of(kind, cell).len() as u64)?;
+    push_bytes(&mut row, cell.kind_name.as_slice())?;
+    push_shape(&mut row, &shape_of(alloc, kind, cell)?)?;
+    Ok(row)
 }
 
 /// The shape of the cell.

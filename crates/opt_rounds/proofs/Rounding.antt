@@ -12,7 +12,7 @@ use Rattle.pass_laws.specs.Ready.{IsReady}
 use Rattle.pass_laws.proofs.Passes.{IsPass_refl, IsPass_trans}
 use Rattle.opt_expr.specs.Sweep.{expr_of}
 use Rattle.opt_expr.proofs.Sweeping.{expr_passes}
-use Rattle.opt_merge.specs.Merge.{drives_own, merge_of, merging_of, with_merging}
+use Rattle.opt_merge.specs.Merge.{merge_of}
 use Rattle.opt_merge.proofs.Refining.{merge_pass}
 use Rattle.opt_clean.specs.Clean.{clean_of, is_all_inside, reduced}
 use Rattle.opt_clean.specs.Wires.{trimmed}
@@ -60,13 +60,6 @@ module _ (P : types.Ports) where
   abbrev frame : Module → Module
   frame m = record m { wires = []; cells = []; links = [] }
 
-  merged_frame : (m : Module) → frame (merge_of m) ≡ frame m
-  merged_frame m = by (drives_own m)
-    where
-      by : (t : Bool) → frame (cond t (with_merging m (merging_of m)) m) ≡ frame m
-      by true = refl
-      by false = refl
-
   cleaned_frame : (m : Module) → frame (clean_of P m) ≡ frame m
   cleaned_frame m = by (is_all_inside m)
     where
@@ -77,13 +70,7 @@ module _ (P : types.Ports) where
   same_parts : (a b : Module) → frame a ≡ frame b → a.wires ≡ b.wires → a.cells ≡ b.cells → a.links ≡ b.links → a ≡ b
   same_parts a b f w c l = λ i. record (f i) { wires = w i; cells = c i; links = l i }
 
-  -- a pass that leaves these as they are leaves the module as it is
-  pub folded_same : (m after : Module) → after ≡ expr_of P m → after.wires ≡ m.wires → after.cells ≡ m.cells → after.links ≡ m.links → after ≡ m
-  folded_same m after e w c l = same_parts after m (ap frame e) w c l
-
-  pub merged_same : (m after : Module) → after ≡ merge_of m → after.wires ≡ m.wires → after.cells ≡ m.cells → after.links ≡ m.links → after ≡ m
-  merged_same m after e w c l = same_parts after m (ap frame e ∙ merged_frame m) w c l
-
+  -- where these stay, the module does
   pub cleaned_same : (m after : Module) → after ≡ clean_of P m → after.wires ≡ m.wires → after.cells ≡ m.cells → after.links ≡ m.links → after ≡ m
   cleaned_same m after e w c l = same_parts after m (ap frame e ∙ cleaned_frame m) w c l
 

@@ -15,6 +15,7 @@ ghost use Rattle.opt_merge.specs.Merge.{merge_of};
 ghost use Rattle.opt_clean.specs.Clean.{clean_of};
 ghost use Rattle.opt_rounds.specs.Rounds.{opt_of, round_of};
 
+use opt_expr::Turn;
 use rtl_bits::Memory;
 use rtl_ir::{Module, PortTable};
 use rtl_same::Same;
@@ -36,13 +37,6 @@ pub fn apply(alloc: Global, module: Module, ports: &PortTable) -> Result<Module,
     rounds(alloc, module, ports)
 }
 
-/// A module, and whether it is the one that it was made of.
-#[derive(Drop)]
-struct Turn {
-    after: Module,
-    is_same: bool,
-}
-
 /// Rounds, until one changes nothing.
 #[tactic(auto, using(crate::proofs::Rounding::all_left))]
 fn rounds(alloc: Global, module: Module, ports: &PortTable) -> Result<Module, Memory>
@@ -60,7 +54,7 @@ fn rounds(alloc: Global, module: Module, ports: &PortTable) -> Result<Module, Me
     Ok(module)
 }
 
-/// One round. No more than two modules stand beside each other at a time.
+/// One round. Each pass takes the module over, so no more than two stand beside each other at a time.
 fn round(alloc: Global, module: Module, ports: &PortTable) -> Result<Turn, Memory>
     requires ready { IsReady (table_ports ports.now.modules) «module» }
     ensures exact { IfOk result (λ turn. turn.after ≡ round_of (table_ports ports.now.modules) «module») }
@@ -89,20 +83,19 @@ fn folded(alloc: Global, module: Module, ports: &PortTable) -> Result<Turn, Memo
     ensures ready { IfOk result (λ turn. IsReady (table_ports ports.now.modules) turn.after) }
     ensures same { IfOk result (λ turn. turn.is_same ≡ true → turn.after ≡ «module») }
 {
-    let after = opt_expr::apply(alloc, &module, ports)?;
-    let is_same = is_same(&after, &module);
-    Ok(Turn { after, is_same })
+    opt_expr::apply_owned(alloc, module, ports)
 }
 
-/// `opt_merge`.
+/// `opt_merge`, which takes cells away wherever it changes something.
 fn merged(alloc: Global, module: Module, ports: &PortTable) -> Result<Turn, Memory>
     requires ready { IsReady (table_ports ports.now.modules) «module» }
     ensures exact { IfOk result (λ turn. turn.after ≡ merge_of «module») }
     ensures ready { IfOk result (λ turn. IsReady (table_ports ports.now.modules) turn.after) }
     ensures same { IfOk result (λ turn. turn.is_same ≡ true → turn.after ≡ «module») }
 {
-    let after = opt_merge::apply(alloc, &module, ports)?;
-    let is_same = is_same(&after, &module);
+    let count = module.cells.as_slice().len();
+    let after = opt_merge::apply_owned(alloc, module, ports)?;
+    let is_same = after.cells.as_slice().len() == count;
     Ok(Turn { after, is_same })
 }
 
@@ -117,7 +110,7 @@ fn cleaned(alloc: Global, module: Module, ports: &PortTable) -> Result<Turn, Mem
     Ok(Turn { after, is_same })
 }
 
-/// Whether a pass gave the wires, cells and connections of the module, and so the module: it changes nothing else.
+/// Whether `opt_clean` gave the wires, cells and connections of the module, and so the module: it changes nothing else.
 fn is_same(after: &Module, module: &Module) -> bool
     ensures wires { result ≡ true → after.now.wires ≡ «module».now.wires }
     ensures cells { result ≡ true → after.now.cells ≡ «module».now.cells }

@@ -24,12 +24,12 @@ fn without_processes(alloc: Global, module: Module, ports: &PortTable) -> Result
 }
 
 /// The module with its cells mapped. `Over` where the gates would pass a limit.
-fn mapped(alloc: Global, module: &Module, ports: &PortTable) -> Result<Module, PassFault>
-    requires ready { MayBeGiven ports.now Techmap «module».now }
-    ensures exact { IfOk result (λ after. techmap_within «module».now ≡ Some after) }
-    ensures over { result ≡ Err PassFault.Over → techmap_within «module».now ≡ None }
+fn mapped(alloc: Global, module: Module, ports: &PortTable) -> Result<Module, PassFault>
+    requires ready { MayBeGiven ports.now Techmap «module» }
+    ensures exact { IfOk result (λ after. techmap_within «module» ≡ Some after) }
+    ensures over { result ≡ Err PassFault.Over → techmap_within «module» ≡ None }
 {
-    tech_map::apply(alloc, module, ports)
+    tech_map::apply_owned(alloc, module, ports)
 }
 
 /// What the pass of a word makes of the module. `Over` where that would pass a limit.
@@ -40,11 +40,11 @@ fn pass(alloc: Global, word: Word, module: Module, ports: &PortTable) -> Result<
 {
     match word {
         Word::Proc => without_processes(alloc, module, ports),
-        Word::OptExpr => Ok(opt_expr::apply(alloc, &module, ports)?),
-        Word::OptMerge => Ok(opt_merge::apply(alloc, &module, ports)?),
+        Word::OptExpr => Ok(opt_expr::apply_owned(alloc, module, ports)?.after),
+        Word::OptMerge => Ok(opt_merge::apply_owned(alloc, module, ports)?),
         Word::OptClean => Ok(opt_clean::apply(alloc, &module, ports)?),
         Word::Opt => Ok(opt_rounds::apply(alloc, module, ports)?),
-        Word::Techmap => mapped(alloc, &module, ports),
+        Word::Techmap => mapped(alloc, module, ports),
         Word::Memory => mem_steps::apply(alloc, module, ports),
         Word::Fsm => fsm_steps::apply(alloc, module, ports),
     }

@@ -1,12 +1,10 @@
 -- Gates, wires and connections are only added: all else of the module stays, and the numbers of fresh names go up.
-use Rattle.std.proofs.Common.{◌≡◌, ℕ, suc, ◌+◌, ◌<◌, ◌≤◌, List, [], ◌∷◌, ◌++◌, length, drop, get_or, Option, Some, None, inl, inr, refl, sym, ◌∙◌, ap, subst, arith, append_assoc, zero, add-one}
-use Rattle.std.proofs.Math.Seq.{drop-cons}
+use Rattle.std.proofs.Common.{◌≡◌, ℕ, ◌+◌, ◌≤◌, List, [], ◌∷◌, ◌++◌, length, Option, Some, None, inl, inr, refl, sym, ◌∙◌, ap, subst, arith, append_assoc}
 use Rattle.cell_types.specs.declared.kind.CellKind.{CellKind}
 use Rattle.rtl_ir.specs.Build.{Building}
 use Rattle.rtl_ir.specs.Flat.Cell.{cell_kind}
 use Rattle.rtl_ir.specs.declared.cell.Cell.{Cell}
 use Rattle.net_index.specs.Builder.{PassesLimit}
-use Rattle.net_model.specs.Lists.{In}
 use Rattle.net_model.specs.Within.{Each}
 use Rattle.map_laws.specs.Expansion.{Adds, IsWholeCell, cells_added, links_added, wires_added}
 use Rattle.map_laws.proofs.Expanding.{adds_more, adds_none, wires_count}
@@ -59,43 +57,21 @@ all_add (c ∷ cs) b whole =
 pub over_later : (cs : List Cell) (b : Building) → AreWhole cs b → PassesLimit b → PassesLimit (with_all_gates cs b)
 over_later cs b whole = adding.over_later b (with_all_gates cs b) _ _ _ (all_add cs b whole)
 
--- cells that are whole in a module are so from any of them on, in a module with no fewer wires
-pub whole_later : (cs : List Cell) (at n : ℕ) (b : Building) → Each (IsWholeCell n) cs → n ≤ length b.body.wires → AreWhole (drop at cs) b
-whole_later cs at n b whole h d i = whole_more n (length b.body.wires) d h (whole d (dropped cs at i))
-  where
-    dropped : (cs : List Cell) (at : ℕ) → In d (drop at cs) → In d cs
-    dropped cs zero j = j
-    dropped [] (suc at) j = j
-    dropped (c ∷ cs) (suc at) j = inr (dropped cs at j)
-
--- the same in the middle of all cells
-module _ (cs : List Cell) (at n : ℕ) (b : Building) (c : Cell) (h : at < length cs) (e : c ≡ get_or cs at c) (whole : Each (IsWholeCell n) cs) (few : n ≤ length b.body.wires) where
-  abbrev later : List Cell
-  later = drop (suc at) cs
-
-  next : drop at cs ≡ c ∷ later
-  next = drop-cons cs at c h ∙ ap (λ d. d ∷ later) (sym e)
-
-  here : AreWhole (c ∷ later) b
-  here = subst (λ ds. AreWhole ds b) next (whole_later cs at n b whole few)
-
-  pub over_here : (all : Building) → with_all_gates (drop at cs) b ≡ all → PassesLimit (with_gates (taken_kind c) c b) → PassesLimit all
-  over_here all rest over =
+-- the same of the cells that are left, of which the first comes next
+module _ (left later : List Cell) (c : Cell) (b : Building) (next : left ≡ c ∷ later) where
+  pub over_here : AreWhole left b → (all : Building) → with_all_gates left b ≡ all → PassesLimit (with_gates (taken_kind c) c b) → PassesLimit all
+  over_here whole all rest over =
+      let here : AreWhole (c ∷ later) b = subst (λ ds. AreWhole ds b) next whole in
       subst PassesLimit (ap (λ ds. with_all_gates ds b) (sym next) ∙ rest) (over_later later (with_gates (taken_kind c) c b) (whole_next c later b here) over)
 
-  one_more : drop (at + 1) cs ≡ later
-  one_more = ap (λ k. drop k cs) (add-one at)
-
-  -- with the gates of this cell
+  -- with the gates of the first
   module _ (new : Building) (is : new ≡ with_gates (taken_kind c) c b) where
-    pub gates_here : (all : Building) → with_all_gates (drop at cs) b ≡ all → with_all_gates (drop (at + 1) cs) new ≡ all
-    gates_here all e = (λ i. with_all_gates (one_more i) (is i)) ∙ ap (λ ds. with_all_gates ds b) (sym next) ∙ e
+    pub gates_here : (all : Building) → with_all_gates left b ≡ all → with_all_gates later new ≡ all
+    gates_here all e = ap (with_all_gates later) is ∙ ap (λ ds. with_all_gates ds b) (sym next) ∙ e
 
-    pub wires_here : n ≤ length new.body.wires
-    wires_here =
-        let same : length new.body.wires ≡ length (with_gates (taken_kind c) c b).body.wires = ap (λ k. length k.body.wires) is in
-        omega (arith, few, same, more_wires c b (here c (inl refl)))
-
-    pub counts_here : (counts counts' all : List ℕ) → counts' ≡ counts ++ count_of (taken_kind c) c b → counts ++ counts_of (drop at cs) b ≡ all → counts' ++ counts_of (drop (at + 1) cs) new ≡ all
+    pub counts_here : (counts counts' all : List ℕ) → counts' ≡ counts ++ count_of (taken_kind c) c b → counts ++ counts_of left b ≡ all → counts' ++ counts_of later new ≡ all
     counts_here counts counts' all e h =
-        (λ i. e i ++ counts_of (one_more i) (is i)) ∙ append_assoc counts (count_of (taken_kind c) c b) (counts_of later (with_gates (taken_kind c) c b)) ∙ ap (λ ds. counts ++ counts_of ds b) (sym next) ∙ h
+        (λ i. e i ++ counts_of later (is i)) ∙ append_assoc counts (count_of (taken_kind c) c b) (counts_of later (with_gates (taken_kind c) c b)) ∙ ap (λ ds. counts ++ counts_of ds b) (sym next) ∙ h
+
+    pub whole_here : AreWhole left b → AreWhole later new
+    whole_here whole = subst (AreWhole later) (sym is) (whole_next c later b (subst (λ ds. AreWhole ds b) next whole))

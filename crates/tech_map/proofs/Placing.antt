@@ -37,7 +37,7 @@ module _ (m : Module) (whole : AreWhole m.cells (building_of m)) where
   cells_beside : (beside m).body.cells ≡ m.cells ++ row
   cells_beside = ap (λ n. n.cells) (all_add m.cells (building_of m) whole).body
 
-  pub no_fewer : length m.cells ≤ length (beside m).body.cells
+  no_fewer : length m.cells ≤ length (beside m).body.cells
   no_fewer = let e : length (beside m).body.cells ≡ length m.cells + length row = ap length cells_beside ∙ length-append m.cells row in omega (arith, e)
 
   -- the gates behind the cells, put into their places, are the pass
@@ -51,16 +51,23 @@ module _ (m : Module) (whole : AreWhole m.cells (building_of m)) where
       ap (λ z. record (beside m).body { cells = z }) both
 
   -- the same of what the calls answer, one after another
-  pub placed_module : (copy body after : Module) (start end : Building) (cells : List Cell) (counts : List ℕ) → copy ≡ m → start ≡ building_of copy → cells ≡ m.cells → end ≡ with_all_gates cells start → counts ≡ counts_of cells start → body ≡ end.body
-      → after ≡ record body { cells = put_in (take (length cells) body.cells) counts (drop (length cells) body.cells) } → after ≡ techmap_of m
-  placed_module copy body after start end cells counts e f g h k l is =
-      let same : start ≡ building_of m = f ∙ ap building_of e in
-      let all : body ≡ (beside m).body = l ∙ ap (λ b. b.body) (h ∙ (λ i. with_all_gates (g i) (same i))) in
-      is
-      ∙ (λ i. record (all i) { cells = put_in (take (length (g i)) (all i).cells) counts (drop (length (g i)) (all i).cells) })
-      ∙ in_their_places counts (k ∙ (λ i. counts_of (g i) (same i)))
+  module _ (body : Module) (start end : Building) (cells : List Cell) (count : ℕ) (begin : start ≡ building_of m) (same : cells ≡ m.cells) (all : end ≡ with_all_gates cells start) (is : body ≡ end.body) (long : count ≡ length cells) where
+    body_is : body ≡ (beside m).body
+    body_is = is ∙ ap (λ b. b.body) (all ∙ (λ i. with_all_gates (same i) (begin i)))
 
--- the cells of a module that was copied are whole
-pub whole_given : (m copy : Module) (b : Building) (cells : List Cell) → copy ≡ m → b ≡ building_of copy → cells ≡ m.cells → AreWhole m.cells (building_of m) → AreWhole cells b
-whole_given m copy b cells e f g whole =
-    subst (λ z. AreWhole z b) (sym g) (subst (AreWhole m.cells) (sym (f ∙ ap building_of e)) whole)
+    count_is : count ≡ length m.cells
+    count_is = long ∙ ap length same
+
+    pub all_there : count ≤ length body.cells
+    all_there = let e : length body.cells ≡ length (beside m).body.cells = ap (λ n. length n.cells) body_is in omega (arith, e, count_is, no_fewer)
+
+    pub placed_module : (after : Module) (counts : List ℕ) → counts ≡ counts_of cells start → after ≡ record body { cells = put_in (take count body.cells) counts (drop count body.cells) } → after ≡ techmap_of m
+    placed_module after counts each made =
+        made
+        ∙ (λ i. record (body_is i) { cells = put_in (take (count_is i) (body_is i).cells) counts (drop (count_is i) (body_is i).cells) })
+        ∙ in_their_places counts (each ∙ (λ i. counts_of (same i) (begin i)))
+
+-- the cells of a module that were copied are whole
+pub whole_given : (m : Module) (b : Building) (cells : List Cell) → b ≡ building_of m → cells ≡ m.cells → AreWhole m.cells (building_of m) → AreWhole cells b
+whole_given m b cells f g whole =
+    subst (λ z. AreWhole z b) (sym g) (subst (AreWhole m.cells) (sym f) whole)

@@ -23,8 +23,10 @@ pub(crate) fn with_gates_in_place(
       cells = put_in (take count «module».cells) counts.items (drop count «module».cells);
     }) }
 {
-    let mut cells = module.cells.into_vec();
-    let gates = VecDeque::from_vec(cells.split_off(count)?);
+    // The gates stay in the room in which they were added.
+    let mut gates = VecDeque::from_vec(module.cells.into_vec());
+    let mut cells = Vec::with_capacity(alloc, count)?;
+    move_cells(count, &mut gates, &mut cells)?;
     let counts = VecDeque::from_vec(counts);
     Ok(Module {
         cells: Seq::from_vec(put_in(alloc, cells, counts, gates)?),
@@ -43,7 +45,9 @@ fn put_in(
 {
     let mut counts = counts;
     let mut gates = gates;
-    let mut all = Vec::new(alloc);
+    // As many stand there as there are cells that stay, and gates.
+    let room = (cells.len() + gates.len()).saturating_sub(counts.len());
+    let mut all = Vec::with_capacity(alloc, room)?;
     for cell in cells {
         put_one(cell, &mut counts, &mut gates, &mut all)?;
     }
@@ -62,30 +66,30 @@ fn put_one(
     ensures gates { OnOk result (gates.new.items ≡ rest_of (taken_kind cell) counts.old.items gates.old.items) }
 {
     match taken_kind(&cell) {
-        Some(_) => move_gates(counts.pop_front().unwrap_or(0), gates, all)?,
+        Some(_) => move_cells(counts.pop_front().unwrap_or(0), gates, all)?,
         None => all.push(cell)?,
     }
     Ok(())
 }
 
-/// Moves so many gates behind the cells, as far as there are gates.
-fn move_gates(count: usize, gates: &mut VecDeque<Cell>, all: &mut Vec<Cell>) -> Result<(), Memory>
-    ensures all { OnOk result (all.new.items ≡ all.old.items ++ take count gates.old.items) }
-    ensures gates { OnOk result (gates.new.items ≡ drop count gates.old.items) }
+/// Moves so many cells from the front of the one list behind the other, as far as there are any.
+fn move_cells(count: usize, from: &mut VecDeque<Cell>, to: &mut Vec<Cell>) -> Result<(), Memory>
+    ensures moved { OnOk result (to.new.items ≡ to.old.items ++ take count from.old.items) }
+    ensures left { OnOk result (from.new.items ≡ drop count from.old.items) }
 {
     for _ in 0..count {
-        move_gate(gates, all)?;
+        move_cell(from, to)?;
     }
     Ok(())
 }
 
-/// Moves the first gate behind the cells, where there is one.
-fn move_gate(gates: &mut VecDeque<Cell>, all: &mut Vec<Cell>) -> Result<(), Memory>
-    ensures all { OnOk result (all.new.items ≡ all.old.items ++ take 1 gates.old.items) }
-    ensures gates { OnOk result (gates.new.items ≡ drop 1 gates.old.items) }
+/// Moves the first cell, where there is one.
+fn move_cell(from: &mut VecDeque<Cell>, to: &mut Vec<Cell>) -> Result<(), Memory>
+    ensures moved { OnOk result (to.new.items ≡ to.old.items ++ take 1 from.old.items) }
+    ensures left { OnOk result (from.new.items ≡ drop 1 from.old.items) }
 {
-    if let Some(gate) = gates.pop_front() {
-        all.push(gate)?;
+    if let Some(cell) = from.pop_front() {
+        to.push(cell)?;
     }
     Ok(())
 }

@@ -47,37 +47,62 @@ pub fn apply(alloc: Global, module: &Module, ports: &PortTable) -> Result<Module
     ensures same_ports { IfOk result (λ after. ports_of after.wires ≡ ports_of «module».now.wires) }
     ensures same_instances { IfOk result (λ after. instances after.cells ≡ instances «module».now.cells) }
 {
+    apply_owned(alloc, module.copy()?, ports)
+}
+
+/// The same of a module that is given away: only its cells are copied, and each copy is let go as soon as
+/// its gates are there.
+pub fn apply_owned(alloc: Global, module: Module, ports: &PortTable) -> Result<Module, PassFault>
+    requires ready { IsReady (table_ports ports.now.modules) «module» }
+    ensures exact { IfOk result (λ after. after ≡ techmap_of «module») }
+    ensures over { result ≡ Err PassFault.Over → TechmapPassesLimit «module» }
+    ensures within { OnOk result (IsInLimits (beside «module»)) }
+    ensures refines { IfOk result (λ after. RefinesIn «module» after ports.now) }
+    ensures well_driven { IfOk result (λ after. (ports : Ports) → IsWellDriven ports «module» → IsWellDriven ports after) }
+    ensures well_formed { IfOk result (IsReady (table_ports ports.now.modules)) }
+    ensures faultless { IfOk result (StaysFaultless «module») }
+    // Where no cell is one of a memory, the answer has gates and instances alone.
+    ensures gates { IfOk result (λ after. Each IsOutside «module».cells → HasGatesAlone after) }
+    ensures same_id { IfOk result (λ after. after.id ≡ «module».id) }
+    ensures same_ports { IfOk result (λ after. ports_of after.wires ≡ ports_of «module».wires) }
+    ensures same_instances { IfOk result (λ after. instances after.cells ≡ instances «module».cells) }
+{
     mapped(alloc, module)
 }
 
 /// The gates go last, and then into the places of the cells that they replace.
-#[tactic(auto, using(crate::proofs::Growing::over_later, crate::proofs::Placing::no_fewer))]
-fn mapped(alloc: Global, module: &Module) -> Result<Module, PassFault>
-    requires whole { Each (IsWholeCell (length «module».now.wires)) «module».now.cells }
-    ensures exact { IfOk result (λ after. after ≡ techmap_of «module».now) }
-    ensures over { result ≡ Err PassFault.Over → TechmapPassesLimit «module».now }
-    ensures within { OnOk result (IsInLimits (beside «module».now)) }
+#[tactic(auto, using(crate::proofs::Growing::over_later))]
+fn mapped(alloc: Global, module: Module) -> Result<Module, PassFault>
+    requires whole { Each (IsWholeCell (length «module».wires)) «module».cells }
+    ensures exact { IfOk result (λ after. after ≡ techmap_of «module») }
+    ensures over { result ≡ Err PassFault.Over → TechmapPassesLimit «module» }
+    ensures within { OnOk result (IsInLimits (beside «module»)) }
 {
-    check_limits(module)?;
-    let cells = module.cells.as_slice();
-    let mut builder = Builder::of(alloc, module.copy()?)?;
+    check_limits(&module)?;
+    let cells = module.cells.copy()?.into_vec();
+    let count = cells.len();
+    let mut builder = Builder::of(alloc, module)?;
     let counts = add_gates(alloc, cells, &mut builder)?;
-    let after = with_gates_in_place(alloc, builder.finish(), cells.len(), counts)?;
+    let after = with_gates_in_place(alloc, builder.finish(), count, counts)?;
     Ok(after)
 }
 
-/// The gates of all of these cells go last. The answer is how many gates there are of each cell that
-/// becomes gates. After an error the builder holds some of them.
-fn add_gates(alloc: Global, cells: &[Cell], builder: &mut Builder) -> Result<Vec<usize>, PassFault>
-    requires whole { Each (IsWholeCell (length builder.old.body.wires)) cells.now }
-    ensures exact { OnOk result (builder.new ≡ with_all_gates cells.now builder.old) }
-    ensures counts { IfOk result (λ counts. counts.items ≡ counts_of cells.now builder.old) }
-    ensures over { result ≡ Err PassFault.Over → PassesLimit (with_all_gates cells.now builder.old) }
+/// The gates of all of these cells go last, and each cell is let go once its own are there. The answer is
+/// how many gates there are of each cell that becomes gates. After an error the builder holds some of them.
+fn add_gates(
+    alloc: Global,
+    cells: Vec<Cell>,
+    builder: &mut Builder,
+) -> Result<Vec<usize>, PassFault>
+    requires whole { Each (IsWholeCell (length builder.old.body.wires)) cells.items }
+    ensures exact { OnOk result (builder.new ≡ with_all_gates cells.items builder.old) }
+    ensures counts { IfOk result (λ counts. counts.items ≡ counts_of cells.items builder.old) }
+    ensures over { result ≡ Err PassFault.Over → PassesLimit (with_all_gates cells.items builder.old) }
     ensures within { IsInLimits builder.old → OnOk result (IsInLimits builder.new) }
 {
     let mut counts = Vec::new(alloc);
     for cell in cells {
-        add_gates_of(alloc, cell, builder, &mut counts)?;
+        add_gates_of(alloc, &cell, builder, &mut counts)?;
     }
     Ok(counts)
 }

@@ -1,27 +1,15 @@
-use Rattle.rtl_ir.specs.Types as types
-use Rattle.pass_laws.proofs.Promised as promised
+use Rattle.std.proofs.Common.{◌≡◌, subst}
+use Rattle.std.specs.Prelude.{IfOk}
+use Rattle.rtl_ir.specs.Flat.Cell.{Ports, instances}
+use Rattle.rtl_ir.specs.Flat.Tree as tree
+use Rattle.rtl_ir.specs.declared.module.Module.{Module}
+use Rattle.net_model.specs.Refine.{AgreeOn, IsWellDriven}
 use Rattle.opt_merge.specs.Merge.{merge_of}
-use Rattle.opt_merge.proofs.Refining.{merge_pass}
-use Rattle.opt_merge.proofs.Whole.{exact_ready}
 use Rattle.opt_merge.proofs.apply.Goals as goal
 
 pub returns-clause-exact : goal.returns-clause-exact
-returns-clause-exact c = exact_ready c.args.module.now (merge_of c.args.module.now) (types.table_ports c.args.ports.now.modules) c.requires.ready c.merge.result c.merge.ensures.exact
-
-pub returns-clause-refines : goal.returns-clause-refines
-returns-clause-refines c = promised.refines c.args.ports.now c.args.module.now (merge_of c.args.module.now) c.merge.result (exact_ready c.args.module.now (merge_of c.args.module.now) (types.table_ports c.args.ports.now.modules) c.requires.ready c.merge.result c.merge.ensures.exact) (merge_pass c.args.ports.now c.args.module.now c.requires.ready)
+returns-clause-exact c = subst (λ (m : Module). IfOk c.apply_owned.result (λ after. after ≡ merge_of m)) c.in_ok-copy.ensures.value c.apply_owned.ensures.exact
 
 pub returns-clause-well_driven : goal.returns-clause-well_driven
-returns-clause-well_driven c = promised.well_driven c.args.ports.now c.args.module.now (merge_of c.args.module.now) c.merge.result (exact_ready c.args.module.now (merge_of c.args.module.now) (types.table_ports c.args.ports.now.modules) c.requires.ready c.merge.result c.merge.ensures.exact) (merge_pass c.args.ports.now c.args.module.now c.requires.ready)
-
-pub returns-clause-well_formed : goal.returns-clause-well_formed
-returns-clause-well_formed c = promised.well_formed c.args.ports.now c.args.module.now (merge_of c.args.module.now) c.merge.result (exact_ready c.args.module.now (merge_of c.args.module.now) (types.table_ports c.args.ports.now.modules) c.requires.ready c.merge.result c.merge.ensures.exact) (merge_pass c.args.ports.now c.args.module.now c.requires.ready) c.requires.ready
-
-pub returns-clause-same_id : goal.returns-clause-same_id
-returns-clause-same_id c = promised.same_id c.args.ports.now c.args.module.now (merge_of c.args.module.now) c.merge.result (exact_ready c.args.module.now (merge_of c.args.module.now) (types.table_ports c.args.ports.now.modules) c.requires.ready c.merge.result c.merge.ensures.exact) (merge_pass c.args.ports.now c.args.module.now c.requires.ready)
-
-pub returns-clause-same_ports : goal.returns-clause-same_ports
-returns-clause-same_ports c = promised.same_ports c.args.ports.now c.args.module.now (merge_of c.args.module.now) c.merge.result (exact_ready c.args.module.now (merge_of c.args.module.now) (types.table_ports c.args.ports.now.modules) c.requires.ready c.merge.result c.merge.ensures.exact) (merge_pass c.args.ports.now c.args.module.now c.requires.ready)
-
-pub returns-clause-same_instances : goal.returns-clause-same_instances
-returns-clause-same_instances c = promised.same_instances c.args.ports.now c.args.module.now (merge_of c.args.module.now) c.merge.result (exact_ready c.args.module.now (merge_of c.args.module.now) (types.table_ports c.args.ports.now.modules) c.requires.ready c.merge.result c.merge.ensures.exact) (merge_pass c.args.ports.now c.args.module.now c.requires.ready)
+returns-clause-well_driven c =
+    subst (λ (m : Module). IfOk c.apply_owned.result (λ after. (over : Ports) → AgreeOn (tree.table_ports c.args.ports.now) over (instances m.cells) → IsWellDriven over m → IsWellDriven over after)) c.in_ok-copy.ensures.value c.apply_owned.ensures.well_driven

@@ -1,9 +1,9 @@
--- The cells at the places so far are the first of all.
-use Rattle.std.proofs.Common.{◌≡◌, List, Some, map}
-use Rattle.std.specs.Prelude.{slice_get}
-use Rattle.rtl_ir.specs.declared.cell.Cell.{Cell}
-use Rattle.opt_merge.proofs.Whole.{Left}
+-- The cells so far and those that are picked of the rest are all that are picked.
+use Rattle.std.proofs.Common.{◌≡◌, ◌++◌, length, drop}
+use Rattle.opt_merge.specs.Picked.{picked}
 use Rattle.opt_merge.proofs.kept_cells.Given as goal
 
-abbrev pub invariant-loop-place : goal.invariant-loop-place
-invariant-loop-place l = (all : List Cell) → map (slice_get l.cells) l.places ≡ map Some all → Left l.cells l.places l.place-index l.kept all
+abbrev pub invariant-loop-at : goal.invariant-loop-at
+invariant-loop-at l =
+    l.kept.items ++ picked l.at-iterator.count l.at-iterator.iter.rest.items (drop (length l.kept.items) l.places)
+    ≡ picked 0 l.fn.cells.items l.places

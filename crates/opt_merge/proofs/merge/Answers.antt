@@ -8,6 +8,6 @@ use Rattle.opt_merge.proofs.merge.Goals as goal
 pub returns : goal.returns
 returns c = record {
   exact = λ ports ready.
-      let own : drives_own c.args.module.now ≡ true = sym c.in_ok-drives_own.ensures.value ∙ c.if-not-branch.false in
-      merge_true c.args.module.now c.in_ok-after.after own (c.in_ok-after.ensures.exact (once_start ports c.args.module.now ready own) (plain ports c.args.module.now ready.faultless).processes);
+      let own : drives_own c.args.module ≡ true = sym c.in_ok-drives_own.ensures.value ∙ c.if-not-branch.false in
+      merge_true c.args.module c.in_ok-after.after own (c.in_ok-after.ensures.exact (once_start ports c.args.module ready own) (plain ports c.args.module ready.faultless).processes);
 }

@@ -1,30 +1,16 @@
-use Rattle.tech_map.proofs.Forming.{ready_whole}
-use Rattle.tech_map.proofs.Promised as promised
+use Rattle.std.proofs.Common.{subst}
+use Rattle.std.specs.Prelude.{IfOk}
+use Rattle.rtl_ir.specs.Flat.Cell.{Ports}
+use Rattle.net_model.specs.Refine.{IsWellDriven}
+use Rattle.net_model.specs.Within.{Each}
+use Rattle.pass_laws.specs.Replaces.{IsOutside}
+use Rattle.tech_map.specs.Gates.{HasGatesAlone}
 use Rattle.tech_map.proofs.apply.Goals as goal
 
-pub mapped-requires : goal.mapped-requires
-mapped-requires c = record { whole = ready_whole _ c.args.module.now c.requires.ready }
-
-pub returns-clause-refines : goal.returns-clause-refines
-returns-clause-refines c = promised.refines c.args.module.now c.mapped.result c.mapped.ensures.exact c.mapped.ensures.within c.args.ports.now c.requires.ready
-
 pub returns-clause-well_driven : goal.returns-clause-well_driven
-returns-clause-well_driven c = promised.well_driven c.args.module.now c.mapped.result c.mapped.ensures.exact c.mapped.ensures.within c.args.ports.now c.requires.ready
-
-pub returns-clause-well_formed : goal.returns-clause-well_formed
-returns-clause-well_formed c = promised.well_formed c.args.module.now c.mapped.result c.mapped.ensures.exact c.mapped.ensures.within c.args.ports.now c.requires.ready
-
-pub returns-clause-faultless : goal.returns-clause-faultless
-returns-clause-faultless c = promised.stays_faultless c.args.module.now c.mapped.result c.mapped.ensures.exact c.mapped.ensures.within c.args.ports.now c.requires.ready
+returns-clause-well_driven c =
+    subst (λ m. IfOk c.apply_owned.result (λ after. (ports : Ports) → IsWellDriven ports m → IsWellDriven ports after)) c.in_ok-copy.ensures.value c.apply_owned.ensures.well_driven
 
 pub returns-clause-gates : goal.returns-clause-gates
-returns-clause-gates c = promised.gates c.args.module.now c.mapped.result c.mapped.ensures.exact c.mapped.ensures.within c.args.ports.now c.requires.ready
-
-pub returns-clause-same_id : goal.returns-clause-same_id
-returns-clause-same_id c = promised.same_id c.args.module.now c.mapped.result c.mapped.ensures.exact c.mapped.ensures.within c.args.ports.now c.requires.ready
-
-pub returns-clause-same_ports : goal.returns-clause-same_ports
-returns-clause-same_ports c = promised.same_ports c.args.module.now c.mapped.result c.mapped.ensures.exact c.mapped.ensures.within c.args.ports.now c.requires.ready
-
-pub returns-clause-same_instances : goal.returns-clause-same_instances
-returns-clause-same_instances c = promised.same_instances c.args.module.now c.mapped.result c.mapped.ensures.exact c.mapped.ensures.within c.args.ports.now c.requires.ready
+returns-clause-gates c =
+    subst (λ m. IfOk c.apply_owned.result (λ after. Each IsOutside m.cells → HasGatesAlone after)) c.in_ok-copy.ensures.value c.apply_owned.ensures.gates
