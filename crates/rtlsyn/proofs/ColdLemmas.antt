@@ -10,35 +10,11 @@ use Rattle.script_core.specs.declared.key.Key.{Key}
 use Rattle.script_core.specs.declared.outcome.Outcome.{Outcome}
 use Rattle.script_core.specs.declared.outcome.Outcome.TheVariants.{Done, Over}
 use Rattle.script_core.specs.declared.word.Word.{Word}
-use Rattle.script_core.specs.declared.word.Word.TheVariants.{Proc, Opt, Fsm, Techmap, Memory as MemoryWord}
-use Rattle.script_core.specs.Words.{IsScript}
 use Rattle.script_core.specs.Built.{IsValueOf}
 use Rattle.script_core.specs.Cold.{named, outcome_of}
 use Rattle.script_core.specs.Keys.{key_of}
 use Rattle.script_core.proofs.Refining.{value_named}
 use Rattle.rtlsyn.specs.Cold.{done_modules, first_over}
-
--- the default script is one, and so are its fronts
-pub one_word : IsScript (Proc ∷ Opt ∷ [])
-one_word = record { first = refl; count = omega arith }
-
-pub two_words : IsScript (Proc ∷ Opt ∷ Fsm ∷ [])
-two_words = record { first = refl; count = omega arith }
-
-pub three_words : IsScript (Proc ∷ Opt ∷ Fsm ∷ Opt ∷ [])
-three_words = record { first = refl; count = omega arith }
-
-pub four_words : IsScript (Proc ∷ Opt ∷ Fsm ∷ Opt ∷ MemoryWord ∷ [])
-four_words = record { first = refl; count = omega arith }
-
-pub five_words : IsScript (Proc ∷ Opt ∷ Fsm ∷ Opt ∷ MemoryWord ∷ Opt ∷ [])
-five_words = record { first = refl; count = omega arith }
-
-pub six_words : IsScript (Proc ∷ Opt ∷ Fsm ∷ Opt ∷ MemoryWord ∷ Opt ∷ Techmap ∷ [])
-six_words = record { first = refl; count = omega arith }
-
-pub is_script : IsScript (Proc ∷ Opt ∷ Fsm ∷ Opt ∷ MemoryWord ∷ Opt ∷ Techmap ∷ Opt ∷ [])
-is_script = record { first = refl; count = omega arith }
 
 next : (f : Module → Outcome) (ms : List Module) (at : ℕ) (o : Outcome) → at < length ms → ((m : Module) → slice_get ms at ≡ Some m → o ≡ f m) → map f (take at ms) ++ o ∷ [] ≡ map f (take (suc at) ms)
 next f [] at o lt is = absurd (omega arith)

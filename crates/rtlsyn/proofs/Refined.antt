@@ -17,13 +17,14 @@ use Rattle.net_model.specs.Gates.{is_gate_netlist}
 use Rattle.net_model.specs.Refine.{Refines}
 use Rattle.script_core.specs.Cold.{cold, outcome_of}
 use Rattle.script_core.specs.Fold.{StartsWithProc}
+use Rattle.script_core.specs.Words.{default_script}
 use Rattle.script_core.proofs.Refining.{cold_gates, cold_refines}
 use Rattle.rtlsyn.specs.declared.over.Overrun.{Overrun}
 use Rattle.rtlsyn.specs.declared.program.Mode.{Mode}
 use Rattle.rtlsyn.specs.declared.program.Mode.TheVariants.{Synth}
 use Rattle.rtlsyn.specs.declared.reply.Reply.{Reply}
 use Rattle.rtlsyn.specs.Said.{said_of}
-use Rattle.rtlsyn.specs.Cold.{default_script, done_modules, first_over}
+use Rattle.rtlsyn.specs.Cold.{done_modules, first_over}
 use Rattle.rtlsyn.specs.Replies.{Said, outcomes_reply, cold_reply, checked_reply, design_reply, fault_reply, IsTextReply, IsInputReply, IsReply, IsRefinedBy}
 use Rattle.rtlsyn.proofs.ColdLemmas.{none_over}
 

@@ -8,13 +8,8 @@ use Rattle.rtl_ir.specs.declared.module.Module.{Module}
 use Rattle.script_core.specs.declared.outcome.Outcome.{Outcome}
 use Rattle.script_core.specs.declared.outcome.Outcome.TheVariants.{Done, Over}
 use Rattle.script_core.specs.declared.word.Word.{Word}
-use Rattle.script_core.specs.declared.word.Word.TheVariants.{Proc, Opt, Fsm, Memory, Techmap}
 use Rattle.script_core.specs.Keys.{key_of, key_text}
 use Rattle.rtlsyn.specs.declared.over.Overrun.{Overrun}
-
--- the default script
-abbrev pub default_script : List Word
-default_script = Proc ∷ Opt ∷ Fsm ∷ Opt ∷ Memory ∷ Opt ∷ Techmap ∷ Opt ∷ []
 
 -- the modules that are done
 abbrev pub done_modules : List Outcome → List Module

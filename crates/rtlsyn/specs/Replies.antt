@@ -19,12 +19,13 @@ use Rattle.script_core.specs.declared.outcome.Outcome.{Outcome}
 use Rattle.script_core.specs.declared.word.Word.{Word}
 use Rattle.script_core.specs.declared.word.Word.TheVariants as scripts
 use Rattle.script_core.specs.Cold.{cold}
+use Rattle.script_core.specs.Words.{default_script}
 use Rattle.rtlsyn.specs.declared.program.Mode.{Mode}
 use Rattle.rtlsyn.specs.declared.program.Mode.TheVariants.{Synth}
 use Rattle.rtlsyn.specs.declared.program.Status.{Status}
 use Rattle.rtlsyn.specs.declared.program.Status.TheVariants as statuses
 use Rattle.rtlsyn.specs.declared.over.Overrun.{Overrun}
-use Rattle.rtlsyn.specs.Cold.{done_modules, first_over, key_count, default_script}
+use Rattle.rtlsyn.specs.Cold.{done_modules, first_over, key_count}
 
 -- a reply, and whether it is an error
 pub record Said : Type 0 where

@@ -5,29 +5,13 @@ ghost use Rattle.rtl_ir.specs.declared.module.Module.{Module};
 ghost use Rattle.rtl_trip.specs.Readable.{IsReadable};
 ghost use Rattle.script_core.specs.Cold.{cold, named, outcome_of};
 ghost use Rattle.rtlsyn.specs.Builds.{RisesUpTo};
-ghost use Rattle.rtlsyn.specs.Cold.{done_modules, default_script};
+ghost use Rattle.rtlsyn.specs.Cold.{done_modules};
 
 use rtl_bits::{Copied, Memory, Seq, Steps, Text};
 use rtl_check::Checked;
 use rtl_ir::Module;
-use script_core::{Outcome, Script, Word, build, key_of};
+use script_core::{Outcome, Script, build, key_of};
 use std::alloc::Global;
-
-/// The default script.
-#[tactic(auto, using(crate::proofs::ColdLemmas::one_word, crate::proofs::ColdLemmas::two_words, crate::proofs::ColdLemmas::three_words, crate::proofs::ColdLemmas::four_words, crate::proofs::ColdLemmas::five_words, crate::proofs::ColdLemmas::six_words, crate::proofs::ColdLemmas::is_script))]
-pub fn default_script(alloc: Global) -> Result<Script, Memory>
-    ensures value { IfOk result (λ script. script ≡ default_script) }
-{
-    let mut script = Script::make(alloc)?;
-    script.push(Word::Opt)?;
-    script.push(Word::Fsm)?;
-    script.push(Word::Opt)?;
-    script.push(Word::Memory)?;
-    script.push(Word::Opt)?;
-    script.push(Word::Techmap)?;
-    script.push(Word::Opt)?;
-    Ok(script)
-}
 
 /// The number of modules of a design that a text can give.
 pub fn module_count(design: &Checked) -> u32

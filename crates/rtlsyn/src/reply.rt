@@ -7,11 +7,11 @@ ghost use Rattle.rtl_trip.specs.Readable.{IsReadable};
 ghost use Rattle.rtl_check.specs.Words.{fault_number, fault_words};
 ghost use Rattle.rtl_write.specs.Text.{text_of};
 ghost use Rattle.rtlsyn.specs.Builds.{CountsBuilds, RisesUpTo};
-ghost use Rattle.rtlsyn.specs.Cold.{done_modules, key_count, default_script};
+ghost use Rattle.rtlsyn.specs.Cold.{done_modules, key_count};
 ghost use Rattle.rtlsyn.specs.Replies.{cold_reply, error_line, fault_reply, design_reply, over_words, IsTextReply};
 ghost use Rattle.rtlsyn.specs.Said.{said_of};
 
-use crate::cold::{default_script, done_modules, module_count, outcomes_of};
+use crate::cold::{done_modules, module_count, outcomes_of};
 use crate::over::{Overrun, first_over, key_count, over_words};
 use rtl_bits::{Memory, Seq, Steps, Text};
 use rtl_check::{CheckFault, Checked, check};
@@ -19,7 +19,7 @@ use rtl_ir::Design;
 use rtl_lex::Place;
 use rtl_read::{ReadFault, read};
 use rtl_write::write;
-use script_core::{Outcome, Script};
+use script_core::{Outcome, Script, default_script};
 use std::alloc::Global;
 
 /// What is written, and whether it is an error.

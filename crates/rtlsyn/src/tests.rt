@@ -7,6 +7,7 @@ mod mapped_text;
 mod memories;
 mod memory_text;
 mod processes;
+mod scripts;
 mod whole_text;
 mod width_text;
 

@@ -1,3 +1,5 @@
+pub mod ScriptLemmas
+pub mod ParseLemmas
 pub mod KeyLemmas
 pub mod FoldLemmas
 pub mod Tables

@@ -1,5 +1,8 @@
 -- The words of scripts.
-use Rattle.std.specs.Prelude.{◌≡◌, ◌≤◌, ℕ, List, length, slice_get, Some}
+use Rattle.std.specs.Prelude.{◌≡◌, ◌≤◌, ◌+◌, ◌==◌, ℕ, Bool, not, ◌&&◌, ◌||◌, List, [], ◌∷◌, codes, filter, filter_map, length, slice_get, Option, Some, None, Result, Ok, Err, if◌then◌else◌}
+use Rattle.std.specs.List.{slice_split}
+use Rattle.std.specs.Option.{is_some, option_map_or}
+use Rattle.std.specs.Str.{bytes_eq}
 use Rattle.script_core.specs.declared.word.Word.{Word}
 use Rattle.script_core.specs.declared.word.Word.TheVariants.{Proc, OptExpr, OptMerge, OptClean, Opt, Fsm, Memory, Techmap}
 
@@ -7,6 +10,54 @@ use Rattle.script_core.specs.declared.word.Word.TheVariants.{Proc, OptExpr, OptM
 pub record IsScript (words : List Word) : Type 0 where
   pub first : slice_get words 0 ≡ Some Proc
   pub count : length words ≤ 64
+
+-- the default script
+abbrev pub default_script : List Word
+default_script = Proc ∷ Opt ∷ Fsm ∷ Opt ∷ Memory ∷ Opt ∷ Techmap ∷ Opt ∷ []
+
+-- the word of a spelling
+abbrev pub word_of : List ℕ → Option Word
+word_of spelling =
+    if bytes_eq spelling (codes "proc") then Some Proc
+    else if bytes_eq spelling (codes "opt_expr") then Some OptExpr
+    else if bytes_eq spelling (codes "opt_merge") then Some OptMerge
+    else if bytes_eq spelling (codes "opt_clean") then Some OptClean
+    else if bytes_eq spelling (codes "clean") then Some OptClean
+    else if bytes_eq spelling (codes "opt") then Some Opt
+    else if bytes_eq spelling (codes "fsm") then Some Fsm
+    else if bytes_eq spelling (codes "memory") then Some Memory
+    else if bytes_eq spelling (codes "techmap") then Some Techmap
+    else None
+
+-- a space, a tab or a semicolon
+unfoldable pub is_separator : ℕ → Bool
+is_separator byte = (byte == 32) || (byte == 9) || (byte == 59)
+
+-- the words of a text: what stands between separators and is not empty
+abbrev pub words_of : List ℕ → List (List ℕ)
+words_of text = filter (λ word. not (length word == 0)) (slice_split is_separator text)
+
+-- the word with this number, from 1, is bad: it is unknown, or the first and not `proc`, or the 65th
+abbrev pub is_bad : ℕ → List ℕ → Bool
+is_bad number word = not (is_some (word_of word)) || ((number == 1) && not (bytes_eq word (codes "proc"))) || (number == 65)
+
+-- the word with this number, where it is not bad
+abbrev pub word_at : ℕ → List ℕ → Option Word
+word_at number word = if is_bad number word then None else word_of word
+
+-- the number of the first bad one of some words, the first of which has this number
+abbrev pub bad_from : ℕ → List (List ℕ) → Option ℕ
+bad_from number [] = None
+bad_from number (word ∷ words) = if is_bad number word then Some number else bad_from (number + 1) words
+
+-- the number of the first bad word, which is 1 where there is no word
+abbrev pub first_bad : List (List ℕ) → Option ℕ
+first_bad [] = Some 1
+first_bad (word ∷ words) = bad_from 1 (word ∷ words)
+
+-- the script of a text: all its words, or the number of the first bad one
+abbrev pub script_of : List ℕ → Result (List Word) ℕ
+script_of text = option_map_or Err (first_bad (words_of text)) (Ok (filter_map word_of (words_of text)))
 
 -- the letter that stands for a word in the text of a key
 abbrev pub letter_of : Word → ℕ

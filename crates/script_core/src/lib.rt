@@ -7,6 +7,7 @@ mod fold;
 mod key;
 pub mod laws;
 mod outcome;
+mod parse;
 mod script;
 mod word;
 
@@ -14,5 +15,6 @@ pub use building::build;
 pub use built::Built;
 pub use key::{Key, key_of};
 pub use outcome::Outcome;
-pub use script::Script;
+pub use parse::{ScriptFault, parse_script};
+pub use script::{Script, default_script};
 pub use word::Word;

@@ -2,7 +2,7 @@
 
 ghost use Rattle.std.specs.Prelude.{◌≡◌, [], ◌∷◌, ◌++◌, IfOk, OnErr, OnOk};
 ghost use Rattle.script_core.specs.declared.word.Word.TheVariants.{Proc};
-ghost use Rattle.script_core.specs.Words.{IsScript};
+ghost use Rattle.script_core.specs.Words.{IsScript, default_script};
 
 use crate::word::Word;
 use rtl_bits::{Copied, Memory, Seq};
@@ -38,6 +38,14 @@ impl Script {
         Ok(Script { words })
     }
 
+    /// The script of these words.
+    pub(crate) fn of_words(words: Seq<Word>) -> Script
+        requires script { IsScript words }
+        ensures value { result ≡ words }
+    {
+        Script { words }
+    }
+
     /// Puts the word last. After an error the script is as before.
     pub fn push(&mut self, word: Word) -> Result<(), Memory>
         requires script { IsScript (self.old ++ word ∷ []) }
@@ -61,4 +69,20 @@ impl Copied for Script {
         let words = self.words.copy()?;
         Ok(Script { words })
     }
+}
+
+/// The default script: `proc opt fsm opt memory opt techmap opt`.
+#[tactic(auto, using(crate::proofs::ScriptLemmas::one_word, crate::proofs::ScriptLemmas::two_words, crate::proofs::ScriptLemmas::three_words, crate::proofs::ScriptLemmas::four_words, crate::proofs::ScriptLemmas::five_words, crate::proofs::ScriptLemmas::six_words, crate::proofs::ScriptLemmas::is_script))]
+pub fn default_script(alloc: Global) -> Result<Script, Memory>
+    ensures value { IfOk result (λ script. script ≡ default_script) }
+{
+    let mut script = Script::make(alloc)?;
+    script.push(Word::Opt)?;
+    script.push(Word::Fsm)?;
+    script.push(Word::Opt)?;
+    script.push(Word::Memory)?;
+    script.push(Word::Opt)?;
+    script.push(Word::Techmap)?;
+    script.push(Word::Opt)?;
+    Ok(script)
 }

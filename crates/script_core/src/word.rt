@@ -1,7 +1,7 @@
 //! The words of a script.
 
 ghost use Rattle.std.specs.Prelude.{◌≡◌};
-ghost use Rattle.script_core.specs.Words.{letter_of};
+ghost use Rattle.script_core.specs.Words.{letter_of, word_of};
 
 use rtl_bits::{Copied, Memory};
 
@@ -25,6 +25,33 @@ impl Copied for Word {
 }
 
 impl Word {
+    /// The word of a spelling.
+    pub(crate) fn of(spelling: &[u8]) -> Option<Word>
+        ensures value { result ≡ word_of spelling.now }
+    {
+        if spelling == b"proc".as_slice() {
+            Some(Word::Proc)
+        } else if spelling == b"opt_expr".as_slice() {
+            Some(Word::OptExpr)
+        } else if spelling == b"opt_merge".as_slice() {
+            Some(Word::OptMerge)
+        } else if spelling == b"opt_clean".as_slice() {
+            Some(Word::OptClean)
+        } else if spelling == b"clean".as_slice() {
+            Some(Word::OptClean)
+        } else if spelling == b"opt".as_slice() {
+            Some(Word::Opt)
+        } else if spelling == b"fsm".as_slice() {
+            Some(Word::Fsm)
+        } else if spelling == b"memory".as_slice() {
+            Some(Word::Memory)
+        } else if spelling == b"techmap".as_slice() {
+            Some(Word::Techmap)
+        } else {
+            None
+        }
+    }
+
     /// The letter that stands for the word in the text of a key.
     pub(crate) fn letter(self) -> u8
         ensures value { result ≡ letter_of self }
