@@ -1,4 +1,4 @@
-//! Reading and writing over each source and each sink, as rows of tests.
+//! Reading and writing over each source and each sink, and the commands of a session, as rows of tests.
 #![tactic(auto)]
 
 #[cfg(test)]

@@ -1,3 +1,5 @@
+mod commands;
+
 use rtl_bits::Text;
 use std::alloc::{AllocError, Global};
 use std::process::Abort;

@@ -1,0 +1,4 @@
+pub mod Words
+pub mod Heads
+pub mod Commands
+pub mod Taking
