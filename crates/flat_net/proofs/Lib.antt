@@ -13,6 +13,7 @@ pub mod Chars
 pub mod Celling
 pub mod Fitting
 pub mod Pairing
+pub mod Actors
 pub mod Registering
 pub mod Triggering
 pub mod Beginning

@@ -9,5 +9,3 @@ pub mod Flops
 pub mod Trees
 pub mod Recodes
 pub mod Machines
-pub mod Short
-pub mod Inside

@@ -1,6 +1,5 @@
 pub mod Nets
 pub mod Adding
-pub mod LimitsKept
 pub mod Added
 pub mod Steps
 pub mod Limits

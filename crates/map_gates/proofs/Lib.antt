@@ -8,9 +8,6 @@ pub mod Expanding
 pub mod Over
 pub mod Folding
 pub mod Choosing
-pub mod Halves
-pub mod Placing
-pub mod PartWidths
 pub mod Valued
 pub mod Expanded
 pub mod Renaming

@@ -3,7 +3,8 @@
 ghost use Rattle.std.specs.Prelude.{◌≡◌};
 ghost use Rattle.map_gates.specs.Gates.{bit_at};
 
-use rtl_sig::{SigBit, fill_of};
+use gate_nets::fill_of;
+use rtl_sig::SigBit;
 
 /// The bit of an operand at any place: past its end its top bit where it is signed, else 0.
 pub(crate) fn bit_at(signed: bool, bits: &[SigBit], at: usize) -> SigBit
@@ -11,6 +12,6 @@ pub(crate) fn bit_at(signed: bool, bits: &[SigBit], at: usize) -> SigBit
 {
     match bits.get(at) {
         Some(bit) => *bit,
-        None => fill_of(bits, signed),
+        None => fill_of(signed, bits),
     }
 }

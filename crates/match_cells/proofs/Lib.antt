@@ -1,3 +1,4 @@
+pub mod Fits
 pub mod Growing
 pub mod Patterns
 pub mod Steps

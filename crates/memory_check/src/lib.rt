@@ -2,6 +2,7 @@
 #![tactic(auto)]
 
 mod clocks;
+mod given;
 mod memories;
 mod ports;
 mod starts;

@@ -24,6 +24,7 @@ pub mod Formed
 pub mod Inside
 pub mod InsideSteps
 pub mod PlanIn
+pub mod PinWidths
 pub mod Fitting
 pub mod FittingSteps
 pub mod FittingPlan
@@ -33,4 +34,3 @@ pub mod Counted
 pub mod Readied
 pub mod InTurn
 pub mod Turned
-pub mod Commuting

@@ -1,8 +1,6 @@
 -- The widths of a combinational cell that fits its kind, as the rules ask for them.
-use Rattle.std.proofs.Common.{◌≡◌, ℕ, ◌*◌, ◌^◌, ◌<◌, ◌≤◌, Bool, true, false, List, [], ◌∷◌, length, map, Some, None, inl, inr, refl, sym, ◌∙◌, ap, subst, arith}
+use Rattle.std.proofs.Common.{◌≡◌, ℕ, ◌*◌, ◌<◌, ◌≤◌, Bool, true, false, List, [], ◌∷◌, length, map, Some, None, inl, inr, refl, sym, ◌∙◌, ap, subst, arith}
 use Rattle.std.specs.Prelude.{◌||◌, ◌-◌, replicate, take}
-use Rattle.std.proofs.Math.Nat.{le-mul_of_pos_right}
-use Rattle.std.proofs.lemmas.Nat.{pow_pos}
 use Rattle.std.specs.List.{list_any}
 use Rattle.std.proofs.lemmas.Bool.{ltb-false, true≢false}
 use Rattle.std.proofs.lemmas.List.{length-append, length-map, length-take, length-replicate}
@@ -24,7 +22,7 @@ use Rattle.cell_types.specs.Bounds.{AreWordWidths}
 use Rattle.cell_types.specs.declared.shape.Widths.{Widths}
 use Rattle.cell_types.specs.Fault.{is_wide_pin, limit_of}
 use Rattle.cell_types.specs.PinName.{pin_text}
-use Rattle.cell_types.specs.Pins.{word_pins}
+use Rattle.cell_types.specs.Pins.{gate_pins, word_pins}
 use Rattle.cell_types.specs.Shape.{small}
 use Rattle.cell_types.specs.Widths.{pin_width}
 use Rattle.rtl_sig.specs.Signal.{extended, fill_of}
@@ -45,7 +43,22 @@ use Rattle.opt_expr.proofs.Forming.{IsFormed, gate_chooser, gate_inverter, word_
 use Rattle.opt_expr.proofs.Known.{shape_kind}
 use Rattle.opt_expr.proofs.Making.{AreWide, AreWideAs, Chooser, Inverter, IsShaped}
 use Rattle.opt_expr.proofs.Widths.{computed, not_wide, pin_fits}
-use Rattle.pass_laws.proofs.Outputs.{gate_output, word_output}
+
+word_output : (kind : WordKind) → In Y (word_pins kind)
+word_output (Words.Unary _) = inr (inl refl)
+word_output (Words.Fold _) = inr (inl refl)
+word_output Words.Mux = inr (inr (inr (inl refl)))
+word_output Words.Pmux = inr (inr (inr (inl refl)))
+word_output Words.Slice = inr (inl refl)
+word_output Words.Concat = inr (inr (inl refl))
+word_output _ = inr (inr (inl refl))
+
+gate_output : (kind : GateKind) → In Y (gate_pins kind)
+gate_output Gates.Buf = inr (inl refl)
+gate_output Gates.Not = inr (inl refl)
+gate_output Gates.Mux = inr (inr (inr (inl refl)))
+gate_output Gates.Nmux = inr (inr (inr (inl refl)))
+gate_output _ = inr (inr (inl refl))
 
 any_in : {T : Type 0} (test : T → Bool) (x : T) (xs : List T) → In x xs → list_any test xs ≡ false → test x ≡ false
 any_in test x [] i e = absurd i
@@ -167,14 +180,6 @@ y_within Words.Mux w offset h = let a = h.0 in let e = h.3 in (omega (arith, a.0
 y_within Words.Pmux w offset h = let a = h.0 in let e = h.3 in (omega (arith, a.0, e), omega (arith, a.1, e))
 y_within Words.Slice w offset h = h.0.1
 y_within Words.Concat w offset h = let a = h.0 in let e = h.2 in (omega (arith, a.0, e), h.3)
-y_within Words.Buf w offset h = let a = h.0 in let e = h.1 in (omega (arith, a.0, e), omega (arith, a.1, e))
-y_within Words.Bwmux w offset h = let a = h.0 in let e = h.3 in (omega (arith, a.0, e), omega (arith, a.1, e))
-y_within Words.Bmux w offset h = h.0
-y_within Words.Demux w offset h =
-    let a = h.0 in
-    let e = h.2 in
-    let more : w.a ≤ w.a * 2 ^ w.s = le-mul_of_pos_right w.a (pow_pos w.s) in
-    (omega (arith, a.0, e, more), h.3)
 
 word_bounds : (kind : WordKind) (c : Cell) → misfit (Word kind) c ≡ None → (0 < (cell_shape (Word kind) c.params).widths.y) × ((cell_shape (Word kind) c.params).widths.y ≤ 4096)
 unfolding misfit cell_shape

@@ -1,3 +1,4 @@
+pub mod Chars
 pub mod Widths
 pub mod Rows
 pub mod Inverting

@@ -25,6 +25,7 @@ use rtl_bits::{Memory, Text};
 use rtl_ir::{Case, Link, Pin};
 use rtl_sig::{SigBit, SigSpec, WireBit};
 use std::alloc::Global;
+use tree_leaves::may_hold;
 
 impl Chains {
     /// The bits of the lines, in order.
@@ -97,11 +98,13 @@ impl Chains {
         ensures over { result ≡ Err PassFault.Over → PassesLimit (always_step root.now (tree_bits root.now) (record { bit = bit; source = source }) (seen self.old.trees)).building }
         ensures within { IsInLimits self.old.trees.builder → OnOk result (IsInLimits self.new.trees.builder) }
     {
-        let bits = tables.bits.list.as_slice();
-        if tables
-            .reaching
-            .may_hold(self.trees.alloc, bits, bit, source)?
-        {
+        if may_hold(
+            self.trees.alloc,
+            root,
+            tables.bits.list.as_slice(),
+            bit,
+            source,
+        )? {
             self.latch_step(root, tables, bit, source)
         } else {
             self.connect(bit, source)

@@ -6,3 +6,4 @@ mod Fitting
 mod Uniform
 pub mod Exact
 mod Ordering
+pub mod Promised

@@ -1,4 +1,5 @@
+pub mod Acting
+pub mod Levels
 pub mod Outer
 pub mod Places
 pub mod Reads
-pub mod Promise

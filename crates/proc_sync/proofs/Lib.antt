@@ -5,3 +5,4 @@ mod Marking
 mod Counting
 mod Following
 mod Stepping
+pub mod Promised

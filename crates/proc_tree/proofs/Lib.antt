@@ -9,6 +9,8 @@ pub mod Lines
 pub mod Trees
 pub mod Forming
 pub mod Promised
+pub mod PatternsLeft
+pub mod TreeReading
 pub mod FirstLeaf
 pub mod LeafWays
 pub mod Giving

@@ -1,3 +1,4 @@
+pub mod Fronts
 pub mod Searches
 pub mod Endings
 pub mod Among
@@ -8,3 +9,4 @@ pub mod GraphEdges
 pub mod RuleLemmas
 pub mod Updating
 pub mod Settled
+pub mod Leveling

@@ -5,3 +5,4 @@ pub mod Readings
 pub mod Acting
 pub mod Updates
 pub mod Values
+pub mod Levels

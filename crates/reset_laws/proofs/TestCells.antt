@@ -20,8 +20,7 @@ use Rattle.rtl_ir.specs.Flat.Cell.{cell_shape}
 use Rattle.rtl_ir.specs.Flat.Driver.{Worked}
 use Rattle.rtl_ir.specs.Flat.Place.{Path, Place}
 use Rattle.rtl_ir.specs.Flat.Point.{pin_points, points}
-use Rattle.rtl_ir.specs.Follow.{follow_joins}
-use Rattle.rtl_ir.specs.declared.follow.Join.{Join}
+use Rattle.rtl_ir.specs.Follow.{Join, follow_joins}
 use Rattle.rtl_ir.specs.Parameters.{given_params}
 use Rattle.rtl_ir.specs.Signals.{is_constant}
 use Rattle.rtl_ir.specs.declared.cell.Cell.{Cell}
@@ -77,10 +76,6 @@ module _ (p : Path) (wires : List Wire) (w : Valuation) where
   word_row Words.Pmux c t = refl
   word_row Words.Slice c t = refl
   word_row Words.Concat c t = refl
-  word_row Words.Buf c t = refl
-  word_row Words.Bwmux c t = refl
-  word_row Words.Bmux c t = refl
-  word_row Words.Demux c t = refl
 
   gate_row : (k : GateKind) (c : Cell) (t : Time Place) → row_value (Cells.Gate k) c t ≡ lowest_bit (Cells.Gate k) c (read_words_of (input_signals (Cells.Gate k) c))
   unfolding cell_shape

@@ -3,24 +3,12 @@
 ghost use Rattle.std.specs.Prelude.{◌≡◌, [], OnOk};
 ghost use Rattle.rtl_lex.specs.Items.{as_seen};
 ghost use Rattle.rtl_read.specs.Gives.{Sets};
-ghost use Rattle.rtl_read.specs.Meaning.Tree.{
-  plain_case,
-  plain_tree,
-  case_of,
-  switch_of,
-  deeper,
-  enter_switch,
-  open_case,
-  close_case,
-  close_switch,
-  with_pattern,
-  with_assign,
-};
+ghost use Rattle.rtl_read.specs.Meaning.Tree.{plain_case, plain_tree, case_of, switch_of, deeper, enter_switch, open_case, close_case, close_switch, with_pattern, with_assign};
 
+use crate::limits::MAX_DEPTH;
 use crate::read_fault::ReadFault;
 use crate::stack::Stack;
 use rtl_bits::{Memory, Seq};
-use rtl_ir::limits::MAX_DEPTH;
 use rtl_ir::{Attribute, Case, Link, Switch};
 use rtl_lex::Item;
 use rtl_sig::SigSpec;
@@ -68,7 +56,7 @@ fn plain_case(alloc: Global, attributes: Seq<Attribute>) -> OpenCase
 }
 
 /// A tree of one case in which there is nothing yet.
-pub(crate) fn plain_tree(alloc: Global) -> OpenTree
+pub fn plain_tree(alloc: Global) -> OpenTree
     ensures { result ≡ plain_tree }
 {
     OpenTree {
@@ -79,7 +67,7 @@ pub(crate) fn plain_tree(alloc: Global) -> OpenTree
 }
 
 /// A case that is whole.
-pub(crate) fn case_of(case: OpenCase) -> Case
+pub fn case_of(case: OpenCase) -> Case
     ensures { result ≡ case_of case }
 {
     let OpenCase {
@@ -98,11 +86,7 @@ pub(crate) fn case_of(case: OpenCase) -> Case
 
 impl OpenTree {
     /// The word `switch`, with the attributes of the switch.
-    pub(crate) fn deeper(
-        &mut self,
-        item: &Item<'_>,
-        attributes: Seq<Attribute>,
-    ) -> Result<(), ReadFault>
+    pub fn deeper(&mut self, item: &Item<'_>, attributes: Seq<Attribute>) -> Result<(), ReadFault>
         ensures { Sets result self.new (deeper (as_seen item.now) attributes self.old) }
     {
         if self.outer.depth() >= MAX_DEPTH {
@@ -113,7 +97,7 @@ impl OpenTree {
     }
 
     /// The innermost case so far; an empty one takes its place.
-    pub(crate) fn take_case(&mut self, alloc: Global) -> OpenCase
+    pub fn take_case(&mut self, alloc: Global) -> OpenCase
         ensures case { result ≡ self.old.case }
         ensures left { self.new ≡ open_case [] self.old }
     {
@@ -121,7 +105,7 @@ impl OpenTree {
     }
 
     /// The end of the line of a switch with this signal.
-    pub(crate) fn enter_switch(&mut self, alloc: Global, signal: SigSpec) -> Result<(), Memory>
+    pub fn enter_switch(&mut self, alloc: Global, signal: SigSpec) -> Result<(), Memory>
         ensures { OnOk result (self.new ≡ enter_switch signal self.old) }
     {
         let case = self.take_case(alloc);
@@ -135,14 +119,14 @@ impl OpenTree {
     }
 
     /// A case begins.
-    pub(crate) fn open_case(&mut self, alloc: Global, attributes: Seq<Attribute>)
+    pub fn open_case(&mut self, alloc: Global, attributes: Seq<Attribute>)
         ensures { self.new ≡ open_case attributes self.old }
     {
         self.case = plain_case(alloc, attributes);
     }
 
     /// The open case is whole.
-    pub(crate) fn close_case(&mut self, alloc: Global) -> Result<(), Memory>
+    pub fn close_case(&mut self, alloc: Global) -> Result<(), Memory>
         ensures { OnOk result (self.new ≡ close_case self.old) }
     {
         let case = case_of(self.take_case(alloc));
@@ -154,7 +138,7 @@ impl OpenTree {
     }
 
     /// The innermost switch is whole.
-    pub(crate) fn close_switch(&mut self) -> Result<(), Memory>
+    pub fn close_switch(&mut self) -> Result<(), Memory>
         ensures { OnOk result (self.new ≡ close_switch self.old) }
     {
         if let Some(switch) = self.outer.pop() {
@@ -174,13 +158,13 @@ impl OpenTree {
         Ok(())
     }
 
-    pub(crate) fn add_pattern(&mut self, pattern: SigSpec) -> Result<(), Memory>
+    pub fn add_pattern(&mut self, pattern: SigSpec) -> Result<(), Memory>
         ensures { OnOk result (self.new ≡ with_pattern pattern self.old) }
     {
         self.case.patterns.push(pattern)
     }
 
-    pub(crate) fn add_assign(&mut self, link: Link) -> Result<(), Memory>
+    pub fn add_assign(&mut self, link: Link) -> Result<(), Memory>
         ensures { OnOk result (self.new ≡ with_assign link self.old) }
     {
         self.case.assigns.push(link)

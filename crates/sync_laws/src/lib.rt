@@ -1,7 +1,5 @@
-//! Laws of the step of `proc` in which rules become flip-flops and latches, and lines that write become write ports.
+//! Laws of the step of `proc` in which rules become flip-flops and latches.
 #![tactic(auto)]
 
-pub mod accesses;
-pub mod earlier;
 pub mod forming;
 pub mod refining;

@@ -1,20 +1,14 @@
 //! Modules: a name, and statements up to `end`.
 
-ghost use Rattle.rtl_grammar.specs.Bodies.{IsBody};
-ghost use Rattle.rtl_grammar.specs.Grammar.Module.{
-  after_module_name,
-  after_body,
-  after_next_item,
-  after_parameter_name,
-  after_parameter_value,
-};
+ghost use Rattle.std.specs.Prelude.{◌≡◌, MatchOption, None, Some, reverse};
+ghost use Rattle.rtl_grammar.specs.Grammar.Module.{after_module_name, after_body, after_next_item, after_parameter_name, after_parameter_value};
 
 use crate::expect::Expect;
 use rtl_lex::Sort;
 
 /// The name of a module, and its statements.
-pub(crate) fn after_module_name(sort: Sort) -> Option<&'static [Expect]>
-    ensures { IsBody (after_module_name sort) result }
+pub fn after_module_name(sort: Sort) -> Option<&'static [Expect]>
+    ensures { MatchOption result (after_module_name sort ≡ None) (λ body. after_module_name sort ≡ Some (reverse body.now)) }
 {
     match sort {
         Sort::Id => Some(&[Expect::Body, Expect::EndOfLine]),
@@ -23,8 +17,8 @@ pub(crate) fn after_module_name(sort: Sort) -> Option<&'static [Expect]>
 }
 
 /// The statements of a module, up to its end.
-pub(crate) fn after_body(sort: Sort) -> Option<&'static [Expect]>
-    ensures { IsBody (after_body sort) result }
+pub fn after_body(sort: Sort) -> Option<&'static [Expect]>
+    ensures { MatchOption result (after_body sort ≡ None) (λ body. after_body sort ≡ Some (reverse body.now)) }
 {
     match sort {
         Sort::Attribute => Some(&[Expect::NextItem, Expect::AttributeName]),
@@ -40,8 +34,8 @@ pub(crate) fn after_body(sort: Sort) -> Option<&'static [Expect]>
 }
 
 /// The item behind its attributes, and the statements behind it.
-pub(crate) fn after_next_item(sort: Sort) -> Option<&'static [Expect]>
-    ensures { IsBody (after_next_item sort) result }
+pub fn after_next_item(sort: Sort) -> Option<&'static [Expect]>
+    ensures { MatchOption result (after_next_item sort ≡ None) (λ body. after_next_item sort ≡ Some (reverse body.now)) }
 {
     match sort {
         Sort::Attribute => Some(&[Expect::NextItem, Expect::AttributeName]),
@@ -54,8 +48,8 @@ pub(crate) fn after_next_item(sort: Sort) -> Option<&'static [Expect]>
 }
 
 /// The name of a parameter of a module.
-pub(crate) fn after_parameter_name(sort: Sort) -> Option<&'static [Expect]>
-    ensures { IsBody (after_parameter_name sort) result }
+pub fn after_parameter_name(sort: Sort) -> Option<&'static [Expect]>
+    ensures { MatchOption result (after_parameter_name sort ≡ None) (λ body. after_parameter_name sort ≡ Some (reverse body.now)) }
 {
     match sort {
         Sort::Id => Some(&[Expect::ParameterValue]),
@@ -64,8 +58,8 @@ pub(crate) fn after_parameter_name(sort: Sort) -> Option<&'static [Expect]>
 }
 
 /// Its value, or the end of the line where it has none.
-pub(crate) fn after_parameter_value(sort: Sort) -> Option<&'static [Expect]>
-    ensures { IsBody (after_parameter_value sort) result }
+pub fn after_parameter_value(sort: Sort) -> Option<&'static [Expect]>
+    ensures { MatchOption result (after_parameter_value sort ≡ None) (λ body. after_parameter_value sort ≡ Some (reverse body.now)) }
 {
     match sort {
         Sort::Value | Sort::Int | Sort::Chars => Some(&[Expect::EndOfLine]),

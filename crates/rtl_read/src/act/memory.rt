@@ -16,11 +16,7 @@ use std::mem;
 impl Draft {
     /// An option of a memory; or its name, with which it is whole.
     #[tactic(auto, using(crate::proofs::Faults::fails_on, crate::proofs::Faults::goes_on))]
-    pub(crate) fn act_memory_option(
-        &mut self,
-        alloc: Global,
-        item: &Item<'_>,
-    ) -> Result<(), ReadFault>
+    pub fn act_memory_option(&mut self, alloc: Global, item: &Item<'_>) -> Result<(), ReadFault>
         ensures { Sets result self.new (act_memory_option item.now.sort (as_seen item.now) self.old) }
     {
         if item.sort != Sort::Id {
@@ -35,7 +31,7 @@ impl Draft {
 
     /// The number behind `width`.
     #[tactic(auto, using(crate::proofs::Faults::fails_on, crate::proofs::Faults::goes_on))]
-    pub(crate) fn act_memory_width(&mut self, item: &Item<'_>) -> Result<(), ReadFault>
+    pub fn act_memory_width(&mut self, item: &Item<'_>) -> Result<(), ReadFault>
         ensures { Sets result self.new (act_memory_width (as_seen item.now) self.old) }
     {
         if let Err(fault) = set_store_width(&mut self.store, item) {
@@ -46,7 +42,7 @@ impl Draft {
 
     /// The number behind `size`.
     #[tactic(auto, using(crate::proofs::Faults::fails_on, crate::proofs::Faults::goes_on))]
-    pub(crate) fn act_memory_size(&mut self, item: &Item<'_>) -> Result<(), ReadFault>
+    pub fn act_memory_size(&mut self, item: &Item<'_>) -> Result<(), ReadFault>
         ensures { Sets result self.new (act_memory_size (as_seen item.now) self.old) }
     {
         if let Err(fault) = set_store_size(&mut self.store, item) {
@@ -57,7 +53,7 @@ impl Draft {
 
     /// The number behind `offset`.
     #[tactic(auto, using(crate::proofs::Faults::fails_on, crate::proofs::Faults::goes_on))]
-    pub(crate) fn act_memory_offset(&mut self, item: &Item<'_>) -> Result<(), ReadFault>
+    pub fn act_memory_offset(&mut self, item: &Item<'_>) -> Result<(), ReadFault>
         ensures { Sets result self.new (act_memory_offset (as_seen item.now) self.old) }
     {
         if let Err(fault) = set_store_offset(&mut self.store, item) {

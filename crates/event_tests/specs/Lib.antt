@@ -1,0 +1,5 @@
+pub mod Edge
+pub mod Fitting
+pub mod Steps
+pub mod Tables
+pub mod Tree

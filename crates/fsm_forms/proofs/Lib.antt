@@ -1,0 +1,16 @@
+pub mod Measures
+pub mod Trees
+pub mod Fits
+pub mod Signals
+pub mod Places
+pub mod Linking
+pub mod Asked
+pub mod Standing
+pub mod Forking
+pub mod Comparing
+pub mod Totals
+pub mod Formed
+pub mod Readied
+pub mod Driven
+pub mod Numbers
+pub mod InTurn

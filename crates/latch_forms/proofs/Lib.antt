@@ -1,0 +1,10 @@
+pub mod Growth
+pub mod Chains
+pub mod Rules
+pub mod Stepping
+pub mod Kept
+pub mod Lines
+pub mod Writing
+pub mod Wider
+pub mod Formed
+pub mod Left

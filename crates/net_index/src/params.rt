@@ -1,0 +1,68 @@
+//! What the parameters of a cell say.
+
+ghost use Rattle.std.specs.Prelude.{◌≡◌, IfOk, reverse};
+ghost use Rattle.std.specs.List.{flat_map};
+ghost use Rattle.rtl_ir.specs.Constants.{low_bits, unsigned_of, value_bits};
+ghost use Rattle.rtl_ir.specs.Parameters.{given_params};
+
+use cell_types::Param;
+use rtl_bits::{Bits, Copied, Memory};
+use rtl_ir::{CellParam, Value};
+use std::alloc::Global;
+
+/// The parameters with the bits of their values.
+pub(crate) fn given_params(alloc: Global, params: &[CellParam]) -> Result<Vec<Param>, Memory>
+    ensures value { IfOk result (λ given. given.items ≡ given_params params.now) }
+{
+    let mut given = Vec::with_capacity(alloc, params.len())?;
+    for param in params {
+        given.push(Param {
+            name: param.name.copy()?,
+            value: value_bits(alloc, &param.value)?,
+        })?;
+    }
+    Ok(given)
+}
+
+/// The bits of a constant.
+pub fn value_bits(alloc: Global, value: &Value) -> Result<Bits, Memory>
+    ensures value { IfOk result (λ bits. bits ≡ value_bits value.now) }
+{
+    match value {
+        Value::Bits(bits, _) => bits.copy(),
+        Value::Int(number) => low_bits(alloc, unsigned(*number), 32),
+        Value::Chars(text) => char_bits(alloc, text.as_slice()),
+    }
+}
+
+/// So many low bits of a number.
+#[tactic(auto, unfolding(rtl_ir::specs::Constants::low_bits))]
+fn low_bits(alloc: Global, number: u32, width: u32) -> Result<Bits, Memory>
+    ensures value { IfOk result (λ bits. bits ≡ low_bits number width) }
+{
+    Bits::from_number(alloc, u128::from(number), width)
+}
+
+/// The integer as a number of 32 bits, in two's complement.
+fn unsigned(number: i32) -> u32
+    ensures value { result ≡ unsigned_of number }
+{
+    if number >= 0 {
+        number.unsigned_abs()
+    } else {
+        ((1u64 << 32) - u64::from(number.unsigned_abs())) as u32
+    }
+}
+
+/// The bits of the characters, those of the last character lowest.
+#[tactic(auto, using(crate::proofs::Chars::chars_here))]
+fn char_bits(alloc: Global, chars: &[u8]) -> Result<Bits, Memory>
+    ensures value { IfOk result (λ bits. bits ≡ flat_map (λ c. low_bits c 8) (reverse chars.now)) }
+{
+    let mut bits = Bits::make(alloc);
+    for at in (0..chars.len()).rev() {
+        let low = low_bits(alloc, u32::from(chars[at]), 8)?;
+        bits.extend(low.as_slice())?;
+    }
+    Ok(bits)
+}

@@ -1,0 +1,3 @@
+pub mod Readable
+pub mod Bodies
+pub mod PortTables

@@ -1,0 +1,5 @@
+//! Rows for the crates that read and write text.
+#![tactic(auto)]
+
+#[cfg(test)]
+mod tests;

@@ -1,0 +1,11 @@
+mod answer;
+mod constants;
+mod every;
+mod items;
+mod limits;
+mod prefixes;
+mod rows;
+mod signals;
+mod texts;
+mod tokens;
+mod values;

@@ -1,0 +1,2 @@
+pub mod PatternsLeft
+pub mod TreeReading
