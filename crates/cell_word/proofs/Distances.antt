@@ -12,7 +12,7 @@ use Rattle.rtl_bits.specs.declared.bit.Bit.TheVariants.{S0, S1, X}
 use Rattle.rtl_bits.specs.Knowledge.{AreKnown, all_known}
 use Rattle.rtl_bits.specs.Tables.{seen_of, not_of}
 use Rattle.rtl_bits.specs.Numbers.{digit_of, number_of, top_of, is_one}
-use Rattle.rtl_bits.proofs.Numbers.{drop_here}
+use Rattle.rtl_bits.proofs.NumberLemmas.{drop_here}
 use Rattle.rtl_bits.proofs.Lists.{all_known_true}
 use Rattle.cell_types.specs.declared.word.ShiftKind.{ShiftKind}
 use Rattle.cell_types.specs.declared.word.ShiftKind.TheVariants.{Sshr, Shiftx}

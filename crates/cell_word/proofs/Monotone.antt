@@ -11,7 +11,7 @@ use Rattle.rtl_bits.specs.Tables.{seen_of, not_of, and_of, or_of, xor_of}
 use Rattle.rtl_bits.specs.Numbers.{bits_of, top_of, is_one}
 use Rattle.rtl_bits.proofs.Keeping.{Keeps, below_kept, flat_kept}
 use Rattle.rtl_bits.proofs.Lists.{placewise_refl, placewise_length, all_known_true}
-use Rattle.rtl_bits.proofs.Numbers.{bits_of_length}
+use Rattle.rtl_bits.proofs.NumberLemmas.{bits_of_length}
 use Rattle.cell_types.specs.declared.word.BitwiseKind.{BitwiseKind}
 use Rattle.cell_types.specs.declared.word.BitwiseKind.TheVariants as Bitwise
 use Rattle.cell_types.specs.declared.word.FoldKind.{FoldKind}

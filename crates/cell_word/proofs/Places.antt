@@ -5,7 +5,7 @@ use Rattle.std.proofs.lemmas.List.Sums.{fold-append}
 use Rattle.std.proofs.lemmas.List.FromFn.{map-range_with_len_more}
 use Rattle.rtl_bits.specs.declared.bit.Bit.{Bit}
 use Rattle.rtl_bits.specs.Numbers.{top_of}
-use Rattle.rtl_bits.proofs.Numbers as Numbers
+use Rattle.rtl_bits.proofs.NumberLemmas as Numbers
 use Rattle.cell_word.specs.Words.{word_of}
 
 -- a word of one more place

@@ -18,7 +18,8 @@ use Rattle.rtl_ir.specs.Flat.Driver.{Driven}
 use Rattle.rtl_ir.specs.Flat.Place.{Path}
 use Rattle.rtl_ir.specs.Flat.Point.{bit_place}
 use Rattle.rtl_ir.specs.Flat.Process.{Trigger, edge_trigger, level_trigger, no_modules, tree_bit_rows, loaded_row, loaded_rows, level_row, raced_row, raced_rows, one_rule_rows, two_rules_rows, rules_rows, processes_rows}
-use Rattle.rtl_ir.specs.Follow.{Join, all_joins, source_at}
+use Rattle.rtl_ir.specs.Follow.{all_joins, source_at}
+use Rattle.rtl_ir.specs.declared.follow.Join.{Join}
 use Rattle.rtl_ir.specs.Rules.{acting_rules, updated_by, updated_bits}
 use Rattle.rtl_ir.specs.Signals.{same_bit}
 use Rattle.rtl_ir.specs.SwitchRules.{root_by_rules}

@@ -25,7 +25,8 @@ use Rattle.rtl_ir.specs.Flat.Link.{joins, link_rows}
 use Rattle.rtl_ir.specs.Flat.Place.{Path, Place}
 use Rattle.rtl_ir.specs.Flat.Point.{Point, Constant, At, bit_place, points, pin_points}
 use Rattle.rtl_ir.specs.Flat.Tree.{places}
-use Rattle.rtl_ir.specs.Follow.{Join, joins as bit_joins, all_joins}
+use Rattle.rtl_ir.specs.Follow.{joins as bit_joins, all_joins}
+use Rattle.rtl_ir.specs.declared.follow.Join.{Join}
 use Rattle.rtl_ir.specs.Outputs.{drives_pin}
 use Rattle.rtl_ir.specs.Parameters.{signal_at}
 use Rattle.rtl_ir.specs.Signals.{wire_bits}

@@ -9,7 +9,7 @@ use Rattle.std.proofs.lemmas.List.{length-map}
 use Rattle.std.proofs.lemmas.Nat.{pow_pos}
 use Rattle.std.proofs.Math.Nat.{mod-eq_of_lt, pow-le-pow_right, pow-succ'}
 use Rattle.rtl_bits.proofs.Lists.{all_known_true}
-use Rattle.rtl_bits.proofs.Numbers.{integer_of_greatest, integer_of_least, number_of_bits_of, number_of_small}
+use Rattle.rtl_bits.proofs.NumberLemmas.{integer_of_greatest, integer_of_least, number_of_bits_of, number_of_small}
 use Rattle.rtl_bits.proofs.Orders.{Below_from_equal}
 use Rattle.rtl_bits.proofs.Tables.{and_of_mono, not_of_mono}
 use Rattle.rtl_bits.specs.Knowledge.{AreKnown, Below, all_known}

@@ -13,7 +13,7 @@ use Rattle.rtl_bits.specs.Numbers.{bits_of, is_one, low_bit_of, number_of, top_o
 use Rattle.rtl_bits.specs.Tables.{not_of}
 use Rattle.rtl_bits.specs.declared.bit.Bit.{Bit}
 use Rattle.rtl_bits.specs.declared.bit.Bit.TheVariants.{S0, S1, X}
-use Rattle.rtl_bits.proofs.Numbers.{bits_of_number_of, number_of_small}
+use Rattle.rtl_bits.proofs.NumberLemmas.{bits_of_number_of, number_of_small}
 use Rattle.cell_word.specs.Integers.{integer_bits, integer_in}
 use Rattle.cell_word.specs.Words.{extended_at, word_of}
 use Rattle.cell_word.proofs.Monotone.{integer_bits_length}

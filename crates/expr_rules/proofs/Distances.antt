@@ -11,7 +11,7 @@ use Rattle.rtl_bits.specs.declared.bit.Bit.{Bit}
 use Rattle.rtl_bits.specs.declared.bit.Bit.TheVariants.{S0, S1, X}
 use Rattle.rtl_bits.specs.Knowledge.{all_known}
 use Rattle.rtl_bits.specs.Numbers.{digit_of, number_of, top_of}
-use Rattle.rtl_bits.proofs.Numbers as Numbers
+use Rattle.rtl_bits.proofs.NumberLemmas as Numbers
 use Rattle.rtl_sig.specs.Signal.{fill_of}
 use Rattle.rtl_sig.specs.declared.sig.SigBit.{SigBit}
 use Rattle.rtl_sig.specs.declared.sig.SigBit.TheVariants.{Fixed, Wire as OnWire}

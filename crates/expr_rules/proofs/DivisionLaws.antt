@@ -10,7 +10,7 @@ use Rattle.std.proofs.Math.ListN.{get_or-eq_default}
 use Rattle.std.proofs.Math.Nat.{mod-eq_of_lt, pow-le-pow_right}
 use Rattle.std.proofs.Math.Pow.{pow-lt, shr-shr}
 use Rattle.rtl_bits.proofs.Lists.{all_known_true}
-use Rattle.rtl_bits.proofs.Numbers.{number_of_bits_of, number_of_small}
+use Rattle.rtl_bits.proofs.NumberLemmas.{number_of_bits_of, number_of_small}
 use Rattle.rtl_bits.proofs.Orders.{Below_from_equal}
 use Rattle.rtl_bits.specs.Knowledge.{AreKnown, Below, all_known}
 use Rattle.rtl_bits.specs.Numbers.{bits_of, low_bit_of, number_of}

@@ -7,7 +7,7 @@ use Rattle.std.proofs.Math.Nat.{mod-eq_of_lt}
 use Rattle.std.proofs.Math.Pow.{split}
 use Rattle.rtl_bits.specs.Numbers.{bits_of, number_of}
 use Rattle.rtl_bits.specs.Tables.{not_of}
-use Rattle.rtl_bits.proofs.Numbers.{number_of_bits_of}
+use Rattle.rtl_bits.proofs.NumberLemmas.{number_of_bits_of}
 use Rattle.cell_word.specs.Integers.{integer_bits}
 use Rattle.cell_word.proofs.Residues.{bits_of_rest, bits_of_wrapped}
 

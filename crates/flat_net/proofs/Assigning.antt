@@ -14,7 +14,8 @@ use Rattle.rtl_ir.specs.Faults.TwoEdges.{SwitchTest}
 use Rattle.rtl_ir.specs.Flat.Pick.{Pick, pick_of}
 use Rattle.rtl_ir.specs.Flat.Place.{Path, Place}
 use Rattle.rtl_ir.specs.Flat.Point.{points}
-use Rattle.rtl_ir.specs.Follow.{Join, all_joins, joins}
+use Rattle.rtl_ir.specs.Follow.{all_joins, joins}
+use Rattle.rtl_ir.specs.declared.follow.Join.{Join}
 use Rattle.rtl_ir.specs.Signals.{same_bit}
 use Rattle.flat_net.specs.declared.choices.Assign.{Assign}
 use Rattle.flat_net.specs.declared.leaves.Source.{Source}

@@ -20,11 +20,10 @@ use Rattle.rtl_ir.specs.Follow.{all_joins}
 use Rattle.rtl_ir.specs.Rules.{init_lines}
 use Rattle.rtl_ir.specs.SwitchRules.{root_by_rules}
 use Rattle.rtl_ir.specs.Tree.{CaseView}
-use Rattle.rtl_ir.specs.WritePorts.{same_place}
-use Rattle.tree_leaves.specs.Leaves.{one_leaf}
+use Rattle.process_trees.specs.Leaves.{one_leaf}
 use Rattle.flat_net.specs.declared.lines.Line.{Line}
 use Rattle.flat_net.specs.Lines.{join_of}
-use Rattle.rtl_ir.specs.Signals.{same_bit}
+use Rattle.rtl_ir.specs.Signals.{same_bit, same_place}
 use Rattle.net_index.specs.IndexTable.{at_bit}
 use Rattle.flat_net.specs.declared.starts.Starts.{Starts}
 use Rattle.flat_net.specs.Starts.{AreStarts, Gains, IsStart, starts_by, starts_of}

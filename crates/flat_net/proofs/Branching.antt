@@ -11,7 +11,8 @@ use Rattle.rtl_ir.specs.Flat.Pick.{Pick, pick_of, picks_of, where_of}
 use Rattle.rtl_ir.specs.Flat.Place.{Path, Place}
 use Rattle.rtl_ir.specs.Flat.Point as flat
 use Rattle.rtl_ir.specs.Flat.Point.{bit_place, point, points}
-use Rattle.rtl_ir.specs.Follow.{Join, all_joins}
+use Rattle.rtl_ir.specs.Follow.{all_joins}
+use Rattle.rtl_ir.specs.declared.follow.Join.{Join}
 use Rattle.rtl_ir.specs.Tree.{Cases, NoCase, OneCase, CaseView, SwitchView, cases_of, switches_of}
 use Rattle.flat_net.specs.declared.choices.Assign.{Assign}
 use Rattle.flat_net.specs.declared.leaves.Source.{Source}

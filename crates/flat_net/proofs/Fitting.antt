@@ -15,7 +15,7 @@ use Rattle.rtl_ir.specs.Faults.Cells.{misfit}
 use Rattle.rtl_ir.specs.Flat.Cell.{cell_shape}
 use Rattle.rtl_ir.specs.Flat.Process.{no_modules}
 use Rattle.rtl_ir.specs.Types.{cell_type, type_by}
-use Rattle.event_tests.specs.Fitting.{DoesFit}
+use Rattle.process_trees.specs.Fitting.{DoesFit}
 use Rattle.flat_net.proofs.Reading.{all_end}
 
 -- a cell of a kind

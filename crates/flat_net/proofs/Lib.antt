@@ -13,7 +13,6 @@ pub mod Chars
 pub mod Celling
 pub mod Fitting
 pub mod Pairing
-pub mod Actors
 pub mod Registering
 pub mod Triggering
 pub mod Beginning

@@ -11,7 +11,8 @@ use Rattle.rtl_ir.specs.Faults.TwoEdges.{EdgeBit, edge_bit, is_tested}
 use Rattle.rtl_ir.specs.Flat.Driver.{Driven}
 use Rattle.rtl_ir.specs.Flat.Place.{Path}
 use Rattle.rtl_ir.specs.Flat.Process.{edge_trigger, level_trigger, loaded_rows, no_modules, raced_row, raced_rows, two_rules_rows}
-use Rattle.rtl_ir.specs.Follow.{Join, all_joins}
+use Rattle.rtl_ir.specs.Follow.{all_joins}
+use Rattle.rtl_ir.specs.declared.follow.Join.{Join}
 use Rattle.rtl_ir.specs.Tree.{CaseView}
 use Rattle.flat_net.specs.declared.registers.Trigger.{Trigger}
 use Rattle.flat_net.specs.declared.rules.Paired.{Paired}

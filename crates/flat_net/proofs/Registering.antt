@@ -12,7 +12,7 @@ use Rattle.rtl_ir.specs.Flat.Driver.{StorePoints, Stored}
 use Rattle.rtl_ir.specs.Flat.Place.{Path, Place}
 use Rattle.rtl_ir.specs.Flat.Point.{bit_place, point}
 use Rattle.rtl_ir.specs.Flat.Process.{rule_shape}
-use Rattle.rtl_ir.specs.Follow.{Join}
+use Rattle.rtl_ir.specs.declared.follow.Join.{Join}
 use Rattle.flat_net.specs.declared.lines.Line.{Line}
 use Rattle.flat_net.specs.declared.net.Part.TheVariants as part
 use Rattle.flat_net.specs.declared.net.Point.{Point}

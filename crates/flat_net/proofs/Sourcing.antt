@@ -1,5 +1,5 @@
 -- The bits that rules update, with their sources, and the parts that they are.
-use Rattle.std.proofs.Common.{◌≡◌, ℕ, zero, suc, ◌+◌, ◌<◌, true, false, if◌then◌else◌, List, [], ◌∷◌, ◌++◌, length, get_or, take, map, refl, sym, ◌∙◌, ap, subst}
+use Rattle.std.proofs.Common.{◌≡◌, ℕ, zero, suc, ◌+◌, ◌<◌, Bool, true, false, if◌then◌else◌, List, [], ◌∷◌, ◌++◌, length, get_or, take, map, refl, sym, ◌∙◌, ap, subst}
 use Rattle.std.specs.Prelude.{reverse}
 use Rattle.std.specs.List.{AllByRecursion}
 use Rattle.std.specs.Global.{Box}
@@ -21,7 +21,7 @@ use Rattle.rtl_ir.specs.Flat.Point as rtl
 use Rattle.rtl_ir.specs.Flat.Point.{bit_place, point}
 use Rattle.rtl_ir.specs.Flat.Process as flat
 use Rattle.rtl_ir.specs.Flat.Process.{always_row, level_after, may_hold, no_modules}
-use Rattle.rtl_ir.specs.Follow.{Join}
+use Rattle.rtl_ir.specs.declared.follow.Join.{Join}
 use Rattle.rtl_ir.specs.Signals.{same_bit}
 use Rattle.rtl_ir.specs.Tree.{CaseView}
 use Rattle.flat_net.specs.declared.choices.Tree.{Tree}
@@ -166,3 +166,7 @@ never_holds start p wires c bits j h = λ i. record {
       then HeldBy (start (OnWire j.bit)) (point p wires j.source) (pick_of no_test p wires (expanded c bits j.source)) (bit_place p wires j.bit)
       else Joined (point p wires j.source);
 }
+
+-- whether a bit may hold goes by the bits that stand in a list
+pub same_hold : (holds : Bool) (root : CaseView) (bits others : List WireBit) (j : Join) → bits ≡ others → holds ≡ may_hold root bits j → holds ≡ may_hold root others j
+same_hold holds root bits others j same is = is ∙ ap (λ bs. may_hold root bs j) same

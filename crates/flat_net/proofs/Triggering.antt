@@ -10,7 +10,7 @@ use Rattle.rtl_ir.specs.Flat.Place.{Path, Place}
 use Rattle.rtl_ir.specs.Flat.Point as rtl
 use Rattle.rtl_ir.specs.Flat.Point.{point, point_at, points}
 use Rattle.rtl_ir.specs.Flat.Process.{Trigger, edge_row, level_row, loaded_row, no_pins, rule_row}
-use Rattle.rtl_ir.specs.Follow.{Join}
+use Rattle.rtl_ir.specs.declared.follow.Join.{Join}
 use Rattle.flat_net.specs.declared.net.Point.{Point}
 use Rattle.flat_net.specs.declared.registers.Control.{Control}
 use Rattle.flat_net.specs.declared.registers.Register.{Register}

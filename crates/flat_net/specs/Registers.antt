@@ -13,7 +13,7 @@ use Rattle.rtl_ir.specs.Flat.Place.{Path, Place}
 use Rattle.rtl_ir.specs.Flat.Point.{point, point_at, points}
 use Rattle.rtl_ir.specs.Flat.Process as rtl
 use Rattle.rtl_ir.specs.Flat.Process.{rule_row, rule_shape}
-use Rattle.rtl_ir.specs.Follow.{Join}
+use Rattle.rtl_ir.specs.declared.follow.Join.{Join}
 use Rattle.flat_net.specs.declared.net.Point.{Point}
 use Rattle.flat_net.specs.declared.net.Point.TheVariants.{Constant}
 use Rattle.flat_net.specs.declared.net.StoreBit.{StoreBit}

@@ -1,8 +1,8 @@
 -- Which choices of a tree test the reset of its process.
 use Rattle.std.specs.Prelude.{◌≡◌, Option, Some, None}
-use Rattle.event_tests.specs.declared.tables.EventTests.{EventTests}
-use Rattle.event_tests.specs.Fitting.{DoCellsFit}
-use Rattle.event_tests.specs.Tables.{AreTests}
+use Rattle.process_trees.specs.declared.tables.EventTests.{EventTests}
+use Rattle.process_trees.specs.Fitting.{DoCellsFit}
+use Rattle.process_trees.specs.Tables.{AreTests}
 use Rattle.rtl_ir.specs.declared.module.Module.{Module}
 use Rattle.rtl_ir.specs.EventTests.{switch_test}
 use Rattle.rtl_ir.specs.Faults.TwoEdges.{SwitchTest}

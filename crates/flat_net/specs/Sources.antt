@@ -8,7 +8,7 @@ use Rattle.rtl_ir.specs.declared.wire.Wire.{Wire}
 use Rattle.rtl_ir.specs.Faults.TwoEdges.{SwitchTest}
 use Rattle.rtl_ir.specs.Flat.Place.{Path, Place}
 use Rattle.rtl_ir.specs.Flat.Point.{bit_place}
-use Rattle.rtl_ir.specs.Follow.{Join}
+use Rattle.rtl_ir.specs.declared.follow.Join.{Join}
 use Rattle.rtl_ir.specs.Tree.{CaseView}
 use Rattle.flat_net.specs.declared.choices.Tree.{Tree}
 use Rattle.flat_net.specs.declared.leaves.HeldBit.{HeldBit}

@@ -9,7 +9,7 @@ use Rattle.rtl_sig.specs.declared.sig.WireBit.{WireBit}
 use Rattle.rtl_ir.specs.declared.wire.Wire.{Wire}
 use Rattle.rtl_ir.specs.Decisions.{expanded, leaves_of}
 use Rattle.rtl_ir.specs.Flat.Start.{Begun, first_constant, init_bits, last_start}
-use Rattle.rtl_ir.specs.Follow.{Join}
+use Rattle.rtl_ir.specs.declared.follow.Join.{Join}
 use Rattle.rtl_ir.specs.Tree.{CaseView}
 use Rattle.net_index.specs.IndexTable.{at_bit}
 use Rattle.flat_net.specs.declared.starts.Starts.{Starts}

@@ -19,11 +19,10 @@ use crate::net;
 use crate::net::Part;
 use crate::rooted::Rooted;
 use crate::starts::Starts;
+use process_trees::Reaching;
 use rtl_bits::Memory;
 use rtl_ir::Wire;
-use rtl_sig::WireBit;
 use std::alloc::Global;
-use tree_leaves::may_hold;
 
 impl Builder {
     /// A rule that always acts.
@@ -42,9 +41,10 @@ impl Builder {
             OnOk result (Adds self.old self.new (map (always_row start p wires.now rooted.now.root (reverse rooted.now.bits)) (map join_of lines.now))) }
     {
         let bits = rooted.bits.list(alloc)?;
-        let bits = bits.as_slice();
+        let reaching = Reaching::of(alloc, &rooted.root, bits.as_slice())?;
         for line in lines {
-            self.add_always_bit(alloc, path, wires, starts, rooted, bits, *line)?;
+            let holds = reaching.may_hold(alloc, bits.as_slice(), line.bit, line.source)?;
+            self.add_always_bit(alloc, path, wires, starts, rooted, holds, *line)?;
         }
         Ok(())
     }
@@ -57,16 +57,16 @@ impl Builder {
         wires: &[Wire],
         starts: &Starts,
         rooted: &Rooted,
-        bits: &[WireBit],
+        holds: bool,
         line: Line,
     ) -> Result<(), Memory>
         requires in_range { path < length self.old.places.paths }
         ensures grows { OnOk result (Extends self.old.places self.new.places) }
         ensures rows { (p : Path) → slice_get self.old.places.paths path ≡ Some p → (start : SigBit → Bit) → IsStart starts.now start →
-            bits.now ≡ reverse rooted.now.bits →
+            holds ≡ may_hold rooted.now.root (reverse rooted.now.bits) (join_of line) →
             OnOk result (Adds self.old self.new (always_row start p wires.now rooted.now.root (reverse rooted.now.bits) (join_of line) ∷ [])) }
     {
-        if may_hold(alloc, &rooted.root, bits, line.bit, line.source)? {
+        if holds {
             self.add_held(alloc, path, wires, starts, rooted, line)
         } else {
             self.add_value(path, wires, line)

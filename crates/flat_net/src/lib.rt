@@ -1,7 +1,6 @@
 //! The flat netlist of a module with all its instances, in which each bit is a number.
 #![tactic(auto)]
 
-mod acting;
 mod always;
 mod builder;
 mod cells;

@@ -12,7 +12,6 @@ ghost use Rattle.flat_net.specs.Lines.{join_of};
 ghost use Rattle.flat_net.specs.Resets.{KnowsTests};
 ghost use Rattle.flat_net.specs.Starts.{IsStart};
 
-use crate::acting::{Acting, acting_rules};
 use crate::builder::Builder;
 use crate::lines::{Line, places_of};
 use crate::net::Part;
@@ -22,6 +21,7 @@ use crate::rooted::Rooted;
 use crate::rules::{Paired, edge_trigger, level_trigger, pairing};
 use crate::starts::Starts;
 use cell_types::Level;
+use process_trees::{Acting, acting_rules};
 use rtl_bits::Memory;
 use rtl_ir::{Event, Module, Process, SyncRule, Wire};
 use std::alloc::Global;

@@ -6,13 +6,13 @@ ghost use Rattle.rtl_ir.specs.declared.cell.Cell.{Cell};
 ghost use Rattle.rtl_ir.specs.Faults.TwoEdges.{SwitchTest, cases_patterns};
 ghost use Rattle.rtl_ir.specs.Flat.Process.{no_modules};
 ghost use Rattle.rtl_ir.specs.Types.{cell_type};
-ghost use Rattle.event_tests.specs.Fitting.{DoesFit};
+ghost use Rattle.process_trees.specs.Fitting.{DoesFit};
 ghost use Rattle.flat_net.specs.Resets.{IsTest, KnowsTests};
 
 use crate::shapes::shape;
 use cell_types::kind_of;
-use event_tests::EventTests;
 use net_index::Types;
+use process_trees::EventTests;
 use rtl_bits::{Memory, Seq};
 use rtl_ir::{Cell, Module, PortTable, Switch};
 use rtl_sig::WireBit;

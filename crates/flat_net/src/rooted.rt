@@ -5,10 +5,10 @@ ghost use Rattle.rtl_ir.specs.Assigns.{tree_bits};
 ghost use Rattle.rtl_ir.specs.SwitchRules.{root_by_rules};
 
 use crate::tree_bits::TreeBits;
+use process_trees::ruled;
 use rtl_bits::Memory;
 use rtl_ir::Case;
 use std::alloc::Global;
-use tree_rules::ruled;
 
 /// The tree of a process: its root with the switches read by the rules, and its tree bits.
 #[derive(Drop)]

@@ -5,9 +5,8 @@ ghost use Rattle.rtl_ir.specs.Faults.Cells.{misfit};
 ghost use Rattle.rtl_ir.specs.Flat.Cell.{cell_shape};
 
 use cell_types::{CellKind, Shape};
-use net_index::cell_shape;
 use rtl_bits::Memory;
-use rtl_ir::Cell;
+use rtl_ir::{Cell, cell_shape};
 use std::alloc::Global;
 
 /// The shape of a cell of this kind. A cell with a fault has none, and is taken for want of memory.

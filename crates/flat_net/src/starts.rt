@@ -6,9 +6,10 @@ ghost use Rattle.rtl_bits.specs.declared.bit.Bit.TheVariants.{X};
 ghost use Rattle.rtl_sig.specs.declared.sig.SigBit.{SigBit};
 ghost use Rattle.rtl_sig.specs.declared.sig.WireBit as rtl;
 ghost use Rattle.rtl_ir.specs.Decisions.{expanded, leaves_of};
-ghost use Rattle.rtl_ir.specs.Flat.Start.{attribute_bits, first_constant, process_starts, start_of};
+ghost use Rattle.rtl_ir.specs.Flat.Start.{first_constant, process_starts, start_of};
+ghost use Rattle.rtl_ir.specs.Attributes.{attribute_bits};
 ghost use Rattle.rtl_ir.specs.Tree.{CaseView};
-ghost use Rattle.tree_leaves.specs.Rounds.{AreLeaves};
+ghost use Rattle.process_trees.specs.Rounds.{AreLeaves};
 ghost use Rattle.flat_net.specs.Lines.{join_of};
 ghost use Rattle.flat_net.specs.Starts.{AreStarts, Gains, IsStart, starts_by, starts_of};
 
@@ -16,11 +17,11 @@ use crate::lines::{Line, start_places};
 use crate::rooted::Rooted;
 use crate::values::value_bits;
 use net_index::BitTable;
+use process_trees::Leaves;
 use rtl_bits::{Bit, Bits, Memory};
 use rtl_ir::{Attribute, Process, Wire};
 use rtl_sig::{SigBit, WireBit};
 use std::alloc::Global;
-use tree_leaves::Leaves;
 
 /// The start values of the bits of a module: what the attributes `\init` of its wires say, and, before that, what its
 /// processes give, of each bit the last one. In the Yosys manual, "The RTL Intermediate Language (RTLIL)", the section

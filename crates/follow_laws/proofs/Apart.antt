@@ -13,7 +13,8 @@ use Rattle.rtl_ir.specs.Flat.Driver.{Driven, Joined}
 use Rattle.rtl_ir.specs.Flat.Link.{joins, link_rows}
 use Rattle.rtl_ir.specs.Flat.Place.{Frame, Path}
 use Rattle.rtl_ir.specs.Flat.Point.{Point, bit_place, point, points, wire_points}
-use Rattle.rtl_ir.specs.Follow.{Join, all_joins, follow, source_at}
+use Rattle.rtl_ir.specs.Follow.{all_joins, follow, source_at}
+use Rattle.rtl_ir.specs.declared.follow.Join.{Join}
 use Rattle.rtl_ir.specs.Outputs.{drives_pin}
 use Rattle.rtl_ir.specs.Parameters.{signal_at}
 use Rattle.rtl_ir.specs.Types.{CellType}

@@ -17,7 +17,8 @@ use Rattle.rtl_ir.specs.Flat.Link as flat
 use Rattle.rtl_ir.specs.Flat.Link.{link_rows}
 use Rattle.rtl_ir.specs.Flat.Place.{Path, Place}
 use Rattle.rtl_ir.specs.Flat.Point.{Point, bit_place, point, points}
-use Rattle.rtl_ir.specs.Follow.{Join, all_joins, back, end_within, follow, follow_joins, joins, source_at}
+use Rattle.rtl_ir.specs.Follow.{all_joins, back, end_within, follow, follow_joins, joins, source_at}
+use Rattle.rtl_ir.specs.declared.follow.Join.{Join}
 use Rattle.rtl_ir.specs.Signals.{same_bit}
 use Rattle.net_model.specs.Lists.{In}
 use Rattle.net_model.specs.Refine.{Solved, SolvedBefore}

@@ -12,7 +12,8 @@ use Rattle.rtl_sig.specs.declared.sig.SigBit.TheVariants as sig
 use Rattle.rtl_ir.specs.declared.cell.Cell.{Cell}
 use Rattle.rtl_ir.specs.declared.cell.Pin.{Pin}
 use Rattle.rtl_ir.specs.declared.module.Link.{Link}
-use Rattle.rtl_ir.specs.Follow.{Join, all_joins, back, end_within, follow, follow_joins, joins}
+use Rattle.rtl_ir.specs.Follow.{all_joins, back, end_within, follow, follow_joins, joins}
+use Rattle.rtl_ir.specs.declared.follow.Join.{Join}
 use Rattle.rtl_ir.specs.Flat.Cell.{cell_kind}
 use Rattle.rtl_ir.specs.Outputs.{drives_pin, output_pin}
 use Rattle.rtl_ir.specs.Parameters.{signal_at}

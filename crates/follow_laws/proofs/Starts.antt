@@ -19,13 +19,13 @@ use Rattle.rtl_bits.specs.declared.bit.Bit.{Bit}
 use Rattle.rtl_bits.specs.declared.bit.Bit.TheVariants.{X}
 use Rattle.rtl_sig.specs.declared.sig.SigBit.{SigBit}
 use Rattle.rtl_sig.specs.declared.sig.SigBit.TheVariants as sig
-use Rattle.rtl_ir.specs.Faults.MemoryCells.{are_enables, are_words, constant_of, first_address, is_address, is_bad_access, is_bad_in, is_bad_memory_cell, is_inside, is_unlike, number_at, store_named}
+use Rattle.rtl_ir.specs.Faults.MemoryCells.{are_enables, are_words, first_address, is_address, is_bad_access, is_bad_in, is_bad_memory_cell, is_inside, is_unlike, number_at, store_named}
 use Rattle.rtl_ir.specs.Flat.Cell.{cell_kind}
 use Rattle.rtl_ir.specs.Flat.Memory.{init_bit_of, init_enable, is_init_kind}
 use Rattle.rtl_ir.specs.Follow.{follow}
 use Rattle.rtl_ir.specs.Outputs.{drives_pin}
 use Rattle.rtl_ir.specs.Parameters.{memory_name, signal_at}
-use Rattle.rtl_ir.specs.Signals.{is_all_constant}
+use Rattle.rtl_ir.specs.Signals.{is_all_constant, constant_of}
 use Rattle.rtl_ir.specs.Types.{CellType}
 use Rattle.rtl_ir.specs.WritePorts.{WritePort, cell_ports}
 use Rattle.rtl_ir.specs.declared.cell.Cell.{Cell}

@@ -1,5 +1,5 @@
 -- Numbers by their digits.
-use Rattle.std.proofs.Common.{◌≡◌, ◌<◌, ◌≤◌, ℕ, zero, suc, ◌+◌, true, false, List, [], ◌∷◌, length, drop, get_or, Some, None, cond, ◌⊎◌, inl, inr, ⊎_elim, refl, sym, ◌∙◌, ap, arith, ne_eqb, eq-eqb}
+use Rattle.std.proofs.Common.{◌≡◌, ◌<◌, ◌≤◌, ℕ, zero, suc, ◌+◌, true, false, List, [], ◌∷◌, length, drop, get_or, Some, None, cond, ◌⊎◌, ⊎_elim, refl, sym, ◌∙◌, ap, arith, ne_eqb, eq-eqb}
 use Rattle.std.specs.Prelude.{◌==◌, min}
 use Rattle.std.proofs.Math.Seq.{drop-cons}
 use Rattle.rtl_bits.specs.Numbers.{digit_of, number_of}
@@ -9,51 +9,16 @@ use Rattle.rtl_sig.specs.declared.sig.SigBit.{SigBit}
 use Rattle.rtl_sig.specs.declared.sig.SigBit.TheVariants.{Fixed}
 use Rattle.net_model.specs.Fsm.Code.{state_bit}
 use Rattle.fsm_code.specs.Digits.{digit_at}
+use Rattle.fsm_laws.proofs.Numbers.{lt_or_ge, same_digits, same_number}
 
 digit_small : (b : Bit) → digit_of b ≤ 1
 digit_small S1 = omega arith
 digit_small b = omega arith
 
-same_all : (as' bs : List Bit) → ((k : ℕ) → digit_at as' k ≡ digit_at bs k) → number_of as' ≡ number_of bs
-same_all [] [] h = refl
-same_all [] (b ∷ bs) h =
-    let here : 0 ≡ digit_of b = h 0 in
-    let later : 0 ≡ number_of bs = same_all [] bs (λ k. h (suc k)) in
-    omega (arith, here, later)
-same_all (a ∷ as') [] h =
-    let here : digit_of a ≡ 0 = h 0 in
-    let later : number_of as' ≡ 0 = same_all as' [] (λ k. h (suc k)) in
-    omega (arith, here, later)
-same_all (a ∷ as') (b ∷ bs) h =
-    let here : digit_of a ≡ digit_of b = h 0 in
-    let later : number_of as' ≡ number_of bs = same_all as' bs (λ k. h (suc k)) in
-    omega (arith, here, later)
-
-same_digits : (as' bs : List Bit) → number_of as' ≡ number_of bs → (k : ℕ) → digit_at as' k ≡ digit_at bs k
-same_digits [] [] e k = refl
-same_digits [] (b ∷ bs) e zero = omega (arith, e, digit_small b)
-same_digits [] (b ∷ bs) e (suc k) = let later : 0 ≡ number_of bs = omega (arith, e, digit_small b) in same_digits [] bs later k
-same_digits (a ∷ as') [] e zero = omega (arith, e, digit_small a)
-same_digits (a ∷ as') [] e (suc k) = let later : number_of as' ≡ 0 = omega (arith, e, digit_small a) in same_digits as' [] later k
-same_digits (a ∷ as') (b ∷ bs) e zero = omega (arith, e, digit_small a, digit_small b)
-same_digits (a ∷ as') (b ∷ bs) e (suc k) =
-    let later : number_of as' ≡ number_of bs = omega (arith, e, digit_small a, digit_small b) in
-    same_digits as' bs later k
-
 past_end : (bits : List Bit) (k : ℕ) → length bits ≤ k → digit_at bits k ≡ 0
 past_end [] k le = refl
 past_end (b ∷ bits) zero le = absurd (omega (arith, le))
 past_end (b ∷ bits) (suc k) le = past_end bits k (omega (arith, le))
-
-lt_or_ge : (a b : ℕ) → (a < b) ⊎ (b ≤ a)
-lt_or_ge zero zero = inr (omega arith)
-lt_or_ge zero (suc b) = inl (omega arith)
-lt_or_ge (suc a) zero = inr (omega arith)
-lt_or_ge (suc a) (suc b) = by (lt_or_ge a b)
-  where
-    by : (a < b) ⊎ (b ≤ a) → (suc a < suc b) ⊎ (suc b ≤ suc a)
-    by (inl h) = inl (omega (arith, h))
-    by (inr h) = inr (omega (arith, h))
 
 -- bits of other digits at a place stand for other numbers
 pub numbers_differ : (as' bs : List Bit) (k : ℕ) → (digit_at as' k ≡ digit_at bs k → ⊥) → false ≡ (number_of as' == number_of bs)
@@ -61,7 +26,7 @@ numbers_differ as' bs k h = sym (ne_eqb (number_of as') (number_of bs) (λ e. h 
 
 -- bits of the same digits stand for one number
 pub numbers_same : (as' bs : List Bit) (n : ℕ) → length as' ≤ n → length bs ≤ n → ((k : ℕ) → k < n → digit_at as' k ≡ digit_at bs k) → true ≡ (number_of as' == number_of bs)
-numbers_same as' bs n la lb h = sym (eq-eqb (number_of as') (number_of bs) (same_all as' bs all))
+numbers_same as' bs n la lb h = sym (eq-eqb (number_of as') (number_of bs) (same_number as' bs all))
   where
     all : (k : ℕ) → digit_at as' k ≡ digit_at bs k
     all k = ⊎_elim (λ lt. h k lt) (λ ge. past_end as' k (omega (arith, la, ge)) ∙ sym (past_end bs k (omega (arith, lb, ge)))) (lt_or_ge k n)

@@ -19,12 +19,12 @@ use Rattle.net_model.proofs.Grown.{ports_more}
 use Rattle.fsm_laws.proofs.Machines.{found_machine}
 use Rattle.fsm_laws.proofs.Recoding.{recoded_is}
 use Rattle.fsm_laws.specs.Recoded.{fresh_wires, recoded_with}
-use Rattle.fsm_forms.proofs.Formed.{inner}
-use Rattle.fsm_forms.proofs.InTurn.{IsFormed, one_formed}
-use Rattle.fsm_forms.proofs.Numbers.{taken}
-use Rattle.fsm_forms.specs.Short.{IsShort}
-use Rattle.fsm_found.proofs.Refined.{one_inside, recoded_refines}
-use Rattle.fsm_found.specs.Inside.{DrivesInside}
+use Rattle.fsm_laws.proofs.Formed.{inner}
+use Rattle.fsm_laws.proofs.InTurn.{IsFormed, one_formed}
+use Rattle.fsm_laws.proofs.NumbersTaken.{taken}
+use Rattle.fsm_laws.specs.Short.{IsShort}
+use Rattle.fsm_laws.proofs.MachinesRefined.{one_inside, recoded_refines}
+use Rattle.fsm_laws.specs.Inside.{DrivesInside}
 use Rattle.fsm_code.specs.Limits.{recoding, widened}
 use Rattle.fsm_code.specs.Machines.{IsMachineOf}
 

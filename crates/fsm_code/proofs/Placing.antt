@@ -13,10 +13,9 @@ use Rattle.rtl_ir.specs.declared.cell.Pin.{Pin}
 use Rattle.rtl_ir.specs.declared.machine.Machine.{Machine}
 use Rattle.rtl_ir.specs.declared.module.Module.{Module}
 use Rattle.rtl_ir.specs.Build.{Building}
-use Rattle.rtl_ir.specs.Faults.MemoryCells.{constant_of}
+use Rattle.rtl_ir.specs.Signals.{constant_of, same_signal}
 use Rattle.rtl_ir.specs.Flat.Cell.{cell_kind}
 use Rattle.rtl_ir.specs.Follow.{follow}
-use Rattle.rtl_ir.specs.WritePorts.{same_signal}
 use Rattle.net_model.specs.Fsm.Code.{Coding, coded, coded_arms, coded_cell, coded_compare, coded_flop, coded_fork, compared, flop_params, fork_params, is_equal, link_all, or_nothing, or_zero, output_code, state_bit, with_zeros}
 use Rattle.net_model.specs.Fsm.Find.{arms_of, at_pin, has_place}
 use Rattle.fsm_code.specs.Links.{behind}

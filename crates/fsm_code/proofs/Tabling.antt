@@ -5,7 +5,7 @@ use Rattle.std.proofs.lemmas.List.{map-append, length-map}
 use Rattle.std.specs.Prelude.{option_map, slice_get}
 use Rattle.std.specs.Option.{option_or}
 use Rattle.rtl_sig.specs.declared.sig.SigBit.{SigBit}
-use Rattle.rtl_ir.specs.WritePorts.{same_signal}
+use Rattle.rtl_ir.specs.Signals.{same_signal}
 use Rattle.net_model.specs.Fsm.Code.{Output as Pair, output_code}
 use Rattle.fsm_code.specs.declared.outputs.Output.{Output}
 use Rattle.fsm_code.specs.Outputs.{first_output, pair_of}

@@ -32,8 +32,10 @@ fn push_coded(
     cells: &mut Vec<Cell>,
     links: &mut Seq<Link>,
 ) -> Result<(), Memory>
-    ensures ok { OnOk result ((ports : Ports) (m : Module) (b : Building) (count : ℕ) → IsIndex index.now ports m → IsTabled coding.now.outputs → ArePlaces count machine.now places.now → at < count →
-        (cells.new.items, linked b links.new) ≡ behind cells.old.items (coded_cell m machine.now (coding_of coding.now) at cell (linked b links.old))) }
+    ensures ok { OnOk result ((ports : Ports) (m : Module) (b : Building) (count : ℕ) → IsIndex index.now ports m →
+        IsTabled coding.now.outputs → ArePlaces count machine.now places.now → at < count →
+        (cells.new.items, linked b links.new) ≡
+        behind cells.old.items (coded_cell m machine.now (coding_of coding.now) at cell (linked b links.old))) }
 {
     if at == places.flop {
         let flop = coded_flop(alloc, index, coding, &machine.reset, cell)?;
@@ -62,8 +64,10 @@ pub(crate) fn recoded_cells(
     places: &Places,
     module: Module,
 ) -> Result<Module, Memory>
-    ensures exact { IfOk result (λ after. (ports : Ports) (m : Module) (next : ℕ) → IsIndex index.now ports m → IsTabled coding.now.outputs → ArePlaces (length m.cells) machine.now places.now → «module».cells ≡ m.cells →
-        after ≡ with_cells (coded_cells m machine.now (coding_of coding.now) 0 m.cells (record { body = «module»; next = next }))) }
+    ensures exact { IfOk result (λ after. (ports : Ports) (m : Module) (next : ℕ) → IsIndex index.now ports m →
+        IsTabled coding.now.outputs → ArePlaces (length m.cells) machine.now places.now → «module».cells ≡ m.cells →
+        after ≡ with_cells
+        (coded_cells m machine.now (coding_of coding.now) 0 m.cells (record { body = «module»; next = next }))) }
 {
     let mut links = module.links;
     let mut cells = Vec::new(alloc);

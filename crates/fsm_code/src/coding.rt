@@ -8,8 +8,9 @@ ghost use Rattle.fsm_code.specs.Outputs.{IsTabled, coding_of, outputs_of};
 
 use crate::numbers::fixed_code;
 use crate::outputs::Outputs;
-use fsm_parts::{constants, is_state_constant, same_signal};
+use fsm_parts::is_state_constant;
 use rtl_bits::{Bit, Bits, Copied, Memory};
+use rtl_ir::{constants_of, same_signal};
 use rtl_sig::{SigBit, SigSpec};
 use std::alloc::Global;
 
@@ -33,13 +34,14 @@ fn unknowns(alloc: Global, count: usize) -> Result<SigSpec, Memory>
 impl Coding<'_> {
     /// A followed signal in the code: the state, an output of the tree, a known constant, or x.
     pub(crate) fn coded(&self, alloc: Global, signal: &[SigBit]) -> Result<SigSpec, Memory>
-        ensures value { IfOk result (λ after. IsTabled self.now.outputs → after ≡ coded (coding_of self.now) signal.now) }
+        ensures value { IfOk result (λ after. IsTabled self.now.outputs →
+            after ≡ coded (coding_of self.now) signal.now) }
     {
         if same_signal(self.state.as_slice(), signal) {
             return self.code.copy();
         }
         if is_state_constant(signal) {
-            let bits = constants(alloc, signal)?;
+            let bits = constants_of(alloc, signal)?;
             return fixed_code(alloc, self.states, bits.as_slice());
         }
         match self.outputs.find(alloc, signal)? {
@@ -50,7 +52,8 @@ impl Coding<'_> {
 
     /// The fresh output of an old one, no bits where there is none.
     pub(crate) fn output(&self, alloc: Global, signal: &[SigBit]) -> Result<SigSpec, Memory>
-        ensures value { IfOk result (λ after. IsTabled self.now.outputs → after ≡ or_nothing (output_code (outputs_of self.now.outputs) signal.now)) }
+        ensures value { IfOk result (λ after. IsTabled self.now.outputs →
+            after ≡ or_nothing (output_code (outputs_of self.now.outputs) signal.now)) }
     {
         match self.outputs.find(alloc, signal)? {
             Some(after) => after.copy(),

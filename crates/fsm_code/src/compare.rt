@@ -9,7 +9,17 @@ ghost use Rattle.rtl_ir.specs.Flat.Cell.{cell_kind};
 ghost use Rattle.rtl_ir.specs.declared.module.Module.{Module};
 ghost use Rattle.rtl_ir.specs.Types.{Ports};
 ghost use Rattle.net_index.specs.Index.{IsIndex};
-ghost use Rattle.net_model.specs.Fsm.Code.{Coding as Codes, coded_compare, compared, inverse_cell, is_equal, link_all, or_zero, state_bit, with_zeros};
+ghost use Rattle.net_model.specs.Fsm.Code.{
+  Coding as Codes,
+  coded_compare,
+  compared,
+  inverse_cell,
+  is_equal,
+  link_all,
+  or_zero,
+  state_bit,
+  with_zeros,
+};
 ghost use Rattle.fsm_code.specs.Outputs.{coding_of};
 ghost use Rattle.net_model.specs.Fsm.Find.{at_pin};
 ghost use Rattle.cell_types.specs.declared.pin_name.PinName.TheVariants.{Y};
@@ -18,26 +28,28 @@ ghost use Rattle.fsm_code.specs.Parts.{inverse_params, inverse_pins};
 
 use crate::coding::Coding;
 use crate::numbers::state_bit;
-use crate::parts::{integer_param, pin};
 use cell_types::{CellKind, EqualKind, ParamName, PinName, WordKind};
-use fsm_parts::{at_pin, cell_kind, constants, followed, same_signal};
+use fsm_parts::{at_pin, followed};
 use net_index::Index;
 use rtl_bits::{Bit, Bits, Memory, Seq, Text};
-use rtl_ir::{Cell, CellParam, Link, Pin};
+use rtl_ir::{
+    Cell, CellParam, Link, Pin, cell_kind, constants_of, integer_param, pin_of, same_signal,
+};
 use rtl_sig::{SigBit, SigSpec};
 use std::alloc::Global;
 
 /// The constant that a compare has beside the state.
 fn compared(alloc: Global, index: &Index, coding: &Coding, cell: &Cell) -> Result<Bits, Memory>
-    ensures value { IfOk result (λ bits. (ports : Ports) (m : Module) → IsIndex index.now ports m → number_of bits ≡ compared m (coding_of coding.now) cell.now) }
+    ensures value { IfOk result (λ bits. (ports : Ports) (m : Module) → IsIndex index.now ports m →
+        number_of bits ≡ compared m (coding_of coding.now) cell.now) }
 {
     let a = followed(alloc, index, at_pin(cell, PinName::A))?;
     if same_signal(a.as_slice(), coding.state.as_slice()) {
         let b = followed(alloc, index, at_pin(cell, PinName::B))?;
-        let bits = constants(alloc, b.as_slice())?;
+        let bits = constants_of(alloc, b.as_slice())?;
         return Ok(bits);
     }
-    let bits = constants(alloc, a.as_slice())?;
+    let bits = constants_of(alloc, a.as_slice())?;
     Ok(bits)
 }
 
@@ -98,7 +110,8 @@ fn give_bit(
     signal: &[SigBit],
     links: &mut Seq<Link>,
 ) -> Result<(), Memory>
-    ensures ok { OnOk result ((b : Building) → linked b links.new ≡ link_all signal.now (with_zeros bit signal.now) (linked b links.old)) }
+    ensures ok { OnOk result ((b : Building) →
+        linked b links.new ≡ link_all signal.now (with_zeros bit signal.now) (linked b links.old)) }
 {
     let right = with_zeros(alloc, bit, signal)?;
     push_link(alloc, signal, right, links)
@@ -120,8 +133,8 @@ fn inverse_pins(alloc: Global, bit: SigBit, y: SigBit) -> Result<Vec<Pin>, Memor
     ensures value { IfOk result (λ pins. pins.items ≡ inverse_pins bit y) }
 {
     let mut pins = Vec::new(alloc);
-    pins.push(pin(alloc, PinName::A, &[bit])?)?;
-    pins.push(pin(alloc, PinName::Y, &[y])?)?;
+    pins.push(pin_of(alloc, PinName::A, &[bit])?)?;
+    pins.push(pin_of(alloc, PinName::Y, &[y])?)?;
     Ok(pins)
 }
 
@@ -147,7 +160,9 @@ fn push_inverse(
     cells: &mut Vec<Cell>,
     links: &mut Seq<Link>,
 ) -> Result<(), Memory>
-    ensures ok { OnOk result ((m : Module) (c : Codes) (b : Building) → (cells.new.items, linked b links.new) ≡ behind cells.old.items (coded_compare m c cell false (Some bit) (at_pin cell Y) (linked b links.old))) }
+    ensures ok { OnOk result ((m : Module) (c : Codes) (b : Building) →
+        (cells.new.items, linked b links.new) ≡
+        behind cells.old.items (coded_compare m c cell false (Some bit) (at_pin cell Y) (linked b links.old))) }
 {
     let ys = SigSpec::from_slice(alloc, at_pin(&cell, PinName::Y))?;
     match ys.as_slice().split_first() {
@@ -179,7 +194,9 @@ fn place_compare(
     cells: &mut Vec<Cell>,
     links: &mut Seq<Link>,
 ) -> Result<(), Memory>
-    ensures ok { OnOk result ((m : Module) (c : Codes) (b : Building) → (cells.new.items, linked b links.new) ≡ behind cells.old.items (coded_compare m c cell equal bit (at_pin cell Y) (linked b links.old))) }
+    ensures ok { OnOk result ((m : Module) (c : Codes) (b : Building) →
+        (cells.new.items, linked b links.new) ≡
+        behind cells.old.items (coded_compare m c cell equal bit (at_pin cell Y) (linked b links.old))) }
 {
     if equal {
         give_bit(alloc, or_zero(bit), at_pin(&cell, PinName::Y), links)?;
@@ -212,7 +229,11 @@ pub(crate) fn push_compare(
     links: &mut Seq<Link>,
 ) -> Result<(), Memory>
     ensures ok { OnOk result ((ports : Ports) (m : Module) (b : Building) → IsIndex index.now ports m →
-        (cells.new.items, linked b links.new) ≡ behind cells.old.items (coded_compare m (coding_of coding.now) cell (is_equal (cell_kind cell)) (state_bit (coding_of coding.now).states (coding_of coding.now).code (compared m (coding_of coding.now) cell)) (at_pin cell Y) (linked b links.old))) }
+        (cells.new.items, linked b links.new) ≡
+        behind cells.old.items
+        (coded_compare m (coding_of coding.now) cell (is_equal (cell_kind cell))
+        (state_bit (coding_of coding.now).states (coding_of coding.now).code
+        (compared m (coding_of coding.now) cell)) (at_pin cell Y) (linked b links.old))) }
 {
     let bits = compared(alloc, index, coding, &cell)?;
     let bit = state_bit(coding.states, coding.code.as_slice(), bits.as_slice());

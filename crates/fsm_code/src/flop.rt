@@ -14,27 +14,17 @@ ghost use Rattle.fsm_code.specs.Parts.{clock_params, flop_pins, pins_of, reset_p
 
 use crate::coding::Coding;
 use crate::numbers::code_of;
-use crate::parts::{bits_param, integer_param, pin};
 use cell_types::{CellKind, Level, Levels, ParamName, PinName};
-use fsm_parts::{at_pin, cell_kind, followed};
-use net_index::{Index, cell_shape};
+use fsm_parts::{at_pin, followed};
+use match_cells::polarity_of;
+use net_index::Index;
 use rtl_bits::{Bits, Memory, Seq};
-use rtl_ir::{Cell, CellParam, Pin};
+use rtl_ir::{Cell, CellParam, Pin, bits_param, cell_kind, fitting_shape, integer_param, pin_of};
 use rtl_sig::SigBit;
 use std::alloc::Global;
 
-/// The number of a level: 1 where it is the high one.
-fn polarity_of(level: Level) -> usize
-    ensures value { result ≡ polarity_of level }
-{
-    match level {
-        Level::Low => 0,
-        Level::High => 1,
-    }
-}
-
-/// The levels at which the pins of a storage cell act. A cell that is none, or that has a fault, is taken for want of
-/// memory.
+/// The levels at which the pins of a storage cell act. The flip-flop of a machine is one and fits its
+/// kind, so memory alone can be missing; any other cell is answered with `Memory` too.
 #[tactic(auto, unfolding(rtl_ir::specs::Flat::Cell::cell_shape))]
 fn levels(alloc: Global, cell: &Cell) -> Result<Levels, Memory>
     ensures clock { IfOk result (λ levels. levels.clk ≡ level_in (given_params cell.now.params) ClkPolarity) }
@@ -42,9 +32,7 @@ fn levels(alloc: Global, cell: &Cell) -> Result<Levels, Memory>
 {
     match cell_kind(cell) {
         Some(CellKind::Storage(kind)) => {
-            let shape = cell_shape(alloc, CellKind::Storage(kind), cell)
-                .ok()
-                .ok_or(Memory)?;
+            let shape = fitting_shape(alloc, CellKind::Storage(kind), cell)?;
             Ok(shape.levels)
         }
         _ => Err(Memory),
@@ -52,29 +40,29 @@ fn levels(alloc: Global, cell: &Cell) -> Result<Levels, Memory>
 }
 
 /// A width, and the number of a clock's level.
-fn clock_params(alloc: Global, width: usize, clock: usize) -> Result<Vec<CellParam>, Memory>
+fn clock_params(alloc: Global, width: usize, clock: u32) -> Result<Vec<CellParam>, Memory>
     ensures value { IfOk result (λ params. params.items ≡ clock_params width clock) }
 {
     let mut params = Vec::new(alloc);
     params.push(integer_param(alloc, ParamName::Width, width)?)?;
-    params.push(integer_param(alloc, ParamName::ClkPolarity, clock)?)?;
+    params.push(integer_param(alloc, ParamName::ClkPolarity, clock as usize)?)?;
     Ok(params)
 }
 
-/// The same with a reset.
+/// A width, the numbers of the levels of a clock and a reset, and the value of the reset.
 fn reset_params(
     alloc: Global,
     width: usize,
-    clock: usize,
-    level: usize,
+    clock: u32,
+    level: u32,
     code: Bits,
 ) -> Result<Vec<CellParam>, Memory>
     ensures value { IfOk result (λ params. params.items ≡ reset_params width clock level code) }
 {
     let mut params = Vec::new(alloc);
     params.push(integer_param(alloc, ParamName::Width, width)?)?;
-    params.push(integer_param(alloc, ParamName::ClkPolarity, clock)?)?;
-    params.push(integer_param(alloc, ParamName::ArstPolarity, level)?)?;
+    params.push(integer_param(alloc, ParamName::ClkPolarity, clock as usize)?)?;
+    params.push(integer_param(alloc, ParamName::ArstPolarity, level as usize)?)?;
     params.push(bits_param(alloc, ParamName::ArstValue, code)?)?;
     Ok(params)
 }
@@ -110,13 +98,13 @@ fn flop_pins(
     ensures value { IfOk result (λ pins. pins.items ≡ flop_pins clock.now d.now q.now) }
 {
     let mut pins = Vec::new(alloc);
-    pins.push(pin(alloc, PinName::Clk, clock)?)?;
-    pins.push(pin(alloc, PinName::D, d)?)?;
-    pins.push(pin(alloc, PinName::Q, q)?)?;
+    pins.push(pin_of(alloc, PinName::Clk, clock)?)?;
+    pins.push(pin_of(alloc, PinName::D, d)?)?;
+    pins.push(pin_of(alloc, PinName::Q, q)?)?;
     Ok(pins)
 }
 
-/// The same with a reset: CLK, ARST, D and Q.
+/// The pins of a flip-flop with a reset: CLK, ARST, D and Q.
 fn reset_pins(
     alloc: Global,
     clock: &[SigBit],
@@ -127,10 +115,10 @@ fn reset_pins(
     ensures value { IfOk result (λ pins. pins.items ≡ reset_pins clock.now reset.now d.now q.now) }
 {
     let mut pins = Vec::new(alloc);
-    pins.push(pin(alloc, PinName::Clk, clock)?)?;
-    pins.push(pin(alloc, PinName::Arst, reset)?)?;
-    pins.push(pin(alloc, PinName::D, d)?)?;
-    pins.push(pin(alloc, PinName::Q, q)?)?;
+    pins.push(pin_of(alloc, PinName::Clk, clock)?)?;
+    pins.push(pin_of(alloc, PinName::Arst, reset)?)?;
+    pins.push(pin_of(alloc, PinName::D, d)?)?;
+    pins.push(pin_of(alloc, PinName::Q, q)?)?;
     Ok(pins)
 }
 
@@ -159,7 +147,8 @@ pub(crate) fn coded_flop(
     reset: &Option<Bits>,
     cell: Cell,
 ) -> Result<Cell, Memory>
-    ensures value { IfOk result (λ after. (ports : Ports) (m : Module) → IsIndex index.now ports m → IsTabled coding.now.outputs → after ≡ coded_flop m (coding_of coding.now) reset.now cell) }
+    ensures value { IfOk result (λ after. (ports : Ports) (m : Module) → IsIndex index.now ports m →
+        IsTabled coding.now.outputs → after ≡ coded_flop m (coding_of coding.now) reset.now cell) }
 {
     let next = followed(alloc, index, at_pin(&cell, PinName::D))?;
     let d = coding.coded(alloc, next.as_slice())?;

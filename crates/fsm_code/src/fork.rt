@@ -10,12 +10,11 @@ ghost use Rattle.fsm_code.specs.Outputs.{IsTabled, coding_of};
 ghost use Rattle.fsm_code.specs.Parts.{fork_pins, select_params, width_params};
 
 use crate::coding::Coding;
-use crate::parts::{integer_param, pin};
 use cell_types::{CellKind, ParamName, PinName, WordKind};
-use fsm_parts::{arms, at_pin, cell_kind};
+use fsm_parts::{arms, at_pin};
 use net_index::Index;
 use rtl_bits::{Copied, Memory, Seq};
-use rtl_ir::{Cell, CellParam, Pin};
+use rtl_ir::{Cell, CellParam, Pin, cell_kind, integer_param, pin_of};
 use rtl_sig::{SigBit, SigSpec};
 use std::alloc::Global;
 
@@ -64,16 +63,17 @@ fn fork_pins(
     ensures value { IfOk result (λ pins. pins.items ≡ fork_pins a.now b.now s.now y.now) }
 {
     let mut pins = Vec::new(alloc);
-    pins.push(pin(alloc, PinName::A, a)?)?;
-    pins.push(pin(alloc, PinName::B, b)?)?;
-    pins.push(pin(alloc, PinName::S, s)?)?;
-    pins.push(pin(alloc, PinName::Y, y)?)?;
+    pins.push(pin_of(alloc, PinName::A, a)?)?;
+    pins.push(pin_of(alloc, PinName::B, b)?)?;
+    pins.push(pin_of(alloc, PinName::S, s)?)?;
+    pins.push(pin_of(alloc, PinName::Y, y)?)?;
     Ok(pins)
 }
 
 /// These signals in the code.
 fn coded_all(alloc: Global, coding: &Coding, signals: &[SigSpec]) -> Result<Vec<SigSpec>, Memory>
-    ensures value { IfOk result (λ after. IsTabled coding.now.outputs → after.items ≡ map (coded (coding_of coding.now)) signals.now) }
+    ensures value { IfOk result (λ after. IsTabled coding.now.outputs →
+        after.items ≡ map (coded (coding_of coding.now)) signals.now) }
 {
     let mut after = Vec::new(alloc);
     for signal in signals {
@@ -110,7 +110,8 @@ fn arms_in_code(
     coding: &Coding,
     cell: &Cell,
 ) -> Result<Vec<SigSpec>, Memory>
-    ensures value { IfOk result (λ after. (ports : Ports) (m : Module) → IsIndex index.now ports m → IsTabled coding.now.outputs → after.items ≡ coded_arms m (coding_of coding.now) cell.now) }
+    ensures value { IfOk result (λ after. (ports : Ports) (m : Module) → IsIndex index.now ports m →
+        IsTabled coding.now.outputs → after.items ≡ coded_arms m (coding_of coding.now) cell.now) }
 {
     let old = arms(alloc, index, cell)?;
     let new = coded_all(alloc, coding, old.as_slice())?;
@@ -124,7 +125,8 @@ pub(crate) fn coded_fork(
     coding: &Coding,
     cell: Cell,
 ) -> Result<Cell, Memory>
-    ensures value { IfOk result (λ after. (ports : Ports) (m : Module) → IsIndex index.now ports m → IsTabled coding.now.outputs → after ≡ coded_fork m (coding_of coding.now) cell) }
+    ensures value { IfOk result (λ after. (ports : Ports) (m : Module) → IsIndex index.now ports m →
+        IsTabled coding.now.outputs → after ≡ coded_fork m (coding_of coding.now) cell) }
 {
     let arms = arms_in_code(alloc, index, coding, &cell)?;
     let a = first(alloc, arms.as_slice())?;

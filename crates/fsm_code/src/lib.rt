@@ -9,7 +9,6 @@ mod fork;
 mod marks;
 mod numbers;
 mod outputs;
-mod parts;
 mod wires;
 
 ghost use Rattle.std.specs.Prelude.{◌≡◌, Err, IfOk, OnOk, option_map, slice_get};
@@ -21,7 +20,7 @@ ghost use Rattle.net_index.specs.Builder.{IsInLimits, PassesLimit};
 ghost use Rattle.net_model.specs.Fsm.Code.{recoded, recoded_of};
 ghost use Rattle.net_model.specs.Refine.{IsWellDriven, RefinesIn};
 ghost use Rattle.pass_laws.specs.Ready.{IsReady};
-ghost use Rattle.fsm_found.specs.Inside.{DrivesInside};
+ghost use Rattle.fsm_laws.specs.Inside.{DrivesInside};
 ghost use Rattle.fsm_code.specs.Limits.{recoding, widened};
 ghost use Rattle.fsm_code.specs.Machines.{IsMachineOf};
 
@@ -30,8 +29,7 @@ use crate::coding::Coding;
 use crate::marks::{Places, marks};
 use crate::wires::{code_wire, fresh_outputs, output_signals};
 use fsm_parts::whole_wire;
-use match_cells::check_limits;
-use net_index::{Builder, Index, PassFault};
+use net_index::{Builder, Index, PassFault, check_limits};
 use rtl_ir::{Machine, Module, PortTable, Wire};
 use rtl_sig::SigSpec;
 use std::alloc::Global;
@@ -69,7 +67,7 @@ pub fn recode(
     recoded_module(alloc, module, ports, machine)
 }
 
-/// The same, from the width of the state wire.
+/// The module with the machine in the code, from the width of the state wire.
 fn recoded_module(
     alloc: Global,
     module: Module,

@@ -7,19 +7,9 @@ ghost use Rattle.rtl_sig.specs.declared.sig.SigBit.TheVariants.{Fixed};
 ghost use Rattle.net_model.specs.Fsm.Code.{code_of, state_bit};
 ghost use Rattle.fsm_code.specs.Digits.{digit_at};
 
-use rtl_bits::{Bit, Bits, Memory};
-use rtl_sig::{SigBit, SigSpec};
+use rtl_bits::{Bit, Bits, Memory, digit_of};
+use rtl_sig::{SigBit, SigSpec, fixed};
 use std::alloc::Global;
-
-/// What a bit adds at its place.
-fn digit_of(bit: Bit) -> u8
-    ensures value { result ≡ digit_of bit }
-{
-    match bit {
-        Bit::S1 => 1,
-        _ => 0,
-    }
-}
 
 /// What the bit at a place adds there; past the end nothing.
 fn digit_at(bits: &[Bit], at: usize) -> u8
@@ -66,18 +56,7 @@ pub(crate) fn code_of(alloc: Global, states: &[Bits], bits: &[Bit]) -> Result<Bi
     Ok(code)
 }
 
-/// The bits as constants of a signal.
-fn fixed(alloc: Global, bits: &[Bit]) -> Result<SigSpec, Memory>
-    ensures value { IfOk result (λ signal. signal ≡ map Fixed bits.now) }
-{
-    let mut signal = SigSpec::make(alloc);
-    for bit in bits {
-        signal.push(SigBit::Fixed(*bit))?;
-    }
-    Ok(signal)
-}
-
-/// The same code as constants of a signal.
+/// The code of the number that the bits stand for, as constants of a signal.
 pub(crate) fn fixed_code(alloc: Global, states: &[Bits], bits: &[Bit]) -> Result<SigSpec, Memory>
     ensures value { IfOk result (λ code. code ≡ map Fixed (code_of states.now (number_of bits.now))) }
 {

@@ -42,7 +42,8 @@ impl Outputs {
         before: SigSpec,
         after: SigSpec,
     ) -> Result<(), Memory>
-        ensures ok { OnOk result (outputs_of self.new ≡ outputs_of self.old ++ record { before = before; after = after } ∷ []) }
+        ensures ok { OnOk result (outputs_of self.new ≡ outputs_of self.old
+            ++ record { before = before; after = after } ∷ []) }
         ensures tabled { OnOk result (IsTabled self.old → IsTabled self.new) }
     {
         let at = self.list.len();
@@ -53,7 +54,8 @@ impl Outputs {
 
     /// The fresh output of an old one.
     pub(crate) fn find(&self, alloc: Global, signal: &[SigBit]) -> Result<Option<&SigSpec>, Memory>
-        ensures value { IfOk result (λ after. IsTabled self.now → option_map (λ s. s.now) after ≡ output_code (outputs_of self.now) signal.now) }
+        ensures value { IfOk result (λ after. IsTabled self.now →
+            option_map (λ s. s.now) after ≡ output_code (outputs_of self.now) signal.now) }
     {
         match self.table.find(alloc, signal)? {
             Some(at) => match self.list.get(at) {

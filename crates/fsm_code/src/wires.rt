@@ -21,7 +21,8 @@ use std::alloc::Global;
 
 /// The output of the cell at a place. A place past the cells is taken for want of memory.
 fn output_signal(alloc: Global, cells: &[Cell], place: u32) -> Result<SigSpec, Memory>
-    ensures value { IfOk result (λ signal. option_map (λ (c : Cell). at_pin c Y) (slice_get cells.now place) ≡ Some signal) }
+    ensures value { IfOk result (λ signal. option_map (λ (c : Cell). at_pin c Y) (slice_get cells.now place) ≡
+        Some signal) }
 {
     match cell_at(cells, place as usize) {
         Some(cell) => SigSpec::from_slice(alloc, at_pin(cell, PinName::Y)),
@@ -35,7 +36,9 @@ pub(crate) fn output_signals(
     cells: &[Cell],
     places: &[u32],
 ) -> Result<Vec<SigSpec>, Memory>
-    ensures value { IfOk result (λ signals. map (λ at. option_map (λ (c : Cell). at_pin c Y) (slice_get cells.now at)) places.now ≡ map Some signals.items) }
+    ensures value { IfOk result (λ signals.
+        map (λ at. option_map (λ (c : Cell). at_pin c Y) (slice_get cells.now at)) places.now ≡
+        map Some signals.items) }
 {
     let mut signals = Vec::new(alloc);
     for place in places {
@@ -65,8 +68,10 @@ pub(crate) fn code_wire(
     start: &Option<Bits>,
     builder: &mut Builder,
 ) -> Result<SigSpec, PassFault>
-    ensures exact { IfOk result (λ code. (code, builder.new) ≡ fresh_wire (length states.now) (code_init states.now start.now) builder.old) }
-    ensures over { result ≡ Err PassFault.Over → PassesLimit (fresh_wire (length states.now) (code_init states.now start.now) builder.old).1 }
+    ensures exact { IfOk result (λ code. (code, builder.new) ≡
+        fresh_wire (length states.now) (code_init states.now start.now) builder.old) }
+    ensures over { result ≡ Err PassFault.Over →
+        PassesLimit (fresh_wire (length states.now) (code_init states.now start.now) builder.old).1 }
     ensures within { OnOk result (IsInLimits builder.new) }
 {
     let width = u32::try_from(states.len()).map_err(|_| Memory)?;

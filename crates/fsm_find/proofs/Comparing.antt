@@ -19,7 +19,7 @@ use Rattle.rtl_ir.specs.Outputs.{is_output}
 use Rattle.rtl_ir.specs.declared.wire.Wire.{Wire}
 use Rattle.rtl_ir.specs.Parameters.{given_params}
 use Rattle.rtl_ir.specs.Types.{Ports}
-use Rattle.rtl_ir.specs.WritePorts.{same_signal}
+use Rattle.rtl_ir.specs.Signals.{same_signal}
 use Rattle.net_model.specs.Fsm.Find.{at_pin, compares, compares_with, followed_bits, is_compare, is_output_pin, is_state_constant, may_read, meets_any, ports_read_well, whole_wire}
 use Rattle.fsm_find.specs.Readers.{pin_reads_well}
 

@@ -5,7 +5,7 @@ use Rattle.rtl_ir.proofs.PortLemmas.{drop-before}
 use Rattle.rtl_sig.specs.declared.sig.SigBit.{SigBit}
 use Rattle.rtl_ir.specs.declared.cell.Cell.{Cell}
 use Rattle.rtl_ir.specs.Flat.Cell.{cell_kind}
-use Rattle.rtl_ir.specs.WritePorts.{same_signal}
+use Rattle.rtl_ir.specs.Signals.{same_signal}
 use Rattle.net_model.specs.Fsm.Find.{at_pin, place_where}
 use Rattle.fsm_parts.specs.declared.signal_table.SignalTable.{SignalTable}
 use Rattle.fsm_find.specs.declared.whole_drivers.Part.{Part}

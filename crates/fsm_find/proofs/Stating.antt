@@ -9,7 +9,7 @@ use Rattle.rtl_bits.specs.Knowledge.{all_known}
 use Rattle.rtl_bits.specs.Numbers.{bits_of, number_of}
 use Rattle.rtl_bits.specs.Tables.{seen_of}
 use Rattle.rtl_bits.proofs.Lists.{all_known_true}
-use Rattle.rtl_bits.proofs.Numbers.{bits_of_number_of}
+use Rattle.rtl_bits.proofs.NumberLemmas.{bits_of_number_of}
 use Rattle.rtl_sig.specs.declared.sig.SigBit.TheVariants.{Wire as OnWire}
 use Rattle.rtl_sig.specs.declared.sig.WireBit.{WireBit}
 use Rattle.rtl_ir.specs.declared.module.Module.{Module}

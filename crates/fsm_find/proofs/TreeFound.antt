@@ -6,7 +6,7 @@ use Rattle.std.proofs.lemmas.Option.{slice_get_within}
 use Rattle.rtl_sig.specs.declared.sig.SigBit.{SigBit}
 use Rattle.rtl_ir.specs.declared.cell.Cell.{Cell}
 use Rattle.rtl_ir.specs.declared.module.Module.{Module}
-use Rattle.rtl_ir.specs.Faults.MemoryCells.{constant_of}
+use Rattle.rtl_ir.specs.Signals.{constant_of}
 use Rattle.rtl_ir.specs.Follow.{follow}
 use Rattle.cell_types.specs.declared.pin_name.PinName.TheVariants.{D}
 use Rattle.net_model.specs.Fsm.Find.{Tree, at_pin, has_place, is_state_constant, tree_of, tree_within}

@@ -5,7 +5,7 @@ use Rattle.rtl_bits.specs.declared.bit.Bit.{Bit}
 use Rattle.rtl_sig.specs.declared.sig.SigBit.{SigBit}
 use Rattle.rtl_ir.specs.declared.cell.Cell.{Cell}
 use Rattle.rtl_ir.specs.declared.module.Module.{Module}
-use Rattle.rtl_ir.specs.Faults.MemoryCells.{constant_of}
+use Rattle.rtl_ir.specs.Signals.{constant_of}
 use Rattle.rtl_ir.specs.Follow.{follow}
 use Rattle.net_model.specs.Fsm.Find.{Tree, above_tree, all_trees, arms_of, both_trees, is_leaf, is_state_constant, tree_within}
 use Rattle.net_model.specs.Lists.{In}

@@ -4,7 +4,7 @@ use Rattle.std.specs.Prelude.{slice_get, option_and_then}
 use Rattle.rtl_sig.specs.declared.sig.SigBit.{SigBit}
 use Rattle.rtl_ir.specs.declared.cell.Cell.{Cell}
 use Rattle.rtl_ir.specs.declared.module.Module.{Module}
-use Rattle.rtl_ir.specs.Faults.MemoryCells.{constant_of}
+use Rattle.rtl_ir.specs.Signals.{constant_of}
 use Rattle.net_model.specs.Fsm.Find.{Tree, above_tree, all_trees, is_state_constant, tree_within}
 use Rattle.net_model.specs.Lists.{In}
 use Rattle.net_model.proofs.Members.{In-mapped, In-map}

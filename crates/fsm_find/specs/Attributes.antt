@@ -5,7 +5,7 @@ use Rattle.rtl_bits.specs.declared.bit.Bit.{Bit}
 use Rattle.rtl_bits.specs.declared.bit.Bit.TheVariants.{X}
 use Rattle.rtl_bits.specs.Tables.{seen_of}
 use Rattle.rtl_ir.specs.declared.wire.Wire.{Wire}
-use Rattle.rtl_ir.specs.Flat.Start.{attribute_bits}
+use Rattle.rtl_ir.specs.Attributes.{attribute_bits}
 use Rattle.std.specs.Option.{option_map_or}
 use Rattle.std.specs.Str.{bytes_eq}
 use Rattle.rtl_ir.specs.declared.value.Attribute.{Attribute}

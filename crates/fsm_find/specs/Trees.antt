@@ -4,7 +4,7 @@ use Rattle.rtl_bits.specs.declared.bit.Bit.{Bit}
 use Rattle.rtl_sig.specs.declared.sig.SigBit.{SigBit}
 use Rattle.rtl_ir.specs.declared.cell.Cell.{Cell}
 use Rattle.rtl_ir.specs.declared.module.Module.{Module}
-use Rattle.rtl_ir.specs.Faults.MemoryCells.{constant_of}
+use Rattle.rtl_ir.specs.Signals.{constant_of}
 use Rattle.net_model.specs.Fsm.Find.{Tree, above_tree, all_trees, is_state_constant, known_leaves, tree_within}
 use Rattle.net_model.specs.Lists.{In}
 use Rattle.fsm_find.specs.declared.reach.Node.{Node}

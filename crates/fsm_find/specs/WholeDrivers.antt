@@ -6,7 +6,7 @@ use Rattle.cell_types.specs.declared.pin_name.PinName.{PinName}
 use Rattle.cell_types.specs.declared.pin_name.PinName.TheVariants.{Y, Q}
 use Rattle.rtl_ir.specs.declared.cell.Cell.{Cell}
 use Rattle.rtl_ir.specs.Flat.Cell.{cell_kind}
-use Rattle.rtl_ir.specs.WritePorts.{same_signal}
+use Rattle.rtl_ir.specs.Signals.{same_signal}
 use Rattle.net_model.specs.Fsm.Find.{at_pin, is_flop, is_fork, place_where}
 use Rattle.fsm_find.specs.declared.whole_drivers.Part.{Part}
 use Rattle.fsm_find.specs.declared.whole_drivers.Part.TheVariants.{Tree, Flop}

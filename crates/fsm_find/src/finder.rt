@@ -4,7 +4,15 @@ ghost use Rattle.std.specs.Prelude.{◌≡◌, ◌≤◌, [], IfOk, Some, length
 ghost use Rattle.rtl_ir.specs.declared.cell.Cell.{Cell};
 ghost use Rattle.rtl_ir.specs.declared.machine.Machine.{Machine};
 ghost use Rattle.rtl_ir.specs.Types.{Ports, table_ports};
-ghost use Rattle.net_model.specs.Fsm.Find.{Tree, if_machine, machine_by, machine_of, made_machine, reset_value, start_bits};
+ghost use Rattle.net_model.specs.Fsm.Find.{
+  Tree,
+  if_machine,
+  machine_by,
+  machine_of,
+  made_machine,
+  reset_value,
+  start_bits,
+};
 ghost use Rattle.fsm_find.specs.Attributes.{init_bits};
 ghost use Rattle.fsm_find.specs.Finder.{IsDraft, IsFinder};
 ghost use Rattle.fsm_find.specs.Found.{IsFound};
@@ -57,7 +65,8 @@ impl<'a> Finder<'a> {
 
     /// The machine whose state the wire at this place holds, None where it is no state wire.
     pub fn find(&self, wire: u32) -> Result<Option<Machine>, Memory>
-        ensures exact { IfOk result (λ machine. (ports : Ports) → IsFinder self.now ports → machine ≡ machine_of ports self.now.body.now wire) }
+        ensures exact { IfOk result (λ machine. (ports : Ports) → IsFinder self.now ports →
+            machine ≡ machine_of ports self.now.body.now wire) }
     {
         match wire_at(self.body.wires.as_slice(), wire as usize) {
             Some(record) => {
@@ -68,9 +77,11 @@ impl<'a> Finder<'a> {
         }
     }
 
-    /// The same of this wire at the place.
+    /// The machine whose state this wire at the place holds, None where it is no state wire.
     fn find_at(&self, place: u32, wire: &Wire) -> Result<Option<Machine>, Memory>
-        ensures exact { IfOk result (λ machine. (ports : Ports) → IsFinder self.now ports → slice_get self.now.body.now.wires place ≡ Some «wire».now → machine ≡ machine_of ports self.now.body.now place) }
+        ensures exact { IfOk result (λ machine. (ports : Ports) → IsFinder self.now ports →
+            slice_get self.now.body.now.wires place ≡ Some «wire».now →
+            machine ≡ machine_of ports self.now.body.now place) }
     {
         if !may_be_state(self.alloc, wire)? {
             return Ok(None);
@@ -100,7 +111,10 @@ impl<'a> Finder<'a> {
         wire: &Wire,
         flop: usize,
     ) -> Result<Option<Machine>, Memory>
-        ensures exact { IfOk result (λ machine. (ports : Ports) → IsFinder self.now ports → IsView view.now ports self.now.body.now → start_bits self.now.body.now view.now.state ≡ init_bits «wire».now → machine ≡ machine_by ports self.now.body.now place view.now.state (Some flop)) }
+        ensures exact { IfOk result (λ machine. (ports : Ports) → IsFinder self.now ports →
+            IsView view.now ports self.now.body.now →
+            start_bits self.now.body.now view.now.state ≡ init_bits «wire».now →
+            machine ≡ machine_by ports self.now.body.now place view.now.state (Some flop)) }
     {
         match cell_at(self.body.cells.as_slice(), flop) {
             Some(cell) => {
@@ -111,7 +125,7 @@ impl<'a> Finder<'a> {
         }
     }
 
-    /// The same of this flip-flop.
+    /// The machine of a wire that may be a state, with this flip-flop at the place, whose whole Q it is.
     fn of_cell(
         &self,
         view: &View,
@@ -120,7 +134,11 @@ impl<'a> Finder<'a> {
         flop: usize,
         cell: &Cell,
     ) -> Result<Option<Machine>, Memory>
-        ensures exact { IfOk result (λ machine. (ports : Ports) → IsFinder self.now ports → IsView view.now ports self.now.body.now → start_bits self.now.body.now view.now.state ≡ init_bits «wire».now → slice_get self.now.body.now.cells flop ≡ Some cell.now → machine ≡ machine_by ports self.now.body.now place view.now.state (Some flop)) }
+        ensures exact { IfOk result (λ machine. (ports : Ports) → IsFinder self.now ports →
+            IsView view.now ports self.now.body.now →
+            start_bits self.now.body.now view.now.state ≡ init_bits «wire».now →
+            slice_get self.now.body.now.cells flop ≡ Some cell.now →
+            machine ≡ machine_by ports self.now.body.now place view.now.state (Some flop)) }
     {
         match tree(view, self.body, cell)? {
             Some(reach) => {
@@ -141,8 +159,11 @@ impl<'a> Finder<'a> {
         cell: &Cell,
         reach: Reach,
     ) -> Result<Option<Machine>, Memory>
-        ensures exact { IfOk result (λ machine. (ports : Ports) (t : Tree) → IsFinder self.now ports → IsView view.now ports self.now.body.now → start_bits self.now.body.now view.now.state ≡ init_bits «wire».now → IsFound self.now.body.now reach t →
-            machine ≡ if_machine ports self.now.body.now view.now.state cell.now (made_machine self.now.body.now place view.now.state flop cell.now t)) }
+        ensures exact { IfOk result (λ machine. (ports : Ports) (t : Tree) → IsFinder self.now ports →
+            IsView view.now ports self.now.body.now →
+            start_bits self.now.body.now view.now.state ≡ init_bits «wire».now → IsFound self.now.body.now reach t →
+            machine ≡ if_machine ports self.now.body.now view.now.state cell.now
+            (made_machine self.now.body.now place view.now.state flop cell.now t)) }
     {
         match start_values(self.alloc, wire, cell)? {
             Some(starts) => {
@@ -162,8 +183,12 @@ impl<'a> Finder<'a> {
         reach: Reach,
         starts: Starts,
     ) -> Result<Option<Machine>, Memory>
-        ensures exact { IfOk result (λ machine. (ports : Ports) (c : Cell) (t : Tree) → IsFinder self.now ports → IsView view.now ports self.now.body.now → AreStarts (reset_value c) (start_bits self.now.body.now view.now.state) starts → IsFound self.now.body.now reach t →
-            machine ≡ if_machine ports self.now.body.now view.now.state c (made_machine self.now.body.now place view.now.state flop c t)) }
+        ensures exact { IfOk result (λ machine. (ports : Ports) (c : Cell) (t : Tree) → IsFinder self.now ports →
+            IsView view.now ports self.now.body.now →
+            AreStarts (reset_value c) (start_bits self.now.body.now view.now.state) starts →
+            IsFound self.now.body.now reach t →
+            machine ≡ if_machine ports self.now.body.now view.now.state c
+            (made_machine self.now.body.now place view.now.state flop c t)) }
     {
         let width = view.state.as_slice().len();
         match states_of(self.alloc, width, reach.known, &starts)? {
@@ -188,7 +213,9 @@ impl<'a> Finder<'a> {
     ) -> Result<Option<Machine>, Memory>
         requires some { 1 ≤ length states.items }
         requires few { length states.items ≤ 64 }
-        ensures exact { IfOk result (λ machine. (ports : Ports) (c : Cell) (made : Machine) → IsFinder self.now ports → IsView view.now ports self.now.body.now → IsDraft self.now.body.now view.now.state place flop found.items states.items starts made →
+        ensures exact { IfOk result (λ machine. (ports : Ports) (c : Cell) (made : Machine) → IsFinder self.now ports →
+            IsView view.now ports self.now.body.now →
+            IsDraft self.now.body.now view.now.state place flop found.items states.items starts made →
             machine ≡ if_machine ports self.now.body.now view.now.state c made) }
     {
         let muxes = marked_places(self.alloc, found.as_slice())?;
@@ -214,7 +241,8 @@ impl<'a> Finder<'a> {
 
     /// Whether the state and the tree are read by no pin but those that may, and by no output port.
     fn is_read_well(&self, view: &View, places: &Places, muxes: &[u32]) -> Result<bool, Memory>
-        ensures value { IfOk result (λ well. (ports : Ports) → IsFinder self.now ports → IsView view.now ports self.now.body.now → ArePlaces muxes.now places.now.forks.items →
+        ensures value { IfOk result (λ well. (ports : Ports) → IsFinder self.now ports →
+            IsView view.now ports self.now.body.now → ArePlaces muxes.now places.now.forks.items →
             well ≡ are_read_well ports self.now.body.now muxes.now places.now.flop view.now.state) }
     {
         let cells = self.body.cells.as_slice();

@@ -12,7 +12,6 @@ mod readers;
 mod starts;
 mod states;
 mod tree;
-mod values;
 mod view;
 mod whole_drivers;
 
@@ -25,8 +24,9 @@ use rtl_bits::Memory;
 use rtl_ir::{Machine, Module, PortTable};
 use std::alloc::Global;
 
-/// The machine whose state the wire at this place holds, None where it is no state wire. Where many wires are asked for,
-/// a `Finder` makes its tables once for all of them. In the Yosys manual, the command `fsm_detect`, with `fsm_extract`.
+/// The machine whose state the wire at this place holds, None where it is no state wire. Where many wires are asked
+/// for, a `Finder` makes its tables once for all of them. In the Yosys manual, the command `fsm_detect`, with
+/// `fsm_extract`.
 pub fn find(
     alloc: Global,
     module: &Module,

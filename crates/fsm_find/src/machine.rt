@@ -1,6 +1,22 @@
 //! What is left to ask of a machine.
 
-ghost use Rattle.std.specs.Prelude.{◌≡◌, ◌&&◌, ◌*◌, ◌++◌, ◌∷◌, ◌≤◌, [], List, ℕ, IfOk, OnOk, filter, if◌then◌else◌, length, nat_le};
+ghost use Rattle.std.specs.Prelude.{
+  ◌≡◌,
+  ◌&&◌,
+  ◌*◌,
+  ◌++◌,
+  ◌∷◌,
+  ◌≤◌,
+  [],
+  List,
+  ℕ,
+  IfOk,
+  OnOk,
+  filter,
+  if◌then◌else◌,
+  length,
+  nat_le,
+};
 ghost use Rattle.std.specs.List.{list_all, list_any, range_with_len};
 ghost use Rattle.rtl_sig.specs.declared.sig.WireBit.{WireBit};
 ghost use Rattle.rtl_ir.specs.declared.module.Module.{Module};
@@ -27,7 +43,8 @@ pub(crate) fn mark_outputs(
     module: &Module,
     places: &[u32],
 ) -> Result<(), Memory>
-    ensures ok { OnOk result ((bits : List WireBit) → AreMarks table.old bits → AreMarks table.new (bits ++ tree_outputs «module».now places.now)) }
+    ensures ok { OnOk result ((bits : List WireBit) → AreMarks table.old bits →
+        AreMarks table.new (bits ++ tree_outputs «module».now places.now)) }
 {
     for place in places {
         mark_output(table, module, *place)?;
@@ -35,9 +52,10 @@ pub(crate) fn mark_outputs(
     Ok(())
 }
 
-/// The same of the cell at a place.
+/// The bits of the output of the cell at a place are marked too, where there is a cell.
 fn mark_output(table: &mut BitTable<bool>, module: &Module, place: u32) -> Result<(), Memory>
-    ensures ok { OnOk result ((bits : List WireBit) → AreMarks table.old bits → AreMarks table.new (bits ++ tree_outputs «module».now (place ∷ []))) }
+    ensures ok { OnOk result ((bits : List WireBit) → AreMarks table.old bits →
+        AreMarks table.new (bits ++ tree_outputs «module».now (place ∷ []))) }
 {
     match cell_at(module.cells.as_slice(), place as usize) {
         Some(cell) => {
@@ -50,7 +68,10 @@ fn mark_output(table: &mut BitTable<bool>, module: &Module, place: u32) -> Resul
 
 /// The places of the cells that compare the state, rising.
 pub(crate) fn comparing(view: &View, module: &Module) -> Result<Seq<u32>, Memory>
-    ensures value { IfOk result (λ places. (ports : Ports) → IsView view.now ports «module».now → places ≡ filter (λ at. list_any (compares «module».now view.now.state) (cells_at_places «module».now.cells (at ∷ []))) (range_with_len 0 (length «module».now.cells))) }
+    ensures value { IfOk result (λ places. (ports : Ports) → IsView view.now ports «module».now →
+        places ≡ filter (λ at.
+        list_any (compares «module».now view.now.state) (cells_at_places «module».now.cells (at ∷ [])))
+        (range_with_len 0 (length «module».now.cells))) }
 {
     let cells = module.cells.as_slice();
     let mut places = Seq::make(view.alloc);
@@ -62,7 +83,8 @@ pub(crate) fn comparing(view: &View, module: &Module) -> Result<Seq<u32>, Memory
 
 /// The place goes last if the cell compares the state.
 fn push_comparing(places: &mut Seq<u32>, view: &View, at: usize, cell: &Cell) -> Result<(), Memory>
-    ensures ok { OnOk result ((ports : Ports) (m : Module) → IsView view.now ports m → places.new ≡ places.old ++ (if compares m view.now.state cell.now then at ∷ [] else [])) }
+    ensures ok { OnOk result ((ports : Ports) (m : Module) → IsView view.now ports m →
+        places.new ≡ places.old ++ (if compares m view.now.state cell.now then at ∷ [] else [])) }
 {
     let yes = compares(view, cell)?;
     push_if(places, yes, at)?;
@@ -93,7 +115,8 @@ fn stay_within(parts: usize, states: usize) -> bool
 fn fits_code(view: &View, states: usize, cell: &Cell) -> Result<bool, Memory>
     requires some { 1 ≤ states }
     requires few { states ≤ 64 }
-    ensures value { IfOk result (λ fits. (ports : Ports) (m : Module) → IsView view.now ports m → fits ≡ fits_code states cell.now) }
+    ensures value { IfOk result (λ fits. (ports : Ports) (m : Module) → IsView view.now ports m →
+        fits ≡ fits_code states cell.now) }
 {
     let arms = arms(view.alloc, view.index, cell)?;
     let parts = arms.len().saturating_sub(1);
@@ -104,7 +127,8 @@ fn fits_code(view: &View, states: usize, cell: &Cell) -> Result<bool, Memory>
 fn fits_at(view: &View, states: usize, module: &Module, place: u32) -> Result<bool, Memory>
     requires some { 1 ≤ states }
     requires few { states ≤ 64 }
-    ensures value { IfOk result (λ fits. (ports : Ports) → IsView view.now ports «module».now → fits ≡ list_all (fits_code states) (cells_at_places «module».now.cells (place ∷ []))) }
+    ensures value { IfOk result (λ fits. (ports : Ports) → IsView view.now ports «module».now →
+        fits ≡ list_all (fits_code states) (cells_at_places «module».now.cells (place ∷ []))) }
 {
     match cell_at(module.cells.as_slice(), place as usize) {
         Some(cell) => {
@@ -124,7 +148,8 @@ pub(crate) fn all_fit(
 ) -> Result<bool, Memory>
     requires some { 1 ≤ states }
     requires few { states ≤ 64 }
-    ensures value { IfOk result (λ fit. (ports : Ports) → IsView view.now ports «module».now → fit ≡ list_all (fits_code states) (cells_at_places «module».now.cells places.now)) }
+    ensures value { IfOk result (λ fit. (ports : Ports) → IsView view.now ports «module».now →
+        fit ≡ list_all (fits_code states) (cells_at_places «module».now.cells places.now)) }
 {
     for place in places {
         if !fits_at(view, states, module, *place)? {

@@ -1,6 +1,19 @@
 //! Whether no fork is below itself.
 
-ghost use Rattle.std.specs.Prelude.{◌≡◌, ◌<◌, ℕ, Bool, true, false, IfOk, MatchBool, OnOk, length, slice_index_or, slice_set};
+ghost use Rattle.std.specs.Prelude.{
+  ◌≡◌,
+  ◌<◌,
+  ℕ,
+  Bool,
+  true,
+  false,
+  IfOk,
+  MatchBool,
+  OnOk,
+  length,
+  slice_index_or,
+  slice_set,
+};
 ghost use Rattle.std.specs.List.{list_all};
 ghost use Rattle.net_model.specs.Lists.{In};
 ghost use Rattle.fsm_find.specs.declared.reach.Node.{Node};
@@ -13,7 +26,8 @@ use std::alloc::Global;
 /// Whether no fork is below itself, of the forks of a module with so many cells. Sweeps from the last node to the
 /// first mark the forks whose forks below are all marked; one sweep is enough where no fork has two above it.
 pub(crate) fn is_acyclic(alloc: Global, nodes: &[Node], count: usize) -> Result<bool, Memory>
-    ensures value { IfOk result (λ ok. MatchBool ok ((node : Node) → In node nodes.now → IsShallow nodes.now count node.fork)
+    ensures value { IfOk result (λ ok. MatchBool ok ((node : Node) → In node nodes.now →
+        IsShallow nodes.now count node.fork)
         ((node : Node) × In node nodes.now × ((n : ℕ) → IsShallow nodes.now n node.fork → ⊥))) }
 {
     let mut done = vec![in alloc; false; count]?;
@@ -64,7 +78,8 @@ fn sweep(nodes: &[Node], done: &mut Vec<bool>) -> Result<bool, Memory>
     ensures count { OnOk result (length done.new.items ≡ length done.old.items) }
     ensures shallow { OnOk result (AreShallow nodes.now done.old.items → AreShallow nodes.now done.new.items) }
     ensures same { IfOk result (λ moved. moved ≡ false → done.new.items ≡ done.old.items) }
-    ensures stuck { IfOk result (λ moved. moved ≡ false → (node : Node) → In node nodes.now → IsStuck done.new.items node) }
+    ensures stuck { IfOk result (λ moved. moved ≡ false → (node : Node) → In node nodes.now →
+        IsStuck done.new.items node) }
 {
     let mut moved = false;
     for at in (0..nodes.len()).rev() {
@@ -78,7 +93,9 @@ fn sweep(nodes: &[Node], done: &mut Vec<bool>) -> Result<bool, Memory>
 /// the cells is taken for want of memory.
 fn settle(node: &Node, done: &mut Vec<bool>) -> Result<bool, Memory>
     ensures moved { IfOk result (λ moved. MatchBool moved
-        ((done.new.items ≡ slice_set done.old.items node.now.fork true) × (node.now.fork < length done.old.items) × (is_done done.old.items node.now.fork ≡ false) × (list_all (is_done done.old.items) node.now.below.items ≡ true))
+        ((done.new.items ≡ slice_set done.old.items node.now.fork true) × (node.now.fork < length done.old.items)
+        × (is_done done.old.items node.now.fork ≡ false)
+        × (list_all (is_done done.old.items) node.now.below.items ≡ true))
         ((done.new.items ≡ done.old.items) × IsStuck done.old.items node.now)) }
 {
     if is_done(done.as_slice(), node.fork) || !are_done(done.as_slice(), node.below.as_slice()) {

@@ -1,6 +1,6 @@
 //! What the parameters of cells and the attributes of wires say.
 
-ghost use Rattle.std.specs.Prelude.{◌≡◌, ◌&&◌, IfOk, codes, map, slice_index_or};
+ghost use Rattle.std.specs.Prelude.{◌≡◌, ◌&&◌, IfOk, map, slice_index_or};
 ghost use Rattle.std.specs.List.{range_with_len};
 ghost use Rattle.rtl_bits.specs.declared.bit.Bit.TheVariants.{X};
 ghost use Rattle.rtl_bits.specs.Tables.{seen_of};
@@ -8,32 +8,23 @@ ghost use Rattle.cell_types.specs.declared.param_name.ParamName.TheVariants.{ASi
 ghost use Rattle.cell_types.specs.Given.{value_in};
 ghost use Rattle.cell_types.specs.Shape.{is_set};
 ghost use Rattle.rtl_ir.specs.Flat.Cell.{cell_shape};
-ghost use Rattle.rtl_ir.specs.Flat.Start.{attribute_bits};
+ghost use Rattle.rtl_ir.specs.Attributes.{attribute_bits};
 ghost use Rattle.rtl_ir.specs.Parameters.{given_params};
 ghost use Rattle.net_model.specs.Fsm.Find.{reset_value};
 ghost use Rattle.fsm_find.specs.Attributes.{init_bits};
 
-use crate::values::attribute_bits;
-use cell_types::{CellKind, Shape, StorageKind};
-use fsm_parts::cell_kind;
-use net_index::cell_shape;
+use cell_types::{CellKind, StorageKind};
 use rtl_bits::{Bit, Bits, Copied, Memory};
-use rtl_ir::{Cell, Wire};
+use rtl_ir::{Cell, Wire, attribute_bits, cell_kind, fitting_shape};
 use std::alloc::Global;
-
-/// The shape of a cell of this kind. A cell with a fault has none, and is taken for want of memory.
-fn shape(alloc: Global, kind: CellKind, cell: &Cell) -> Result<Shape, Memory>
-    ensures value { IfOk result (λ shape. shape ≡ cell_shape kind cell.now.params) }
-{
-    cell_shape(alloc, kind, cell).ok().ok_or(Memory)
-}
 
 /// Whether both operands of a cell of this kind are signed.
 #[tactic(auto, unfolding(rtl_ir::specs::Flat::Cell::cell_shape))]
 pub(crate) fn are_signed(alloc: Global, kind: CellKind, cell: &Cell) -> Result<bool, Memory>
-    ensures value { IfOk result (λ both. both ≡ (is_set (given_params cell.now.params) ASigned && is_set (given_params cell.now.params) BSigned)) }
+    ensures value { IfOk result (λ both. both ≡
+        (is_set (given_params cell.now.params) ASigned && is_set (given_params cell.now.params) BSigned)) }
 {
-    let shape = shape(alloc, kind, cell)?;
+    let shape = fitting_shape(alloc, kind, cell)?;
     Ok(shape.signs.a && shape.signs.b)
 }
 
@@ -42,7 +33,7 @@ pub(crate) fn are_signed(alloc: Global, kind: CellKind, cell: &Cell) -> Result<b
 fn arst_value(alloc: Global, cell: &Cell) -> Result<Bits, Memory>
     ensures value { IfOk result (λ bits. bits ≡ value_in (given_params cell.now.params) ArstValue) }
 {
-    let shape = shape(alloc, CellKind::Storage(StorageKind::Adff), cell)?;
+    let shape = fitting_shape(alloc, CellKind::Storage(StorageKind::Adff), cell)?;
     shape.resets.arst.copy()
 }
 
@@ -66,7 +57,8 @@ pub(crate) fn start_bits(alloc: Global, wire: &Wire) -> Result<Bits, Memory>
 
 /// So many bits as they are seen, past the end x.
 fn seen_bits(alloc: Global, init: &[Bit], width: u32) -> Result<Bits, Memory>
-    ensures value { IfOk result (λ bits. bits ≡ map (λ at. seen_of (slice_index_or init.now at X)) (range_with_len 0 width)) }
+    ensures value { IfOk result (λ bits. bits ≡
+        map (λ at. seen_of (slice_index_or init.now at X)) (range_with_len 0 width)) }
 {
     let mut bits = Bits::make(alloc);
     for at in 0..width {

@@ -1,6 +1,22 @@
 //! The forks and the leaves that a tree reaches.
 
-ghost use Rattle.std.specs.Prelude.{◌≡◌, List, [], ◌∷◌, ◌++◌, IfOk, IfSome, MatchBool, MatchOption, OnOk, Some, true, false, length, slice_get};
+ghost use Rattle.std.specs.Prelude.{
+  ◌≡◌,
+  List,
+  [],
+  ◌∷◌,
+  ◌++◌,
+  IfOk,
+  IfSome,
+  MatchBool,
+  MatchOption,
+  OnOk,
+  Some,
+  true,
+  false,
+  length,
+  slice_get,
+};
 ghost use Rattle.rtl_sig.specs.declared.sig.SigBit.{SigBit};
 ghost use Rattle.rtl_ir.specs.declared.cell.Cell.{Cell};
 ghost use Rattle.rtl_ir.specs.declared.module.Module.{Module};
@@ -10,9 +26,9 @@ ghost use Rattle.fsm_find.specs.Trees.{HasNoTree, IsForkUnder, IsReach, IsUnder,
 ghost use Rattle.fsm_find.specs.View.{IsView, arms_in};
 
 use crate::view::{Step, View};
-use fsm_parts::{arms, constants, is_state_constant};
+use fsm_parts::{arms, is_state_constant};
 use rtl_bits::{Bits, Memory};
-use rtl_ir::{Cell, Module};
+use rtl_ir::{Cell, Module, constants_of};
 use rtl_sig::{SigBit, SigSpec};
 use std::alloc::Global;
 
@@ -51,7 +67,8 @@ impl Reach {
 
     /// The fork at this place is found, if it was not. One past the cells is taken for want of memory.
     fn meet(&mut self, at: usize) -> Result<(), Memory>
-        ensures ok { OnOk result ((m : Module) (state root : List SigBit) → IsReach m state root self.old → IsForkUnder m state root at → Meets m state root self.old self.new at) }
+        ensures ok { OnOk result ((m : Module) (state root : List SigBit) → IsReach m state root self.old →
+            IsForkUnder m state root at → Meets m state root self.old self.new at) }
     {
         if at >= self.found.len() {
             return Err(Memory);
@@ -69,7 +86,7 @@ impl Reach {
         ensures ok { OnOk result (Learns self.old self.new signal.now) }
     {
         if is_state_constant(signal) {
-            self.known.push(constants(alloc, signal)?)?;
+            self.known.push(constants_of(alloc, signal)?)?;
         }
         Ok(())
     }
@@ -81,8 +98,11 @@ impl Reach {
         signal: &[SigBit],
         below: &mut Vec<usize>,
     ) -> Result<bool, Memory>
-        ensures ok { IfOk result (λ ok. (ports : Ports) (m : Module) (root : List SigBit) → IsView view.now ports m → IsReach m view.now.state root self.old → IsUnder m view.now.state root signal.now →
-            MatchBool ok (Visits m view.now.state root (signal.now ∷ []) self.old self.new below.old.items below.new.items) (HasNoTree m view.now.state root)) }
+        ensures ok { IfOk result (λ ok. (ports : Ports) (m : Module) (root : List SigBit) → IsView view.now ports m →
+            IsReach m view.now.state root self.old → IsUnder m view.now.state root signal.now →
+            MatchBool ok (Visits m view.now.state root
+            (signal.now ∷ []) self.old self.new below.old.items below.new.items)
+            (HasNoTree m view.now.state root)) }
     {
         match view.step(signal)? {
             Step::Leaf => {
@@ -105,8 +125,11 @@ impl Reach {
         signals: &[SigSpec],
         below: &mut Vec<usize>,
     ) -> Result<bool, Memory>
-        ensures ok { IfOk result (λ ok. (ports : Ports) (m : Module) (root : List SigBit) → IsView view.now ports m → IsReach m view.now.state root self.old → ((s : List SigBit) → In s signals.now → IsUnder m view.now.state root s) →
-            MatchBool ok (Visits m view.now.state root signals.now self.old self.new below.old.items below.new.items) (HasNoTree m view.now.state root)) }
+        ensures ok { IfOk result (λ ok. (ports : Ports) (m : Module) (root : List SigBit) → IsView view.now ports m →
+            IsReach m view.now.state root self.old →
+            ((s : List SigBit) → In s signals.now → IsUnder m view.now.state root s) →
+            MatchBool ok (Visits m view.now.state root signals.now self.old self.new below.old.items below.new.items)
+            (HasNoTree m view.now.state root)) }
     {
         for signal in signals {
             if !self.visit(view, signal.as_slice(), below)? {
@@ -118,8 +141,11 @@ impl Reach {
 
     /// The arms of the next fork, and whether they may be there.
     fn open(&mut self, view: &View, module: &Module, at: usize) -> Result<bool, Memory>
-        ensures ok { IfOk result (λ ok. (ports : Ports) (root : List SigBit) → IsView view.now ports «module».now → IsReach «module».now view.now.state root self.old → slice_get self.old.forks.items (length self.old.nodes.items) ≡ Some at →
-            MatchBool ok (Opens «module».now view.now.state root self.old self.new) (HasNoTree «module».now view.now.state root)) }
+        ensures ok { IfOk result (λ ok. (ports : Ports) (root : List SigBit) → IsView view.now ports «module».now →
+            IsReach «module».now view.now.state root self.old →
+            slice_get self.old.forks.items (length self.old.nodes.items) ≡ Some at →
+            MatchBool ok (Opens «module».now view.now.state root self.old self.new)
+            (HasNoTree «module».now view.now.state root)) }
     {
         let cells = module.cells.as_slice();
         if at >= cells.len() {
@@ -142,7 +168,8 @@ pub(crate) fn reached(
     root: &[SigBit],
 ) -> Result<Option<Reach>, Memory>
     ensures found { IfOk result (λ reach. (ports : Ports) → IsView view.now ports «module».now →
-        MatchOption reach (HasNoTree «module».now view.now.state root.now) (IsWhole «module».now view.now.state root.now)) }
+        MatchOption reach (HasNoTree «module».now view.now.state root.now)
+        (IsWhole «module».now view.now.state root.now)) }
 {
     let mut reach = Reach::none(view.alloc, module)?;
     let mut below = Vec::new(view.alloc);

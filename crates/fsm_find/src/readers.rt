@@ -1,16 +1,46 @@
 //! Who reads the state and the tree.
 
-ghost use Rattle.std.specs.Prelude.{◌≡◌, ◌∷◌, ◌++◌, ◌||◌, ◌&&◌, ◌<◌, length, not, slice_index_or, ℕ, List, [], IfOk, OnOk, filter, if◌then◌else◌};
+ghost use Rattle.std.specs.Prelude.{
+  ◌≡◌,
+  ◌∷◌,
+  ◌++◌,
+  ◌||◌,
+  ◌&&◌,
+  ◌<◌,
+  length,
+  not,
+  slice_index_or,
+  ℕ,
+  List,
+  [],
+  IfOk,
+  OnOk,
+  filter,
+  if◌then◌else◌,
+};
 ghost use Rattle.std.specs.List.{range_with_len};
 ghost use Rattle.rtl_sig.specs.declared.sig.WireBit.{WireBit};
 ghost use Rattle.cell_types.specs.declared.pin_name.PinName.TheVariants.{A, B};
 ghost use Rattle.rtl_ir.specs.declared.module.Module.{Module};
 ghost use Rattle.rtl_ir.specs.Outputs.{is_output};
-ghost use Rattle.rtl_ir.specs.Signals.{wire_bits};
+ghost use Rattle.rtl_ir.specs.Signals.{wire_bits, same_signal};
 ghost use Rattle.rtl_ir.specs.Types.{Ports};
-ghost use Rattle.rtl_ir.specs.WritePorts.{same_signal};
 ghost use Rattle.net_index.specs.Types.{AreTypes};
-ghost use Rattle.net_model.specs.Fsm.Find.{at_pin, cells_read_well, compares, compares_with, followed_bits, is_output_pin, is_pin, is_state_constant, may_read, meets_any, ports_read_well, reads_well, whole_wire};
+ghost use Rattle.net_model.specs.Fsm.Find.{
+  at_pin,
+  cells_read_well,
+  compares,
+  compares_with,
+  followed_bits,
+  is_output_pin,
+  is_pin,
+  is_state_constant,
+  may_read,
+  meets_any,
+  ports_read_well,
+  reads_well,
+  whole_wire,
+};
 ghost use Rattle.fsm_find.specs.Order.{is_done};
 ghost use Rattle.fsm_find.specs.Readers.{AreMarks, ArePlaces, cell_reads_well, pin_reads_well};
 ghost use Rattle.fsm_find.specs.View.{IsView};
@@ -18,12 +48,10 @@ ghost use Rattle.fsm_find.specs.View.{IsView};
 use crate::params::are_signed;
 use crate::view::View;
 use cell_types::{CellKind, PinName};
-use fsm_parts::{
-    at_pin, cell_kind, followed, is_compare, is_state_constant, same_signal, whole_wire,
-};
+use fsm_parts::{at_pin, followed, is_compare, is_state_constant, whole_wire};
 use net_index::{BitTable, Types, drives_pin};
 use rtl_bits::{Memory, Seq};
-use rtl_ir::{Cell, Pin, Role, Wire};
+use rtl_ir::{Cell, Pin, Wire, cell_kind, is_output, same_signal};
 use rtl_sig::{SigBit, WireBit};
 use std::alloc::Global;
 
@@ -36,7 +64,8 @@ pub(crate) struct Places {
 
 /// The bits of the signal are marked too.
 pub(crate) fn mark(table: &mut BitTable<bool>, signal: &[SigBit]) -> Result<(), Memory>
-    ensures ok { OnOk result ((bits : List WireBit) → AreMarks table.old bits → AreMarks table.new (bits ++ wire_bits signal.now)) }
+    ensures ok { OnOk result ((bits : List WireBit) → AreMarks table.old bits →
+        AreMarks table.new (bits ++ wire_bits signal.now)) }
 {
     for at in 0..signal.len() {
         let bit = bit_of(signal, at);
@@ -53,9 +82,10 @@ fn bit_of(signal: &[SigBit], at: usize) -> SigBit
     signal[at]
 }
 
-/// The same of one bit.
+/// A bit of a wire is marked too.
 fn mark_bit(table: &mut BitTable<bool>, bit: SigBit) -> Result<(), Memory>
-    ensures ok { OnOk result ((bits : List WireBit) → AreMarks table.old bits → AreMarks table.new (bits ++ wire_bits (bit ∷ []))) }
+    ensures ok { OnOk result ((bits : List WireBit) → AreMarks table.old bits →
+        AreMarks table.new (bits ++ wire_bits (bit ∷ []))) }
 {
     match bit {
         SigBit::Fixed(_) => Ok(()),
@@ -68,7 +98,8 @@ fn mark_bit(table: &mut BitTable<bool>, bit: SigBit) -> Result<(), Memory>
 
 /// Whether a bit that the signal leads to is marked.
 pub(crate) fn meets(view: &View, table: &BitTable<bool>, signal: &[SigBit]) -> bool
-    ensures value { (ports : Ports) (m : Module) (bits : List WireBit) → IsView view.now ports m → AreMarks table.now bits → result ≡ meets_any (followed_bits m signal.now) bits }
+    ensures value { (ports : Ports) (m : Module) (bits : List WireBit) → IsView view.now ports m →
+        AreMarks table.now bits → result ≡ meets_any (followed_bits m signal.now) bits }
 {
     for at in 0..signal.len() {
         let bit = bit_of(signal, at);
@@ -109,7 +140,8 @@ fn may_read(forks: &[bool], flop: usize, at: usize, pin: &Pin) -> bool
 
 /// Whether the cell compares the state with a constant.
 pub(crate) fn compares(view: &View, cell: &Cell) -> Result<bool, Memory>
-    ensures value { IfOk result (λ yes. (ports : Ports) (m : Module) → IsView view.now ports m → yes ≡ compares m view.now.state cell.now) }
+    ensures value { IfOk result (λ yes. (ports : Ports) (m : Module) → IsView view.now ports m →
+        yes ≡ compares m view.now.state cell.now) }
 {
     match cell_kind(cell) {
         Some(kind) if is_compare(Some(kind)) => {
@@ -123,7 +155,8 @@ pub(crate) fn compares(view: &View, cell: &Cell) -> Result<bool, Memory>
 /// Whether one operand of a compare is the state, and the other a known constant, and not both are signed.
 fn compares_state(view: &View, kind: CellKind, cell: &Cell) -> Result<bool, Memory>
     ensures value { IfOk result (λ yes. (ports : Ports) (m : Module) → IsView view.now ports m → yes ≡
-        (compares_with m view.now.state cell.now (at_pin cell.now A) (at_pin cell.now B) || compares_with m view.now.state cell.now (at_pin cell.now B) (at_pin cell.now A))) }
+        (compares_with m view.now.state cell.now (at_pin cell.now A) (at_pin cell.now B)
+        || compares_with m view.now.state cell.now (at_pin cell.now B) (at_pin cell.now A))) }
 {
     let a = followed(view.alloc, view.index, at_pin(cell, PinName::A))?;
     let b = followed(view.alloc, view.index, at_pin(cell, PinName::B))?;
@@ -134,7 +167,9 @@ fn compares_state(view: &View, kind: CellKind, cell: &Cell) -> Result<bool, Memo
 
 /// Whether one of two followed operands is the state, and the other a known constant, and not both are signed.
 fn is_compared(state: &[SigBit], a: &[SigBit], b: &[SigBit], signed: bool) -> bool
-    ensures value { result ≡ ((same_signal a.now state.now && (is_state_constant b.now && not signed)) || (same_signal b.now state.now && (is_state_constant a.now && not signed))) }
+    ensures value { result ≡
+        ((same_signal a.now state.now && (is_state_constant b.now && not signed))
+        || (same_signal b.now state.now && (is_state_constant a.now && not signed))) }
 {
     (same_signal(a, state) && (is_state_constant(b) && !signed))
         || (same_signal(b, state) && (is_state_constant(a) && !signed))
@@ -149,7 +184,8 @@ fn reads_well(
     at: usize,
     cell: &Cell,
 ) -> bool
-    ensures value { (ports : Ports) (m : Module) (places : List ℕ) (bits : List WireBit) → IsView view.now ports m → AreTypes types.now ports → ArePlaces places machine.now.forks.items → AreMarks table.now bits →
+    ensures value { (ports : Ports) (m : Module) (places : List ℕ) (bits : List WireBit) → IsView view.now ports m →
+        AreTypes types.now ports → ArePlaces places machine.now.forks.items → AreMarks table.now bits →
         result ≡ reads_well ports m places machine.now.flop bits at cell.now }
 {
     for pin in cell.pins.as_slice() {
@@ -170,7 +206,8 @@ fn pin_reads_well(
     cell: &Cell,
     pin: &Pin,
 ) -> bool
-    ensures value { (ports : Ports) (m : Module) (places : List ℕ) (bits : List WireBit) → IsView view.now ports m → AreTypes types.now ports → ArePlaces places machine.now.forks.items → AreMarks table.now bits →
+    ensures value { (ports : Ports) (m : Module) (places : List ℕ) (bits : List WireBit) → IsView view.now ports m →
+        AreTypes types.now ports → ArePlaces places machine.now.forks.items → AreMarks table.now bits →
         result ≡ pin_reads_well ports m places machine.now.flop bits at cell.now pin.now }
 {
     if is_output_pin(types, cell, pin) {
@@ -193,7 +230,8 @@ fn is_output_pin(types: &Types, cell: &Cell, pin: &Pin) -> bool
     drives_pin(&cell_type, pin.name.as_slice())
 }
 
-/// Whether the cells read the bits of the tree by no pin but those that may, and the state so too, but where they compare it.
+/// Whether the cells read the bits of the tree by no pin but those that may, and the state so too, but where they
+/// compare it.
 pub(crate) fn cells_read_well(
     view: &View,
     types: &Types,
@@ -202,7 +240,9 @@ pub(crate) fn cells_read_well(
     outputs: &BitTable<bool>,
     cells: &[Cell],
 ) -> Result<bool, Memory>
-    ensures value { IfOk result (λ well. (ports : Ports) (m : Module) (places : List ℕ) (bits : List WireBit) → IsView view.now ports m → AreTypes types.now ports → ArePlaces places machine.now.forks.items → AreMarks outputs.now bits → AreMarks state.now (wire_bits view.now.state) →
+    ensures value { IfOk result (λ well. (ports : Ports) (m : Module) (places : List ℕ) (bits : List WireBit) →
+        IsView view.now ports m → AreTypes types.now ports → ArePlaces places machine.now.forks.items →
+        AreMarks outputs.now bits → AreMarks state.now (wire_bits view.now.state) →
         well ≡ cells_read_well ports m places machine.now.flop view.now.state bits 0 cells.now) }
 {
     for at in 0..cells.len() {
@@ -213,7 +253,8 @@ pub(crate) fn cells_read_well(
     Ok(true)
 }
 
-/// The same of the cell at a place.
+/// Whether the cell at a place reads the bits of the tree by no pin but those that may, and the state so too, but where
+/// it compares it.
 fn cell_reads_well(
     view: &View,
     types: &Types,
@@ -223,7 +264,9 @@ fn cell_reads_well(
     at: usize,
     cell: &Cell,
 ) -> Result<bool, Memory>
-    ensures value { IfOk result (λ well. (ports : Ports) (m : Module) (places : List ℕ) (bits : List WireBit) → IsView view.now ports m → AreTypes types.now ports → ArePlaces places machine.now.forks.items → AreMarks outputs.now bits → AreMarks state.now (wire_bits view.now.state) →
+    ensures value { IfOk result (λ well. (ports : Ports) (m : Module) (places : List ℕ) (bits : List WireBit) →
+        IsView view.now ports m → AreTypes types.now ports → ArePlaces places machine.now.forks.items →
+        AreMarks outputs.now bits → AreMarks state.now (wire_bits view.now.state) →
         well ≡ cell_reads_well ports m places machine.now.flop view.now.state bits at cell.now) }
 {
     let outputs_well = reads_well(view, types, machine, outputs, at, cell);
@@ -245,7 +288,8 @@ pub(crate) fn ports_read_well(
     table: &BitTable<bool>,
     wires: &[Wire],
 ) -> Result<bool, Memory>
-    ensures value { IfOk result (λ well. (ports : Ports) (m : Module) (bits : List WireBit) → IsView view.now ports m → AreMarks table.now bits → well ≡ ports_read_well m bits 0 wires.now) }
+    ensures value { IfOk result (λ well. (ports : Ports) (m : Module) (bits : List WireBit) → IsView view.now ports m →
+        AreMarks table.now bits → well ≡ ports_read_well m bits 0 wires.now) }
 {
     for at in 0..wires.len() {
         let place = place_number(at)?;
@@ -263,7 +307,9 @@ fn port_reads_well(
     place: u32,
     wire: &Wire,
 ) -> Result<bool, Memory>
-    ensures value { IfOk result (λ well. (ports : Ports) (m : Module) (bits : List WireBit) → IsView view.now ports m → AreMarks table.now bits → well ≡ not (is_output «wire».now.role && meets_any (followed_bits m (whole_wire place «wire».now)) bits)) }
+    ensures value { IfOk result (λ well. (ports : Ports) (m : Module) (bits : List WireBit) → IsView view.now ports m →
+        AreMarks table.now bits →
+        well ≡ not (is_output «wire».now.role && meets_any (followed_bits m (whole_wire place «wire».now)) bits)) }
 {
     if !is_output(wire.role) {
         return Ok(true);
@@ -271,16 +317,6 @@ fn port_reads_well(
     let signal = whole_wire(view.alloc, place, wire.width)?;
     let met = meets(view, table, signal.as_slice());
     Ok(!met)
-}
-
-/// Whether it is the role of an output port.
-fn is_output(role: Role) -> bool
-    ensures value { result ≡ is_output role }
-{
-    match role {
-        Role::Output => true,
-        Role::Inner | Role::Input | Role::Inout => false,
-    }
 }
 
 /// A place as a number of 32 bits; a greater one is taken for want of memory.

@@ -8,8 +8,8 @@ ghost use Rattle.fsm_find.specs.Attributes.{init_bits};
 ghost use Rattle.fsm_find.specs.Starts.{AreStarts, are_starts, is_count, is_state_of, with_starts};
 
 use crate::params::{reset_value, start_bits};
-use crate::states::{MAX_STATES, are_known, in_state_order};
-use rtl_bits::{Bit, Bits, Copied, Memory};
+use crate::states::{MAX_STATES, in_state_order};
+use rtl_bits::{Bit, Bits, Copied, Memory, all_known};
 use rtl_ir::{Cell, Wire};
 use std::alloc::Global;
 
@@ -39,7 +39,7 @@ fn are_known_or_none(bits: &Option<Bits>) -> bool
     ensures value { result ≡ list_all all_known (option_state bits.now) }
 {
     match bits {
-        Some(bits) => are_known(bits.as_slice()),
+        Some(bits) => all_known(bits.as_slice()),
         None => true,
     }
 }
@@ -48,7 +48,7 @@ fn are_known_or_none(bits: &Option<Bits>) -> bool
 fn known_start(bits: Bits) -> Option<Bits>
     ensures value { result ≡ known_start bits }
 {
-    if are_known(bits.as_slice()) {
+    if all_known(bits.as_slice()) {
         Some(bits)
     } else {
         None
@@ -59,7 +59,7 @@ fn known_start(bits: Bits) -> Option<Bits>
 fn are_starts(reset: &Option<Bits>, start: &[Bit]) -> bool
     ensures value { result ≡ are_starts reset.now start.now }
 {
-    are_known_or_none(reset) && (are_known(start) || !has_known(start))
+    are_known_or_none(reset) && (all_known(start) || !has_known(start))
 }
 
 /// The values that the flip-flop and its wire start from, None where the reset value is not known, or a part of the
@@ -69,7 +69,9 @@ pub(crate) fn start_values(
     wire: &Wire,
     flop: &Cell,
 ) -> Result<Option<Starts>, Memory>
-    ensures value { IfOk result (λ starts. MatchOption starts (are_starts (reset_value flop.now) (init_bits «wire».now) ≡ false) (AreStarts (reset_value flop.now) (init_bits «wire».now))) }
+    ensures value { IfOk result (λ starts.
+        MatchOption starts (are_starts (reset_value flop.now) (init_bits «wire».now) ≡ false)
+        (AreStarts (reset_value flop.now) (init_bits «wire».now))) }
 {
     let reset = reset_value(alloc, flop)?;
     let bits = start_bits(alloc, wire)?;
@@ -107,7 +109,7 @@ fn with_starts(leaves: Vec<Bits>, starts: &Starts) -> Result<Vec<Bits>, Memory>
 fn is_state_of(width: usize, bits: &[Bit]) -> bool
     ensures value { result ≡ is_state_of width bits.now }
 {
-    bits.len() == width && are_known(bits)
+    bits.len() == width && all_known(bits)
 }
 
 /// Whether each of the list is a state of the width.
@@ -130,8 +132,10 @@ pub(crate) fn states_of(
     leaves: Vec<Bits>,
     starts: &Starts,
 ) -> Result<Option<Vec<Bits>>, Memory>
-    ensures value { IfOk result (λ states. MatchOption states (is_count (length (in_state_order (with_starts leaves.items starts.now))) ≡ false)
-        (λ s. (s.items ≡ in_state_order (with_starts leaves.items starts.now)) × (is_count (length (in_state_order (with_starts leaves.items starts.now))) ≡ true))) }
+    ensures value { IfOk result (λ states.
+        MatchOption states (is_count (length (in_state_order (with_starts leaves.items starts.now))) ≡ false)
+        (λ s. (s.items ≡ in_state_order (with_starts leaves.items starts.now))
+        × (is_count (length (in_state_order (with_starts leaves.items starts.now))) ≡ true))) }
     ensures told { OnOk result (list_all (is_state_of width) (with_starts leaves.items starts.now) ≡ true) }
 {
     let list = with_starts(leaves, starts)?;
@@ -156,7 +160,8 @@ fn counted_states(alloc: Global, list: &[Bits]) -> Result<Option<Vec<Bits>>, Mem
 
 /// The states where there are 2 to 64.
 fn if_counted(states: Vec<Bits>) -> Option<Vec<Bits>>
-    ensures value { MatchOption result (is_count (length states.items) ≡ false) (λ s. (s.items ≡ states.items) × (is_count (length states.items) ≡ true)) }
+    ensures value { MatchOption result (is_count (length states.items) ≡ false) (λ s. (s.items ≡ states.items)
+        × (is_count (length states.items) ≡ true)) }
 {
     if is_count(states.len()) {
         Some(states)

@@ -17,7 +17,8 @@ use rtl_ir::{Cell, Module};
 /// The tree at D of a flip-flop, where there is one.
 pub(crate) fn tree(view: &View, module: &Module, flop: &Cell) -> Result<Option<Reach>, Memory>
     ensures value { IfOk result (λ reach. (ports : Ports) → IsView view.now ports «module».now →
-        MatchOption reach (tree_of «module».now view.now.state flop.now ≡ None) (IsTreeFound «module».now view.now.state flop.now)) }
+        MatchOption reach (tree_of «module».now view.now.state flop.now ≡ None)
+        (IsTreeFound «module».now view.now.state flop.now)) }
 {
     let root = followed(view.alloc, view.index, at_pin(flop, PinName::D))?;
     match reached(view, module, root.as_slice())? {

@@ -34,7 +34,8 @@ pub(crate) enum Step {
 impl<'a> View<'a> {
     /// What a followed signal is.
     pub(crate) fn step(&self, signal: &[SigBit]) -> Result<Step, Memory>
-        ensures value { IfOk result (λ step. (ports : Ports) (m : Module) → IsView self.now ports m → step ≡ step_of m self.now.state signal.now) }
+        ensures value { IfOk result (λ step. (ports : Ports) (m : Module) → IsView self.now ports m →
+            step ≡ step_of m self.now.state signal.now) }
     {
         if is_leaf(self.state.as_slice(), signal) {
             return Ok(Step::Leaf);

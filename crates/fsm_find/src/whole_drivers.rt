@@ -6,9 +6,9 @@ ghost use Rattle.fsm_parts.specs.SignalTable.{place_in};
 ghost use Rattle.fsm_find.specs.WholeDrivers.{driving_pin, first_giving, gives, is_part};
 
 use cell_types::{CellKind, PinName};
-use fsm_parts::{SignalTable, at_pin, cell_kind, is_flop, is_fork};
+use fsm_parts::{SignalTable, at_pin, is_flop, is_fork};
 use rtl_bits::Memory;
-use rtl_ir::Cell;
+use rtl_ir::{Cell, cell_kind};
 use std::alloc::Global;
 
 /// What of a machine drives a signal as a whole.
@@ -48,7 +48,8 @@ pub(crate) fn whole_drivers(
     part: Part,
     cells: &[Cell],
 ) -> Result<SignalTable, Memory>
-    ensures value { IfOk result (λ drivers. (signal : List SigBit) → place_in drivers signal ≡ first_giving part cells.now signal) }
+    ensures value { IfOk result (λ drivers. (signal : List SigBit) →
+        place_in drivers signal ≡ first_giving part cells.now signal) }
 {
     let mut drivers = SignalTable::none(alloc);
     for at in (0..cells.len()).rev() {
@@ -65,7 +66,8 @@ fn note(
     at: usize,
     cell: &Cell,
 ) -> Result<(), Memory>
-    ensures ok { OnOk result ((signal : List SigBit) → place_in drivers.new signal ≡ (if gives part cell.now signal then Some at else place_in drivers.old signal)) }
+    ensures ok { OnOk result ((signal : List SigBit) →
+        place_in drivers.new signal ≡ (if gives part cell.now signal then Some at else place_in drivers.old signal)) }
 {
     if !part.takes(cell_kind(cell)) {
         return Ok(());

@@ -15,7 +15,8 @@ use Rattle.rtl_ir.specs.declared.wire.Wire.{Wire}
 use Rattle.rtl_ir.specs.Flat.Cell.{Ports}
 use Rattle.rtl_ir.specs.Flat.Place.{Frame, OfWire, Path}
 use Rattle.rtl_ir.specs.Flat.Point.{bit_place, name_or_empty, point, point_at, points}
-use Rattle.rtl_ir.specs.Follow.{Join, all_joins, back, end_within, follow, follow_joins}
+use Rattle.rtl_ir.specs.Follow.{all_joins, back, end_within, follow, follow_joins}
+use Rattle.rtl_ir.specs.declared.follow.Join.{Join}
 use Rattle.net_index.proofs.IndexEnds.{ends_all, ends_here, ends_later, ends_on, fixed_follows}
 use Rattle.net_model.specs.Fsm.Code.{Output}
 use Rattle.net_model.specs.Lists.{Apart, Distinct}

@@ -43,9 +43,10 @@ use Rattle.fsm_laws.specs.Recodes.{FlopPart, HasReset, IsPlain}
 use Rattle.fsm_laws.specs.States.{AreStates}
 use Rattle.fsm_laws.proofs.Arms.{has}
 use Rattle.fsm_laws.proofs.FlopKept.{adff_kept, dff_kept, starts_kept}
-use Rattle.fsm_laws.proofs.Hot.{adff_hot, dff_hot, rows_among, whole_get}
+use Rattle.fsm_laws.proofs.Hot.{adff_hot, dff_hot, rows_among}
 use Rattle.fsm_laws.proofs.RowsKept.{Keeps, bit_of, keeps_row, out_said}
 use Rattle.fsm_laws.proofs.States.{there_small}
+use Rattle.build_laws.proofs.CellValues.{whole_get}
 
 module _ (links : List Link) (wires fresh : List Wire) (named : Distinct (map (λ (w : Wire). w.name) wires)) (outputs : List Output) (width : ℕ) (states : List (List Bit)) (are : AreStates width states) (few : length states ≤ 65536) (code_wire : ℕ) (cells : List Cell) (more : List Link) (start : SigBit → Bit) (over : Ports) (frames : List Frame) (p : Path) (rows : List Driven) (there : (d : Driven) → In d (cells_rows start over p (wires ++ fresh) cells) → In d rows) where
   abbrev grown : List Wire

@@ -5,7 +5,7 @@ use Rattle.std.proofs.Math.Nat.{mod-eq_of_lt}
 use Rattle.cell_types.specs.Shape.{small}
 use Rattle.cell_types.specs.declared.kind.CellKind.TheVariants.{Word}
 use Rattle.cell_types.specs.declared.word.WordKind.TheVariants.{Mux, Pmux}
-use Rattle.rtl_bits.proofs.Numbers.{number_of_bits_of}
+use Rattle.rtl_bits.proofs.NumberLemmas.{number_of_bits_of}
 use Rattle.rtl_bits.specs.Numbers.{bits_of, number_of}
 use Rattle.rtl_bits.specs.Tables.{mux_of}
 use Rattle.rtl_bits.specs.declared.bit.Bit.{Bit}

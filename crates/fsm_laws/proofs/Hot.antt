@@ -1,7 +1,6 @@
 -- The code has one bit that is 1 where all others are 0, in each step from the start on.
-use Rattle.std.proofs.Common.{◌≡◌, ◌<◌, ◌≤◌, ℕ, zero, suc, ◌+◌, ◌*◌, List, [], ◌∷◌, length, map, Option, Some, None, inl, inr, refl, sym, ◌∙◌, ap, subst, arith}
+use Rattle.std.proofs.Common.{◌≡◌, ◌<◌, ◌≤◌, ℕ, zero, suc, ◌+◌, ◌*◌, List, [], ◌∷◌, length, Option, Some, None, inl, inr, refl, sym, ◌∙◌, ap, subst}
 use Rattle.std.specs.Prelude.{flat_map, replicate, slice_get, slice_index_or}
-use Rattle.std.specs.List.{range_with_len}
 use Rattle.cell_gate.specs.Control.{active_of}
 use Rattle.cell_types.specs.declared.kind.CellKind.TheVariants.{Storage, Word}
 use Rattle.cell_types.specs.declared.level.Level.{Level}
@@ -48,6 +47,7 @@ use Rattle.fsm_laws.proofs.ForkKept.{has_get}
 use Rattle.fsm_laws.proofs.Forks.{mux_like_gives, pmux_like_gives, read_at}
 use Rattle.fsm_laws.proofs.Parts.{joined_bit, joined_end}
 use Rattle.fsm_laws.proofs.States.{constant_hot}
+use Rattle.build_laws.proofs.CellValues.{whole_get}
 
 -- the rows of one cell are among those of all
 pub rows_among : (start : SigBit → Bit) (ports : Ports) (p : Path) (wires : List Wire) (cells : List Cell) (c : Cell) → In c cells → (d : Driven) → In d (cell_rows start ports p wires c (cell_kind c)) → In d (cells_rows start ports p wires cells)
@@ -56,21 +56,6 @@ rows_among start ports p wires (x ∷ cells) c (inl e) d j =
     In-left d _ _ (subst (λ z. In d (cell_rows start ports p wires z (cell_kind z))) e j)
 rows_among start ports p wires (x ∷ cells) c (inr i) d j =
     In-right d (cell_rows start ports p wires x (cell_kind x)) _ (rows_among start ports p wires cells c i d j)
-
-wire_got : (wire from width k : ℕ) → k < width → slice_get (map OnWire (map (λ at. record { wire = wire; at = at }) (range_with_len from width))) k ≡ Some (OnWire (record { wire = wire; at = from + k }))
-wire_got wire from zero k lt = absurd (omega (arith, lt))
-wire_got wire from (suc n) zero lt =
-    let here : from ≡ from + 0 = omega arith in
-    ap (λ z. Some (OnWire (record { wire = wire; at = z }))) here
-wire_got wire from (suc n) (suc k) lt =
-    let later : (from + 1) + k ≡ from + suc k = omega arith in
-    wire_got wire (from + 1) n k (omega (arith, lt)) ∙ ap (λ z. Some (OnWire (record { wire = wire; at = z }))) later
-
--- a bit of a whole wire
-pub whole_get : (wire width k : ℕ) → k < width → slice_get (whole wire width) k ≡ Some (OnWire (record { wire = wire; at = k }))
-whole_get wire width k lt =
-    let here : 0 + k ≡ k = omega arith in
-    wire_got wire 0 width k lt ∙ ap (λ z. Some (OnWire (record { wire = wire; at = z }))) here
 
 has_unknown : (p : Path) (wires : List Wire) (w : Valuation) (n k : ℕ) → has p wires w (replicate n (Fixed X)) k ≡ X
 has_unknown p wires w zero k = refl

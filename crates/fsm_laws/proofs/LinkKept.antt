@@ -14,7 +14,8 @@ use Rattle.rtl_ir.specs.Flat.Driver.{Driven, Joined}
 use Rattle.rtl_ir.specs.Flat.Link as flat
 use Rattle.rtl_ir.specs.Flat.Place.{Frame, OfWire, Path, Place}
 use Rattle.rtl_ir.specs.Flat.Point.{name_or_empty, point, points}
-use Rattle.rtl_ir.specs.Follow.{Join, all_joins, back, follow, joins}
+use Rattle.rtl_ir.specs.Follow.{all_joins, back, follow, joins}
+use Rattle.rtl_ir.specs.declared.follow.Join.{Join}
 use Rattle.net_model.proofs.Members.{In-cases, In-left, In-right}
 use Rattle.net_model.specs.Fsm.Code.{Output}
 use Rattle.net_model.specs.Lists.{Distinct, In}

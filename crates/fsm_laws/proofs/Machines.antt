@@ -9,7 +9,7 @@ use Rattle.rtl_ir.specs.declared.module.Module.{Module}
 use Rattle.rtl_ir.specs.declared.wire.Wire.{Wire}
 use Rattle.rtl_ir.specs.Flat.Cell.{cell_kind}
 use Rattle.rtl_ir.specs.Types.{Ports}
-use Rattle.rtl_ir.specs.WritePorts.{same_signal}
+use Rattle.rtl_ir.specs.Signals.{same_signal}
 use Rattle.net_model.specs.Fsm.Find.{Tree, at_pin, if_machine, is_flop, is_machine, machine_by, machine_of, made_machine, may_be_state, place_where, tree_of, whole_wire}
 use Rattle.fsm_laws.specs.Machines.{IsFoundMachine}
 

@@ -21,27 +21,24 @@ use Rattle.rtl_ir.specs.Flat.Place.{Frame, OfWire, Path, Place, Spot}
 use Rattle.rtl_ir.specs.Flat.Point.{bit_place, name_or_empty, point}
 use Rattle.rtl_ir.specs.Flat.Rows.{plain_rows, rows_of}
 use Rattle.rtl_ir.specs.Flat.Start.{start_of}
-use Rattle.rtl_ir.specs.Flat.Tree as flat
 use Rattle.rtl_ir.specs.Follow.{follow}
 use Rattle.rtl_ir.specs.declared.cell.Cell.{Cell}
 use Rattle.rtl_ir.specs.declared.module.Link.{Link}
 use Rattle.rtl_ir.specs.declared.module.Module.{Module}
-use Rattle.rtl_ir.specs.declared.wire.Role.TheVariants.{Input}
 use Rattle.rtl_ir.specs.declared.wire.Wire.{Wire}
 use Rattle.net_model.proofs.Grown.{grown_refines, ports_more}
-use Rattle.net_model.proofs.GrowingMore.{rows_more}
 use Rattle.net_model.proofs.Lifted.{related, row_stays}
 use Rattle.net_model.proofs.Members.{In-cases, In-left, In-right}
 use Rattle.net_model.proofs.Relating.{reached_solved, solved_within}
 use Rattle.net_model.specs.Fsm.Code.{Output}
 use Rattle.net_model.specs.Fsm.Find.{at_pin}
-use Rattle.net_model.specs.Lists.{Distinct, In}
-use Rattle.net_model.specs.Refine.{IsWellDriven, RefinesOver, Solved, places_of}
+use Rattle.net_model.specs.Lists.{In}
+use Rattle.net_model.specs.Refine.{RefinesOver, Solved}
 use Rattle.net_model.specs.Relate.{KeepsTo, Reached, Related, RowsRelate, SameMoment}
 use Rattle.net_model.specs.Run.{Time}
 use Rattle.net_model.specs.Valuation.{Valuation}
 use Rattle.net_model.specs.Value.{value_of}
-use Rattle.net_model.specs.Within.{AreInner, IsWithin, with_wires}
+use Rattle.net_model.specs.Within.{IsWithin, with_wires}
 use Rattle.pass_laws.proofs.Driving.{own_driver, own_row, row_of}
 use Rattle.pass_laws.proofs.Passes.{refines_in_turn}
 use Rattle.pass_laws.proofs.Rewriting.{links-append}
@@ -57,6 +54,7 @@ use Rattle.fsm_laws.proofs.FlopRows.{code_hot, flop_keeps}
 use Rattle.fsm_laws.proofs.Hot.{rows_among}
 use Rattle.fsm_laws.proofs.LinkKept.{link_kept, row_join}
 use Rattle.fsm_laws.proofs.RowsKept.{Keeps, mux_keeps, pmux_keeps}
+use Rattle.build_laws.proofs.Built.{still_driven}
 
 -- a row of cells is one of a cell
 row_from : (begun : SigBit → Bit) (ports : Ports) (p : Path) (ws : List Wire) (cells : List Cell) (x : Driven) → In x (cells_rows begun ports p ws cells) → (c : Cell) × (In c cells × In x (cell_rows begun ports p ws c (cell_kind c)))
@@ -66,15 +64,6 @@ row_from begun ports p ws (c ∷ cells) x i =
     (λ l. (c, (inl refl, l)))
     (λ r. let k = row_from begun ports p ws cells x r in (k.0, (inr k.1.0, k.1.1)))
     (In-cases x (cell_rows begun ports p ws c (cell_kind c)) (cells_rows begun ports p ws cells) i)
-
--- fresh wires give no bit a second driver
-still_driven : (m : Module) (fresh : List Wire) → AreInner fresh → IsWithin m → (ports : Ports) → IsWellDriven ports m → IsWellDriven ports (with_wires fresh m)
-still_driven m fresh inner within ports h = record {
-  inputs = λ p. subst (λ lines. Distinct (flat.places (flat.role_points Input p lines))) (sym (ports_more m.wires fresh inner)) (h.inputs p);
-  rows = λ p. subst (λ rows. Distinct (places_of rows)) (sym (rows_more ports p m fresh within)) (h.rows p);
-  apart = λ p x i at n j. h.apart p x (subst (In x) (rows_more ports p m fresh within) i) at n (subst (In n) (ports_more m.wires fresh inner) j);
-  instances = h.instances;
-}
 
 longer : (f : Frame) (p : Path) → f ∷ p ≡ p → ⊥
 longer f p e = let n : length (f ∷ p) ≡ length p = ap length e in absurd (omega arith)

@@ -8,8 +8,7 @@ use Rattle.rtl_bits.specs.Knowledge.{AreKnown, all_known}
 use Rattle.rtl_bits.specs.Numbers.{number_of}
 use Rattle.rtl_bits.specs.declared.bit.Bit.{Bit}
 use Rattle.rtl_sig.specs.declared.sig.SigBit.{SigBit}
-use Rattle.rtl_ir.specs.Faults.MemoryCells.{constant_of}
-use Rattle.rtl_ir.specs.Signals.{is_all_constant}
+use Rattle.rtl_ir.specs.Signals.{is_all_constant, constant_of}
 use Rattle.net_model.proofs.Members.{In-cases, In-left, In-map, In-mapped, In-right}
 use Rattle.net_model.specs.Fsm.Find.{in_state_order, is_state_constant, known_leaves, known_start, option_state}
 use Rattle.net_model.specs.Lists.{In}

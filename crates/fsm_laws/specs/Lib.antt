@@ -9,3 +9,5 @@ pub mod Flops
 pub mod Trees
 pub mod Recodes
 pub mod Machines
+pub mod Short
+pub mod Inside

@@ -7,7 +7,7 @@ use Rattle.rtl_ir.specs.declared.module.Module.{Module}
 use Rattle.rtl_ir.specs.declared.wire.Wire.{Wire}
 use Rattle.rtl_ir.specs.Flat.Cell.{cell_kind}
 use Rattle.rtl_ir.specs.Types.{Ports}
-use Rattle.rtl_ir.specs.WritePorts.{same_signal}
+use Rattle.rtl_ir.specs.Signals.{same_signal}
 use Rattle.net_model.specs.Fsm.Find.{Tree, at_pin, is_flop, is_machine, made_machine, may_be_state, tree_of, whole_wire}
 
 -- its wire, its flip-flop and its tree, and what was asked of it

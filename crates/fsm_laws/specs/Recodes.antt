@@ -30,7 +30,8 @@ use Rattle.rtl_ir.specs.Parameters.{given_params}
 use Rattle.rtl_ir.specs.declared.cell.Cell.{Cell}
 use Rattle.rtl_ir.specs.declared.module.Link.{Link}
 use Rattle.rtl_ir.specs.declared.wire.Wire.{Wire}
-use Rattle.rtl_ir.specs.Follow.{Join, all_joins, back, follow}
+use Rattle.rtl_ir.specs.Follow.{all_joins, back, follow}
+use Rattle.rtl_ir.specs.declared.follow.Join.{Join}
 use Rattle.net_model.specs.Fsm.Code.{Output, code_of, inverse_cell, or_zero, state_bit, with_zeros}
 use Rattle.net_model.specs.Fsm.Find.{at_pin, parts_of}
 use Rattle.net_model.specs.Lists.{Distinct, In}

@@ -1,5 +1,6 @@
-//! Laws of the step in which the state of a machine gets the code with one bit for each state.
+//! Laws of the pass `fsm`, in which the states of machines get the code with one bit for each state.
 #![tactic(auto)]
 
 pub mod choosing;
+pub mod forming;
 pub mod refining;

@@ -4,7 +4,7 @@ use Rattle.std.specs.Option.{option_or}
 use Rattle.std.specs.Str.{bytes_eq}
 use Rattle.std.proofs.lemmas.Slice.Eq.{bytes_eq-Decides}
 use Rattle.rtl_sig.specs.declared.sig.SigBit.{SigBit}
-use Rattle.rtl_ir.specs.WritePorts.{same_signal}
+use Rattle.rtl_ir.specs.Signals.{same_signal}
 use Rattle.fsm_parts.specs.declared.signal_table.SignalTable.{SignalTable}
 use Rattle.fsm_parts.specs.SignalTable.{at_key, key_of, place_in}
 use Rattle.fsm_parts.proofs.Keys.{key_same}

@@ -7,7 +7,7 @@ use Rattle.rtl_bits.specs.declared.bit.Bit.{Bit}
 use Rattle.rtl_bits.specs.declared.bit.Bit.TheVariants.{S0, S1, X, Z, M, Dash}
 use Rattle.rtl_sig.specs.declared.sig.SigBit.{SigBit}
 use Rattle.rtl_sig.specs.declared.sig.SigBit.TheVariants.{Fixed, Wire as OnWire}
-use Rattle.rtl_ir.specs.WritePorts.{same_signal, same_value}
+use Rattle.rtl_ir.specs.Signals.{same_signal, same_value}
 use Rattle.fsm_parts.specs.SignalTable.{bit_number, key_of}
 
 number_same : (a b : Bit) → (bit_number a == bit_number b) ≡ same_value a b

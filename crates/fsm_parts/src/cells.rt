@@ -5,7 +5,7 @@ ghost use Rattle.rtl_ir.specs.Parameters.{signal_at};
 ghost use Rattle.net_model.specs.Fsm.Find.{at_pin};
 
 use cell_types::PinName;
-use rtl_ir::{Cell, Pin};
+use rtl_ir::{Cell, signal_at};
 use rtl_sig::SigBit;
 
 /// The signal at a pin of a cell, no bits where there is none.
@@ -13,18 +13,6 @@ pub fn at_pin(cell: &Cell, pin: PinName) -> &[SigBit]
     ensures value { result.now ≡ at_pin cell.now pin }
 {
     signal_at(cell.pins.as_slice(), pin.text())
-}
-
-/// The signal at the pin of this name, no bits where there is none.
-fn signal_at<'a>(pins: &'a [Pin], name: &[u8]) -> &'a [SigBit]
-    ensures value { result.now ≡ signal_at pins.now name.now }
-{
-    for pin in pins {
-        if pin.name.as_slice() == name {
-            return pin.sig.as_slice();
-        }
-    }
-    &[]
 }
 
 /// The cell at a place of the list, where there is one.

@@ -18,7 +18,8 @@ use std::alloc::Global;
 
 /// The values that a `$mux` or a `$pmux` chooses from, followed: A, and the parts of B.
 pub fn arms(alloc: Global, index: &Index, cell: &Cell) -> Result<Vec<SigSpec>, Memory>
-    ensures value { IfOk result (λ arms. (ports : Ports) (m : Module) → IsIndex index.now ports m → arms.items ≡ map (map (follow m.links)) (arms_of cell.now)) }
+    ensures value { IfOk result (λ arms. (ports : Ports) (m : Module) → IsIndex index.now ports m →
+        arms.items ≡ map (map (follow m.links)) (arms_of cell.now)) }
 {
     let a = at_pin(cell, PinName::A);
     let mut arms = Vec::new(alloc);
@@ -35,7 +36,8 @@ fn push_parts(
     width: usize,
     signal: &[SigBit],
 ) -> Result<(), Memory>
-    ensures ok { OnOk result ((ports : Ports) (m : Module) → IsIndex index.now ports m → arms.new.items ≡ arms.old.items ++ map (map (follow m.links)) (parts_of (length signal.now) width signal.now)) }
+    ensures ok { OnOk result ((ports : Ports) (m : Module) → IsIndex index.now ports m →
+        arms.new.items ≡ arms.old.items ++ map (map (follow m.links)) (parts_of (length signal.now) width signal.now)) }
 {
     let mut from = 0;
     for _part in 0..signal.len() {

@@ -1,19 +1,9 @@
 //! The kinds of cells that a machine is made of.
 
 ghost use Rattle.std.specs.Prelude.{◌≡◌};
-ghost use Rattle.rtl_ir.specs.Flat.Cell.{cell_kind};
 ghost use Rattle.net_model.specs.Fsm.Find.{has_reset, is_compare, is_flop, is_fork};
 
-use cell_types::{CellKind, EqualKind, StorageKind, WordKind, kind_of};
-use rtl_ir::Cell;
-
-/// The kind of a cell of the library, None for an instance.
-#[tactic(auto, unfolding(rtl_ir::specs::Flat::Cell::cell_kind))]
-pub fn cell_kind(cell: &Cell) -> Option<CellKind>
-    ensures value { result ≡ cell_kind cell.now }
-{
-    kind_of(cell.kind_name.as_slice())
-}
+use cell_types::{CellKind, EqualKind, StorageKind, WordKind};
 
 /// Whether it is a `$dff` or an `$adff`.
 pub fn is_flop(kind: Option<CellKind>) -> bool

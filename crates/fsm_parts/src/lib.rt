@@ -4,13 +4,11 @@
 mod cells;
 mod forks;
 mod kinds;
-mod numbers;
 mod signal_table;
 mod signals;
 
 pub use cells::{at_pin, cell_at};
 pub use forks::arms;
-pub use kinds::{cell_kind, has_reset, is_compare, is_flop, is_fork};
-pub use numbers::number_of;
+pub use kinds::{has_reset, is_compare, is_flop, is_fork};
 pub use signal_table::SignalTable;
-pub use signals::{constants, followed, is_leaf, is_state_constant, same_signal, whole_wire};
+pub use signals::{followed, is_leaf, is_state_constant, whole_wire};

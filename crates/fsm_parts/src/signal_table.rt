@@ -4,7 +4,7 @@ ghost use Rattle.std.specs.Prelude.{◌≡◌, ◌++◌, ℕ, List, IfOk, None, 
 ghost use Rattle.std.specs.Option.{option_or};
 ghost use Rattle.std.specs.Str.{bytes_eq};
 ghost use Rattle.rtl_sig.specs.declared.sig.SigBit.{SigBit};
-ghost use Rattle.rtl_ir.specs.WritePorts.{same_signal};
+ghost use Rattle.rtl_ir.specs.Signals.{same_signal};
 ghost use Rattle.fsm_parts.specs.SignalTable.{at_key, bit_number, key_of, place_in, place_numbers};
 
 use rtl_bits::{Bit, Memory};
@@ -30,7 +30,8 @@ impl SignalTable {
 
     /// The signal has this place.
     pub fn put(&mut self, alloc: Global, signal: &[SigBit], at: usize) -> Result<(), Memory>
-        ensures ok { OnOk result ((other : List SigBit) → place_in self.new other ≡ (if same_signal signal.now other then Some at else place_in self.old other)) }
+        ensures ok { OnOk result ((other : List SigBit) →
+            place_in self.new other ≡ (if same_signal signal.now other then Some at else place_in self.old other)) }
     {
         let key = key_of(alloc, signal)?;
         self.put_key(key, at)?;
@@ -39,7 +40,9 @@ impl SignalTable {
 
     /// The signal has this place, where it had none.
     pub fn put_first(&mut self, alloc: Global, signal: &[SigBit], at: usize) -> Result<(), Memory>
-        ensures ok { OnOk result ((other : List SigBit) → place_in self.new other ≡ option_or (place_in self.old other) (if same_signal signal.now other then Some at else None)) }
+        ensures ok { OnOk result ((other : List SigBit) →
+            place_in self.new other ≡ option_or (place_in self.old other) (if same_signal signal.now other then Some at
+            else None)) }
     {
         let key = key_of(alloc, signal)?;
         match self.find_key(key.as_slice()) {
@@ -53,7 +56,8 @@ impl SignalTable {
 
     /// The key has this place.
     fn put_key(&mut self, key: Vec<u64>, at: usize) -> Result<(), Memory>
-        ensures ok { OnOk result ((other : List ℕ) → at_key self.new other ≡ (if bytes_eq key.items other then Some at else at_key self.old other)) }
+        ensures ok { OnOk result ((other : List ℕ) →
+            at_key self.new other ≡ (if bytes_eq key.items other then Some at else at_key self.old other)) }
     {
         self.places.insert(key, at)?;
         Ok(())

@@ -5,97 +5,17 @@ ghost use Rattle.std.specs.List.{list_any};
 ghost use Rattle.rtl_bits.specs.Knowledge.{all_known, is_known};
 ghost use Rattle.rtl_ir.specs.declared.module.Module.{Module};
 ghost use Rattle.rtl_ir.specs.declared.wire.Wire.{Wire};
-ghost use Rattle.rtl_ir.specs.Faults.MemoryCells.{constant_of};
 ghost use Rattle.rtl_ir.specs.Follow.{follow};
-ghost use Rattle.rtl_ir.specs.Signals.{is_all_constant, is_constant};
+ghost use Rattle.rtl_ir.specs.Signals.{is_all_constant, constant_of, same_signal};
 ghost use Rattle.rtl_ir.specs.Types.{Ports};
-ghost use Rattle.rtl_ir.specs.WritePorts.{same_place, same_signal, same_value};
 ghost use Rattle.net_index.specs.Index.{IsIndex};
 ghost use Rattle.net_model.specs.Fsm.Find.{is_leaf, is_state_constant, is_unknown, whole_wire};
 
 use net_index::{Index, whole};
-use rtl_bits::{Bit, Bits, Memory};
+use rtl_bits::Memory;
+use rtl_ir::{constant_of, is_all_constant, same_signal};
 use rtl_sig::{SigBit, SigSpec};
 use std::alloc::Global;
-
-/// Whether two bits are one: one bit of a wire, or one constant, where x and z differ.
-pub fn same_place(a: SigBit, b: SigBit) -> bool
-    ensures value { result ≡ same_place a b }
-{
-    match (a, b) {
-        (SigBit::Fixed(a), SigBit::Fixed(b)) => same_value(a, b),
-        (SigBit::Wire(a), SigBit::Wire(b)) => a.wire == b.wire && a.at == b.at,
-        _ => false,
-    }
-}
-
-/// Whether two of the six values are one.
-fn same_value(a: Bit, b: Bit) -> bool
-    ensures value { result ≡ same_value a b }
-{
-    match (a, b) {
-        (Bit::S0, Bit::S0) => true,
-        (Bit::S1, Bit::S1) => true,
-        (Bit::X, Bit::X) => true,
-        (Bit::Z, Bit::Z) => true,
-        (Bit::M, Bit::M) => true,
-        (Bit::Dash, Bit::Dash) => true,
-        _ => false,
-    }
-}
-
-/// Whether two signals are one, place by place.
-pub fn same_signal(a: &[SigBit], b: &[SigBit]) -> bool
-    ensures value { result ≡ same_signal a.now b.now }
-{
-    if a.len() != b.len() {
-        return false;
-    }
-    for at in 0..a.len() {
-        if !same_place(a[at], b[at]) {
-            return false;
-        }
-    }
-    true
-}
-
-/// A constant as itself, any other bit as x.
-fn constant_of(bit: SigBit) -> Bit
-    ensures value { result ≡ constant_of bit }
-{
-    match bit {
-        SigBit::Fixed(value) => value,
-        SigBit::Wire(_) => Bit::X,
-    }
-}
-
-/// The bits of a signal, those that are not constant as x.
-pub fn constants(alloc: Global, signal: &[SigBit]) -> Result<Bits, Memory>
-    ensures value { IfOk result (λ bits. bits ≡ map constant_of signal.now) }
-{
-    let mut bits = Bits::make(alloc);
-    for bit in signal {
-        bits.push(constant_of(*bit))?;
-    }
-    Ok(bits)
-}
-
-/// Whether the bit is constant.
-fn is_constant(bit: SigBit) -> bool
-    ensures value { result ≡ is_constant bit }
-{
-    match bit {
-        SigBit::Fixed(_) => true,
-        SigBit::Wire(_) => false,
-    }
-}
-
-/// Whether all bits are constant.
-fn is_all_constant(signal: &[SigBit]) -> bool
-    ensures value { result ≡ is_all_constant signal.now }
-{
-    signal.iter().all(|bit| is_constant(*bit))
-}
 
 /// Whether each bit is known, where those that are not constant count as x.
 fn are_known(signal: &[SigBit]) -> bool
@@ -144,7 +64,8 @@ pub fn is_leaf(state: &[SigBit], signal: &[SigBit]) -> bool
 
 /// Where the bits of the signal lead back to.
 pub fn followed(alloc: Global, index: &Index, signal: &[SigBit]) -> Result<SigSpec, Memory>
-    ensures value { IfOk result (λ bits. (ports : Ports) (m : Module) → IsIndex index.now ports m → bits ≡ map (follow m.links) signal.now) }
+    ensures value { IfOk result (λ bits. (ports : Ports) (m : Module) → IsIndex index.now ports m →
+        bits ≡ map (follow m.links) signal.now) }
 {
     let mut bits = SigSpec::make(alloc);
     for bit in signal {

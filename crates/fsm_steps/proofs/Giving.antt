@@ -3,9 +3,7 @@ use Rattle.std.proofs.Common.{◌≡◌, ◌+◌, ℕ, zero, suc, Bool, true, fa
 use Rattle.std.specs.Prelude.{IfOk, OnOk}
 use Rattle.std.specs.Option.{option_map_or}
 use Rattle.std.proofs.lemmas.Bool.{and_parts}
-use Rattle.rtl_ir.specs.Flat.Cell.{Ports as FlatPorts, instances}
-use Rattle.rtl_ir.specs.Flat.Tree as tree
-use Rattle.rtl_ir.specs.Ports.{ports_of}
+use Rattle.std.proofs.lemmas.Result.{IfOk-weaker}
 use Rattle.rtl_ir.specs.Types.{Ports, table_ports}
 use Rattle.rtl_ir.specs.declared.machine.Machine.{Machine}
 use Rattle.rtl_ir.specs.declared.module.Module.{Module}
@@ -13,16 +11,15 @@ use Rattle.rtl_ir.specs.declared.ports.PortTable.{PortTable}
 use Rattle.net_index.specs.declared.builder_fault.PassFault.{PassFault}
 use Rattle.net_model.specs.Fsm.Code.{fsm_of, recoded_of}
 use Rattle.net_model.specs.Fsm.Find.{machine_of}
-use Rattle.net_model.specs.Refine.{IsWellDriven, RefinesIn}
-use Rattle.net_model.proofs.Composing.{RefinesOver_refl}
-use Rattle.pass_laws.specs.Pass.{IsPass}
+use Rattle.pass_laws.specs.Pass.{IsPass, StaysDriven}
 use Rattle.pass_laws.specs.Ready.{IsReady}
+use Rattle.pass_laws.proofs.Passes.{IsPass_refl}
 use Rattle.fsm_code.proofs.Giving.{short_within}
 use Rattle.fsm_code.specs.Limits.{widened}
-use Rattle.fsm_forms.specs.Short.{AreShort, IsShortIf}
-use Rattle.fsm_forms.proofs.InTurn.{IsFormed, all_formed}
-use Rattle.fsm_found.proofs.Refined.{machines_refine}
-use Rattle.fsm_found.proofs.Insides.{inside_drives}
+use Rattle.fsm_laws.specs.Short.{AreShort, IsShortIf}
+use Rattle.fsm_laws.proofs.InTurn.{IsFormed, all_formed}
+use Rattle.fsm_laws.proofs.MachinesRefined.{machines_refine}
+use Rattle.fsm_laws.proofs.Insides.{inside_drives}
 use Rattle.fsm_steps.specs.Within.{are_within, fsm_within, machine_within, machines_within}
 use Rattle.opt_clean.specs.Clean.{is_all_inside}
 use Rattle.fsm_steps.proofs.Turns.{within_limits}
@@ -41,13 +38,9 @@ are_short ports at (suc n) m e =
 
 -- what the pass promises, where nothing passes a limit
 pub record Gives (table : PortTable) (m n : Module) : Type 0 where
-  pub id : m.id ≡ n.id
-  pub ports : ports_of m.wires ≡ ports_of n.wires
-  pub instances : instances m.cells ≡ instances n.cells
+  pub pass : IsPass table m n
+  pub driven : StaysDriven m n
   pub memories : n.memories ≡ m.memories
-  pub driven : (over : FlatPorts) → IsWellDriven over m → IsWellDriven over n
-  pub ready : IsReady (table_ports table.modules) n
-  pub refines : RefinesIn m n table
 
 module _ (table : PortTable) (m : Module) (ready : IsReady (table_ports table.modules) m) where
   all_given : is_all_inside m ≡ true → are_within (table_ports table.modules) 0 (length m.wires) m ≡ true → Gives table m (fsm_of (table_ports table.modules) m)
@@ -55,26 +48,21 @@ module _ (table : PortTable) (m : Module) (ready : IsReady (table_ports table.mo
       let short : AreShort (table_ports table.modules) 0 (length m.wires) m = are_short (table_ports table.modules) 0 (length m.wires) m e in
       let is : IsFormed (table_ports table.modules) m (fsm_of (table_ports table.modules) m) = all_formed (table_ports table.modules) m ready short in
       record {
-        id = is.id;
-        ports = is.same_ports;
-        instances = is.same_instances;
-        memories = sym is.memories;
+        pass = record {
+          refines = machines_refine table m ready (inside_drives (table_ports table.modules) m ready inside) short;
+          ready = λ h. is.ready;
+          driven = λ over agree. is.driven over;
+          id = is.id;
+          ports = is.same_ports;
+          instances = is.same_instances;
+        };
         driven = is.driven;
-        ready = is.ready;
-        refines = machines_refine table m ready (inside_drives (table_ports table.modules) m ready inside) short;
+        memories = sym is.memories;
       }
 
   -- of a module that stays as it is
   none_given : Gives table m m
-  none_given = record {
-    id = refl;
-    ports = refl;
-    instances = refl;
-    memories = refl;
-    driven = λ over h. h;
-    ready = ready;
-    refines = RefinesOver_refl m (tree.table_ports table);
-  }
+  none_given = record { pass = IsPass_refl table m; driven = λ over h. h; memories = refl }
 
   -- for the pass as one that may answer nothing
   pub fsm_gives : (n : Module) → fsm_within (table_ports table.modules) m ≡ Some n → Gives table m n
@@ -86,19 +74,9 @@ module _ (table : PortTable) (m : Module) (ready : IsReady (table_ports table.mo
       by true i false f g = absurd (cc)
       by false i s f g = let same : m ≡ n = cc in subst (Gives table m) same none_given
 
-  pub fsm_passes : (n : Module) → fsm_within (table_ports table.modules) m ≡ Some n → IsPass table m n
-  fsm_passes n e =
-      let all : Gives table m n = fsm_gives n e in
-      record { id = all.id; ports = all.ports; instances = all.instances; driven = λ over agree. all.driven over; ready = λ h. all.ready; refines = all.refines }
-
-  -- the memories stay
-  pub fsm_stores : (n : Module) → fsm_within (table_ports table.modules) m ≡ Some n → n.memories ≡ m.memories
-  fsm_stores n e = (fsm_gives n e).memories
-
   -- of what is answered
-  pub answer_gives : (Q : Module → Type 0) → ((n : Module) → Gives table m n → Q n) → (r : Result Module PassFault) → IfOk r (λ after. fsm_within (table_ports table.modules) m ≡ Some after) → IfOk r Q
-  answer_gives Q q (Ok after) e = q after (fsm_gives after e)
-  answer_gives Q q (Err fault) e = tt
+  pub answer_gives : (r : Result Module PassFault) → IfOk r (λ after. fsm_within (table_ports table.modules) m ≡ Some after) → IfOk r (Gives table m)
+  answer_gives r is = IfOk-weaker r (λ after. fsm_within (table_ports table.modules) m ≡ Some after) (Gives table m) fsm_gives is
 
 -- the answer by the limits
 module _ (ports : Ports) (m : Module) (inside : is_all_inside m ≡ true) where

@@ -4,11 +4,9 @@
 mod search;
 
 ghost use Rattle.std.specs.Prelude.{◌≡◌, [], true, false, Err, IfOk, None, OnOk, Some, length};
-ghost use Rattle.rtl_ir.specs.Flat.Cell.{Ports, instances};
-ghost use Rattle.rtl_ir.specs.Ports.{ports_of};
 ghost use Rattle.rtl_ir.specs.Types.{table_ports};
 ghost use Rattle.net_model.specs.Fsm.Code.{fsm_of};
-ghost use Rattle.net_model.specs.Refine.{IsWellDriven, RefinesIn};
+ghost use Rattle.pass_laws.specs.Pass.{IsPass, StaysDriven};
 ghost use Rattle.pass_laws.specs.Ready.{IsReady};
 ghost use Rattle.fsm_steps.specs.Within.{are_within, fsm_within};
 
@@ -20,25 +18,21 @@ use rtl_ir::{Module, PortTable};
 use std::alloc::Global;
 
 /// The module in which each machine has its code. The wires that there were before are asked in their order, each of
-/// the module that the one before it left. A module that names a bit that no wire has stays as it is. `Over` comes where
-/// one of the modules with the fresh wires of a machine would pass a limit on cells, on bits of wires or on fresh names.
-/// In the Yosys manual, the command `fsm`.
+/// the module that the one before it left. A module that names a bit that no wire has stays as it is. `Over` comes
+/// where one of the modules with the fresh wires of a machine would pass a limit on cells, on bits of wires or on fresh
+/// names. In the Yosys manual, the command `fsm`.
 pub fn apply(alloc: Global, module: Module, ports: &PortTable) -> Result<Module, PassFault>
     requires ready { IsReady (table_ports ports.now.modules) «module» }
     ensures exact { IfOk result (λ after. fsm_within (table_ports ports.now.modules) «module» ≡ Some after) }
     ensures over { result ≡ Err PassFault.Over → fsm_within (table_ports ports.now.modules) «module» ≡ None }
-    ensures refines { IfOk result (λ after. RefinesIn «module» after ports.now) }
-    ensures well_driven { IfOk result (λ after. (over : Ports) → IsWellDriven over «module» → IsWellDriven over after) }
-    ensures well_formed { IfOk result (IsReady (table_ports ports.now.modules)) }
-    ensures same_id { IfOk result (λ after. after.id ≡ «module».id) }
-    ensures same_ports { IfOk result (λ after. ports_of after.wires ≡ ports_of «module».wires) }
-    ensures same_instances { IfOk result (λ after. instances after.cells ≡ instances «module».cells) }
+    ensures pass { IfOk result (IsPass ports.now «module») }
+    ensures driven { IfOk result (StaysDriven «module») }
     ensures same_memories { IfOk result (λ after. after.memories ≡ «module».memories) }
 {
     coded(alloc, module, ports)
 }
 
-/// The same of a module without processes.
+/// The module with its machines in their codes, of a module without processes.
 fn coded(alloc: Global, module: Module, ports: &PortTable) -> Result<Module, PassFault>
     requires process_free { «module».processes ≡ [] }
     ensures exact { IfOk result (λ after. fsm_within (table_ports ports.now.modules) «module» ≡ Some after) }
@@ -54,8 +48,10 @@ fn coded(alloc: Global, module: Module, ports: &PortTable) -> Result<Module, Pas
 fn each_machine(alloc: Global, module: Module, ports: &PortTable) -> Result<Module, PassFault>
     requires process_free { «module».processes ≡ [] }
     ensures exact { IfOk result (λ after. after ≡ fsm_of (table_ports ports.now.modules) «module») }
-    ensures over { result ≡ Err PassFault.Over → are_within (table_ports ports.now.modules) 0 (length «module».wires) «module» ≡ false }
-    ensures within { OnOk result (are_within (table_ports ports.now.modules) 0 (length «module».wires) «module» ≡ true) }
+    ensures over { result ≡ Err PassFault.Over →
+        are_within (table_ports ports.now.modules) 0 (length «module».wires) «module» ≡ false }
+    ensures within { OnOk result (
+        are_within (table_ports ports.now.modules) 0 (length «module».wires) «module» ≡ true) }
 {
     let end = place_number(module.wires.as_slice().len())?;
     let mut after = module;

@@ -36,7 +36,8 @@ pub(crate) fn next_machine(
 ) -> Result<Option<Found>, Memory>
     requires process_free { «module».now.processes ≡ [] }
     ensures none { IfOk result (λ found. found ≡ None → HasNone (table_ports ports.now.modules) «module».now from end) }
-    ensures first { IfOk result (λ found. IfSome found (λ f. IsNext (table_ports ports.now.modules) «module».now from end f.wire f.machine)) }
+    ensures first { IfOk result (λ found. IfSome found (λ f.
+        IsNext (table_ports ports.now.modules) «module».now from end f.wire f.machine)) }
 {
     let finder = Finder::of(alloc, module, ports)?;
     for wire in from..end {

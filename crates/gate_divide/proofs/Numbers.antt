@@ -3,7 +3,7 @@ use Rattle.std.proofs.Common.{◌≡◌, ◌<◌, ◌≤◌, ℕ, zero, suc, ◌
 use Rattle.std.proofs.Math.Nat.{add-mul-mod_self_left, div-eq_of_lt-le, mod-eq_of_lt}
 use Rattle.std.proofs.lemmas.Nat.{pow_pos}
 use Rattle.cell_types.specs.declared.word.BitwiseKind.TheVariants.{Or}
-use Rattle.rtl_bits.proofs.Numbers.{number_of_small}
+use Rattle.rtl_bits.proofs.NumberLemmas.{number_of_small}
 use Rattle.rtl_bits.specs.Knowledge.{AreKnown, IsKnown}
 use Rattle.rtl_bits.specs.Numbers.{digit_of, number_of}
 use Rattle.rtl_bits.specs.Tables.{and_of, mux_of, not_of, or_of, xor_of}

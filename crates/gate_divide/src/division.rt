@@ -66,7 +66,8 @@ pub fn divided(
     divisor: &[SigBit],
     builder: &mut Builder,
 ) -> Result<Division, PassFault>
-    ensures exact { IfOk result (λ division. (division, builder.new) ≡ divided_of dividend.now divisor.now builder.old) }
+    ensures exact { IfOk result (λ division. (division, builder.new) ≡
+        divided_of dividend.now divisor.now builder.old) }
     ensures over { result ≡ Err PassFault.Over → PassesLimit (divided_of dividend.now divisor.now builder.old).1 }
     ensures within { IsInLimits builder.old → OnOk result (IsInLimits builder.new) }
 {

@@ -2,7 +2,16 @@
 
 ghost use Rattle.std.specs.Prelude.{◌≡◌, Err, IfOk, OnOk};
 ghost use Rattle.net_index.specs.Builder.{IsInLimits, PassesLimit};
-ghost use Rattle.gate_divide.specs.Rounding.{floor_quotient_of, floor_remainder_of, is_rounded_of, lowered_of, lowered_where, remainder_of, signs_differ, truncated_of};
+ghost use Rattle.gate_divide.specs.Rounding.{
+  floor_quotient_of,
+  floor_remainder_of,
+  is_rounded_of,
+  lowered_of,
+  lowered_where,
+  remainder_of,
+  signs_differ,
+  truncated_of,
+};
 
 use crate::signs::{negated_where, top_of};
 use crate::words::filled;
@@ -110,8 +119,10 @@ fn lowered(
     rest: &[SigBit],
     builder: &mut Builder,
 ) -> Result<SigSpec, PassFault>
-    ensures exact { IfOk result (λ word. (word, builder.new) ≡ lowered_of a.now differ quotient.now rest.now builder.old) }
-    ensures over { result ≡ Err PassFault.Over → PassesLimit (lowered_of a.now differ quotient.now rest.now builder.old).1 }
+    ensures exact { IfOk result (λ word. (word, builder.new) ≡
+        lowered_of a.now differ quotient.now rest.now builder.old) }
+    ensures over { result ≡ Err PassFault.Over →
+        PassesLimit (lowered_of a.now differ quotient.now rest.now builder.old).1 }
     ensures within { IsInLimits builder.old → OnOk result (IsInLimits builder.new) }
 {
     let whole = negated_where(alloc, quotient, differ, builder)?;
@@ -130,8 +141,10 @@ pub(crate) fn floor_quotient(
     rest: &[SigBit],
     builder: &mut Builder,
 ) -> Result<SigSpec, PassFault>
-    ensures exact { IfOk result (λ word. (word, builder.new) ≡ floor_quotient_of a.now b.now quotient.now rest.now builder.old) }
-    ensures over { result ≡ Err PassFault.Over → PassesLimit (floor_quotient_of a.now b.now quotient.now rest.now builder.old).1 }
+    ensures exact { IfOk result (λ word. (word, builder.new) ≡
+        floor_quotient_of a.now b.now quotient.now rest.now builder.old) }
+    ensures over { result ≡ Err PassFault.Over →
+        PassesLimit (floor_quotient_of a.now b.now quotient.now rest.now builder.old).1 }
     ensures within { IsInLimits builder.old → OnOk result (IsInLimits builder.new) }
 {
     let differ = signs_differ(alloc, a, b, builder)?;

@@ -10,7 +10,7 @@ use Rattle.rtl_ir.specs.declared.module.Link.{Link}
 use Rattle.rtl_ir.specs.declared.module.Module.{Module}
 use Rattle.rtl_sig.specs.declared.sig.SigBit.{SigBit}
 use Rattle.net_model.proofs.Ranges.{each_both, each_flat_map, each_more, each_none}
-use Rattle.net_model.specs.Fsm.Find.{is_kept}
+use Rattle.rtl_ir.specs.Attributes.{is_kept}
 use Rattle.net_model.specs.Within.{Each}
 use Rattle.follow_laws.specs.Inputs.{followed_cell}
 use Rattle.expr_rules.specs.declared.change.Change.{Change}

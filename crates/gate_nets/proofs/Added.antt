@@ -7,7 +7,8 @@ use Rattle.rtl_ir.specs.declared.cell.Cell.{Cell}
 use Rattle.rtl_ir.specs.declared.wire.Wire.{Wire}
 use Rattle.net_index.specs.Builder.{IsInLimits}
 use Rattle.net_index.specs.BuilderNames.{gate_name}
-use Rattle.map_laws.proofs.Expanding.{adds_more, adds_none, limits_before}
+use Rattle.map_laws.proofs.Expanding.{adds_more, adds_none}
+use Rattle.gate_nets.proofs.LimitsKept.{limits_before}
 use Rattle.map_laws.specs.Expansion.{Adds}
 use Rattle.gate_nets.specs.Gate.{bit_of, gate_of, inputs_of, kind_of, one}
 use Rattle.gate_nets.specs.Reading.{gates_of}

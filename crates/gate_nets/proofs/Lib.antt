@@ -1,5 +1,6 @@
 pub mod Nets
 pub mod Adding
+pub mod LimitsKept
 pub mod Added
 pub mod Steps
 pub mod Limits

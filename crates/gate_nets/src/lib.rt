@@ -13,6 +13,6 @@ pub use adder::{Total, negate, sum};
 pub use folding::fold;
 pub use gate::{Gate, add_gate, gate_for, one};
 pub use laws::{folds_join, inverses_invert, sums_add};
-pub use operand::{extended, fill_of, greater_width, operand_of, pin_signal};
+pub use operand::{greater_width, operand_of, pin_signal};
 pub use output::give;
 pub use words::{bitwise, invert, select};

@@ -8,20 +8,7 @@ use rtl_read::{ReadFault, read};
 use rtl_sig::{SigBit, WireBit};
 use std::alloc::Global;
 use std::process::ExitCode;
-use synth_io::{StdSource, read_input};
-
-/// The byte between two rows, and that between two fields of a row.
-const BETWEEN_ROWS: u8 = 254;
-
-const BETWEEN_FIELDS: u8 = 255;
-
-/// What the rows come to.
-#[derive(Drop)]
-struct Tally {
-    rows: u32,
-    /// How many rows do not hold.
-    bad: u32,
-}
+use table_rows::{TEXTS, Tally, letter, report};
 
 /// The design of the text, where it is one.
 fn design_of(alloc: Global, text: &[u8]) -> Result<Option<Design>, Memory> {
@@ -29,18 +16,6 @@ fn design_of(alloc: Global, text: &[u8]) -> Result<Option<Design>, Memory> {
         Ok(design) => Ok(Some(design)),
         Err(ReadFault::Memory) => Err(Memory),
         Err(_) => Ok(None),
-    }
-}
-
-/// The letter of a constant.
-fn letter(bit: Bit) -> u8 {
-    match bit {
-        Bit::S0 => b'0',
-        Bit::S1 => b'1',
-        Bit::X => b'x',
-        Bit::Z => b'z',
-        Bit::M => b'm',
-        Bit::Dash => b'-',
     }
 }
 
@@ -131,9 +106,8 @@ fn is_answered(
 }
 
 /// Whether a row holds: its name, a design whose second module is asked, a bit, and its answer.
-fn holds(alloc: Global, row: &[u8]) -> Result<bool, Memory> {
-    let fields: Vec<&[u8]> = row.split(|byte| *byte == BETWEEN_FIELDS).collect(alloc)?;
-    let [_, text, asked, wanted] = fields.as_slice() else {
+fn holds(alloc: Global, fields: &[&[u8]]) -> Result<bool, Memory> {
+    let [_, text, asked, wanted] = fields else {
         return Ok(false);
     };
     let Some(design) = design_of(alloc, text)? else {
@@ -148,28 +122,14 @@ fn holds(alloc: Global, row: &[u8]) -> Result<bool, Memory> {
     is_answered(alloc, module, &index, asked, wanted)
 }
 
-/// The rows of the table.
-fn tally_of(alloc: Global, table: &[u8]) -> Result<Tally, Memory> {
-    let mut tally = Tally { rows: 0, bad: 0 };
-    for row in table.split(|byte| *byte == BETWEEN_ROWS) {
-        let bad = !holds(alloc, row)?;
-        tally.rows = tally.rows.saturating_add(1);
-        tally.bad = tally.bad.saturating_add(u32::from(bad));
-    }
+/// Counts the rows at standard input.
+fn tally_of(rt: &HostRuntime) -> Result<Tally, Memory> {
+    let mut tally = Tally::make(rt.alloc());
+    tally.read("standard input", rt.reader(), TEXTS, holds)?;
     Ok(tally)
 }
 
-/// Runs over the table at standard input, and says what it came to.
+/// Goes through the table, and says how many rows held.
 fn main(rt: HostRuntime) -> ExitCode {
-    let Ok(table) = read_input(rt.alloc(), &mut StdSource::make(rt.reader())) else {
-        return ExitCode::FAILURE;
-    };
-    let Ok(tally) = tally_of(rt.alloc(), table.as_slice()) else {
-        return ExitCode::FAILURE;
-    };
-    let Tally { rows, bad } = tally;
-    match println!(rt; "{rows} bits of modules, {bad} of them otherwise than told") {
-        Ok(()) => ExitCode::SUCCESS,
-        Err(_) => ExitCode::FAILURE,
-    }
+    report(&rt, tally_of(&rt))
 }

@@ -2,7 +2,7 @@
 use Rattle.std.proofs.Common.{ℕ, zero, suc, ◌+◌, Bool, true, false, if◌then◌else◌, List, [], ◌∷◌, ◌++◌, length, Option, Some, None}
 use Rattle.std.specs.Option.{option_map_or}
 use Rattle.rtl_ir.specs.Assigns.{assigned, cases_assigns}
-use Rattle.rtl_ir.specs.Follow.{Join}
+use Rattle.rtl_ir.specs.declared.follow.Join.{Join}
 use Rattle.rtl_ir.specs.Signals.{has_bit, same_bit}
 use Rattle.rtl_ir.specs.Tree.{CaseView, Cases, NoCase, OneCase, NoSwitch, OneSwitch, Switches}
 use Rattle.rtl_ir.specs.declared.module.Link.{Link}
@@ -12,7 +12,7 @@ use Rattle.rtl_sig.specs.declared.sig.WireBit.{WireBit}
 use Rattle.net_model.specs.Proc.Latch.{Chains, Leaves, Side, assigned_leaf, cases_chain, chain_of, leaf_within, made_chain, missing_leaf, other_leaf, own_leaf, side_value, switches_chain}
 use Rattle.net_model.specs.Proc.Mux.{Trees, assigns_run}
 use Rattle.mux_laws.proofs.MatchMade.{with_case_grows}
-use Rattle.mux_laws.proofs.TreeGrowing.{Grows, grows_both, grows_none}
+use Rattle.build_laws.proofs.Growing.{Grows, grows_both, grows_none}
 
 -- what is added
 abbrev pub ChainsGrow : Chains → Chains → Type 0

@@ -13,14 +13,14 @@ use Rattle.rtl_ir.specs.Tree.{CaseView}
 use Rattle.rtl_sig.specs.declared.sig.SigBit.{SigBit}
 use Rattle.rtl_sig.specs.declared.sig.SigBit.TheVariants.{Fixed, Wire as OnWire}
 use Rattle.rtl_sig.specs.declared.sig.WireBit.{WireBit}
-use Rattle.net_index.proofs.IndexTables.{same_bit-true}
+use Rattle.pass_laws.proofs.Once.{same_bit-true}
 use Rattle.net_model.specs.Proc.Latch.{Chain, Chains, ForData, ForEnable, Leaves, Side, assigned_leaf, chain_of, leaf_within, made_chain, missing_leaf, other_leaf, own_leaf, side_value, switches_chain}
 use Rattle.net_model.specs.Proc.Mux.{Trees}
 use Rattle.mux_laws.proofs.MatchMade.{MadeStand}
-use Rattle.mux_laws.proofs.TreeGrowing.{met_before}
+use Rattle.build_laws.proofs.Growing.{met_before}
 use Rattle.mux_laws.proofs.TreePlaces.{switches_find, tree_at}
 use Rattle.mux_laws.proofs.TreeRead.{read_by}
-use Rattle.mux_laws.proofs.ValueMoment.{AreMet, Moment, seen}
+use Rattle.build_laws.proofs.Moments.{AreMet, Moment, seen}
 use Rattle.latch_laws.proofs.ChainGrows.{LeafGrows, chain_new, end_by, leaf_by, leaf_grows, switches_chain_grow}
 use Rattle.latch_laws.proofs.ChainStands.{AreSound, LeafStands, assigned_stand, switches_chain_stand}
 use Rattle.latch_laws.proofs.Depths.{Ends, sources_end}

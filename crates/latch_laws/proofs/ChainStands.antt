@@ -13,10 +13,10 @@ use Rattle.net_model.specs.Proc.Latch.{Chain, Chains, Leaves, assigned_leaf, cas
 use Rattle.net_model.specs.Proc.Mux.{assigns_run, lowest}
 use Rattle.mux_laws.proofs.MatchMade.{MadeStand, with_case_grows, with_case_stands}
 use Rattle.mux_laws.proofs.TreeFree.{free_cases, run_free}
-use Rattle.mux_laws.proofs.TreeGrowing.{met_before}
+use Rattle.build_laws.proofs.Growing.{met_before}
 use Rattle.mux_laws.proofs.TreePlaces.{Asked, CasesAt, SwitchesAt}
 use Rattle.mux_laws.proofs.TreeRead.{read_branches, read_by}
-use Rattle.mux_laws.proofs.ValueMoment.{AreMet, Moment, Stands, seen}
+use Rattle.build_laws.proofs.Moments.{AreMet, Moment, Stands, seen}
 use Rattle.latch_laws.proofs.ChainGrows.{LeafGrows, assigned_grows, switch_chain, switches_chain_grow}
 use Rattle.latch_laws.proofs.SourcesGiven.{CasesGive, SwitchesGive}
 

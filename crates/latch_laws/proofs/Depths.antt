@@ -9,7 +9,7 @@ use Rattle.rtl_ir.specs.Tree.{CaseView}
 use Rattle.rtl_sig.specs.declared.sig.SigBit.{SigBit}
 use Rattle.rtl_sig.specs.declared.sig.SigBit.TheVariants.{Fixed, Wire as OnWire}
 use Rattle.rtl_sig.specs.declared.sig.WireBit.{WireBit}
-use Rattle.net_index.proofs.IndexTables.{same_bit-refl, same_bit-true}
+use Rattle.pass_laws.proofs.Once.{same_bit-refl, same_bit-true}
 use Rattle.net_model.specs.Lists.{In}
 use Rattle.latch_laws.proofs.Finding.{any_in, any_keeps, either, has_in, left_or, right_or, wire_in, without_in, without_long}
 use Rattle.latch_laws.proofs.SourcesGiven.{CaseGives, case_gives}

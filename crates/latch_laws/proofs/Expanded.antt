@@ -11,7 +11,7 @@ use Rattle.rtl_sig.specs.declared.sig.SigBit.{SigBit}
 use Rattle.rtl_sig.specs.declared.sig.SigBit.TheVariants.{Fixed, Wire as OnWire}
 use Rattle.rtl_sig.specs.declared.sig.WireBit.{WireBit}
 use Rattle.mux_laws.proofs.TreeRead.{read_by}
-use Rattle.mux_laws.proofs.ValueMoment.{Moment, seen}
+use Rattle.build_laws.proofs.Moments.{Moment, seen}
 use Rattle.latch_laws.proofs.Depths.{Ends, sources_end}
 use Rattle.latch_laws.proofs.LeavesGiven.{EachLeaf, leaves_all, leaves_any, read_keeps, read_replaced}
 use Rattle.latch_laws.proofs.SourcesGiven.{CaseGives, case_leaf}

@@ -7,7 +7,7 @@ use Rattle.rtl_ir.specs.Signals.{has_bit, same_bit, wire_bits}
 use Rattle.rtl_sig.specs.declared.sig.SigBit.{SigBit}
 use Rattle.rtl_sig.specs.declared.sig.SigBit.TheVariants.{Fixed, Wire as OnWire}
 use Rattle.rtl_sig.specs.declared.sig.WireBit.{WireBit}
-use Rattle.net_index.proofs.IndexTables.{same_bit-refl, same_bit-true}
+use Rattle.pass_laws.proofs.Once.{same_bit-refl, same_bit-true}
 use Rattle.net_model.specs.Lists.{In}
 
 -- either of two

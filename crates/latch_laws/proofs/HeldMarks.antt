@@ -15,7 +15,7 @@ use Rattle.rtl_ir.specs.Tree.{CaseView}
 use Rattle.rtl_sig.specs.declared.sig.SigBit.{SigBit}
 use Rattle.rtl_sig.specs.declared.sig.SigBit.TheVariants.{Fixed, Wire as OnWire}
 use Rattle.rtl_sig.specs.declared.sig.WireBit.{WireBit}
-use Rattle.net_index.proofs.IndexTables.{same_bit-refl, same_bit-true}
+use Rattle.pass_laws.proofs.Once.{same_bit-refl, same_bit-true}
 use Rattle.net_model.proofs.Places.{place_same-same}
 use Rattle.net_model.proofs.Ranges.{BranchesIn, DecisionIn, RootIn, expanded_in}
 use Rattle.net_model.specs.Picked.{chosen_of, holds_of, mark_of}
@@ -23,7 +23,7 @@ use Rattle.net_model.specs.Proc.Latch.{ForData, ForEnable}
 use Rattle.net_model.specs.Within.{BitIn}
 use Rattle.mux_laws.proofs.MatchBits.{any_matched}
 use Rattle.mux_laws.proofs.TreeRead.{picked_is, read_branches, read_by}
-use Rattle.mux_laws.proofs.ValueMoment.{Moment, seen}
+use Rattle.build_laws.proofs.Moments.{Moment, seen}
 use Rattle.latch_laws.proofs.ChainLeaves.{read_leaf, side_through}
 use Rattle.latch_laws.proofs.LeavesGiven.{EachBranchLeaf, EachLeaf, chosen_keeps, leaves_map, read_keeps}
 

@@ -7,7 +7,7 @@ use Rattle.cell_types.specs.declared.level.Level.{Level}
 use Rattle.cell_types.specs.declared.level.Level.TheVariants.{Low, High}
 use Rattle.cell_types.specs.declared.storage.StorageKind.TheVariants.{Dlatch}
 use Rattle.cell_gate.specs.Control.{active_of}
-use Rattle.rtl_bits.proofs.Numbers.{number_of_bits_of}
+use Rattle.rtl_bits.proofs.NumberLemmas.{number_of_bits_of}
 use Rattle.rtl_bits.proofs.Orders.{Below_refl, Below_trans}
 use Rattle.rtl_bits.proofs.Tables.{seen_of_mono}
 use Rattle.rtl_bits.specs.Knowledge.{Below}
@@ -30,7 +30,7 @@ use Rattle.net_model.specs.Picked.{held_of, holds_of}
 use Rattle.net_model.specs.Run.{Start, Step, Time}
 use Rattle.net_model.specs.Value.{value_of}
 use Rattle.pass_laws.proofs.Driving.{own_driver, own_in, row_of}
-use Rattle.mux_laws.proofs.ValueMoment.{IsCellMet, Moment, seen}
+use Rattle.build_laws.proofs.Moments.{IsCellMet, Moment, seen}
 
 -- a bit that holds where a latch is closed, and has no more than its data where it is open
 held_latched : (holds old new enable data' : Bit) → Below (not_of holds) enable → (holds ≡ S0 → Below new data') → Below (held_of holds old new) (mux_of old data' (seen_of enable))

@@ -13,7 +13,8 @@ use Rattle.rtl_ir.specs.Flat.Driver.{Driver, Held, Joined}
 use Rattle.rtl_ir.specs.Flat.Pick.{no_test, pick_of}
 use Rattle.rtl_ir.specs.Flat.Point.{bit_place, point}
 use Rattle.rtl_ir.specs.Flat.Process.{always_row, may_hold}
-use Rattle.rtl_ir.specs.Follow.{Join, all_joins}
+use Rattle.rtl_ir.specs.Follow.{all_joins}
+use Rattle.rtl_ir.specs.declared.follow.Join.{Join}
 use Rattle.rtl_ir.specs.Rules.{acting_rules}
 use Rattle.rtl_ir.specs.Signals.{has_bit}
 use Rattle.rtl_ir.specs.Tree.{CaseView}
@@ -30,11 +31,11 @@ use Rattle.net_model.specs.Refine.{IsMet}
 use Rattle.net_model.specs.Value.{value_of}
 use Rattle.net_model.specs.Within.{BitIn, Each}
 use Rattle.mux_laws.proofs.MatchMade.{MadeStand, none_made}
-use Rattle.mux_laws.proofs.TreeGrowing.{Grows, IsPlainCell, grows_both, grows_link, grows_none, met_before}
+use Rattle.build_laws.proofs.Growing.{Grows, IsPlainCell, grows_both, grows_link, grows_none, met_before}
 use Rattle.mux_laws.proofs.TreePlaces.{switches_find}
 use Rattle.mux_laws.proofs.TreeRead.{read_by}
-use Rattle.mux_laws.proofs.TreeSteps.{BodyMet, body_before, links_last}
-use Rattle.mux_laws.proofs.ValueMoment.{AreMet, Moment, met_last, met_left, seen}
+use Rattle.build_laws.proofs.Meeting.{BodyMet, body_before, links_last}
+use Rattle.build_laws.proofs.Moments.{AreMet, Moment, met_last, met_left, seen}
 use Rattle.latch_laws.proofs.ChainGrows.{side_grows}
 use Rattle.latch_laws.proofs.ChainLeaves.{side_stands}
 use Rattle.latch_laws.proofs.Depths.{Ends}

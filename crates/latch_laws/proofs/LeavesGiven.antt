@@ -9,7 +9,7 @@ use Rattle.rtl_sig.specs.declared.sig.SigBit.{SigBit}
 use Rattle.net_model.specs.Picked.{chosen_of}
 use Rattle.mux_laws.proofs.MatchBits.{any_matched}
 use Rattle.mux_laws.proofs.TreeRead.{read_branches, read_by}
-use Rattle.mux_laws.proofs.ValueMoment.{Moment}
+use Rattle.build_laws.proofs.Moments.{Moment}
 
 module _ (P : SigBit → Type 0) where
   abbrev mutual

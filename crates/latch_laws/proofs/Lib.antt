@@ -13,3 +13,13 @@ pub mod RowsStay
 pub mod RulesLess
 pub mod UpdatesFree
 pub mod RowsMet
+pub mod Growth
+pub mod Chains
+pub mod Rules
+pub mod Stepping
+pub mod Kept
+pub mod Lines
+pub mod Writing
+pub mod Wider
+pub mod Formed
+pub mod Left

@@ -20,7 +20,8 @@ use Rattle.rtl_ir.specs.Flat.Process.{process_rows, processes_rows, tree_bit_row
 use Rattle.rtl_ir.specs.Flat.Rows.{plain_rows, rows_of}
 use Rattle.rtl_ir.specs.Flat.Start.{process_starts, start_of}
 use Rattle.rtl_ir.specs.Flat.Tree as flat
-use Rattle.rtl_ir.specs.Follow.{Join, all_joins}
+use Rattle.rtl_ir.specs.Follow.{all_joins}
+use Rattle.rtl_ir.specs.declared.follow.Join.{Join}
 use Rattle.rtl_ir.specs.Rules.{acting_rules}
 use Rattle.rtl_ir.specs.Signals.{has_bit}
 use Rattle.rtl_ir.specs.SwitchRules.{root_by_rules}
@@ -44,16 +45,16 @@ use Rattle.net_model.specs.Run.{Time}
 use Rattle.net_model.specs.Valuation.{Valuation, read}
 use Rattle.net_model.specs.Within.{ProcessIn, RuleIn, with_wires}
 use Rattle.pass_laws.proofs.Faultless.{no_faults}
-use Rattle.proc_laws.proofs.RebuildBits.{one_place}
+use Rattle.build_laws.proofs.RebuildBits.{one_place}
 use Rattle.proc_laws.proofs.RebuildProcesses.{each_good}
 use Rattle.proc_laws.specs.Ready.{AreRuled, IsReady}
-use Rattle.mux_laws.proofs.TreeBuilt.{after, built_refines, moment, process_among}
-use Rattle.mux_laws.proofs.TreeGrowing.{Grows}
-use Rattle.mux_laws.proofs.TreeLess.{SameAccesses}
+use Rattle.build_laws.proofs.Built.{after, built_refines, moment, process_among}
+use Rattle.build_laws.proofs.Growing.{Grows}
+use Rattle.build_laws.proofs.Staying.{SameAccesses}
 use Rattle.mux_laws.proofs.TreeRead.{picked_is, read_by}
-use Rattle.mux_laws.proofs.TreeSteps.{BodyMet}
-use Rattle.mux_laws.proofs.ValueMoment.{Moment, seen}
-use Rattle.sync_laws.specs.Kinds.{HaveNoTwoEdges}
+use Rattle.build_laws.proofs.Meeting.{BodyMet}
+use Rattle.build_laws.proofs.Moments.{Moment, seen}
+use Rattle.proc_laws.specs.Kinds.{HaveNoTwoEdges}
 use Rattle.latch_laws.proofs.Depths.{all_end}
 use Rattle.latch_laws.proofs.Finding.{has_in}
 use Rattle.latch_laws.proofs.LatchSteps.{HasLatches, latches_grow, latches_met}

@@ -8,7 +8,8 @@ use Rattle.rtl_ir.specs.Faults.TwoEdges.{EdgeBit, edge_bit}
 use Rattle.rtl_ir.specs.Flat.Driver.{Driven}
 use Rattle.rtl_ir.specs.Flat.Place.{Path}
 use Rattle.rtl_ir.specs.Flat.Process.{Trigger, always_row, edge_trigger, level_trigger, one_rule_rows, process_rows, raced_rows, rules_rows, tree_bit_rows, two_rules_rows}
-use Rattle.rtl_ir.specs.Follow.{Join, all_joins}
+use Rattle.rtl_ir.specs.Follow.{all_joins}
+use Rattle.rtl_ir.specs.declared.follow.Join.{Join}
 use Rattle.rtl_ir.specs.Rules.{acting_rules, has_line, is_init}
 use Rattle.rtl_ir.specs.SwitchRules.{root_by_rules}
 use Rattle.rtl_ir.specs.Tree.{CaseView}
@@ -23,7 +24,7 @@ use Rattle.rtl_sig.specs.declared.sig.WireBit.{WireBit}
 use Rattle.net_model.proofs.Members.{In-cases, In-left, In-mapped, In-right}
 use Rattle.net_model.specs.Lists.{In}
 use Rattle.net_model.specs.Proc.Latch.{is_always, without_always}
-use Rattle.sync_laws.specs.Kinds.{is_edge_rule}
+use Rattle.proc_laws.specs.Kinds.{is_edge_rule}
 
 -- a rule stays: it does not always act
 abbrev pub stays : SyncRule → Bool

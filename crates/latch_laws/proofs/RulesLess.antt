@@ -4,22 +4,17 @@ use Rattle.std.specs.Prelude.{filter, flat_map, map}
 use Rattle.std.specs.List.{list_any, list_all}
 use Rattle.std.proofs.lemmas.Bool.{and_from, and_parts}
 use Rattle.std.proofs.lemmas.List.Elements.{filter-append}
-use Rattle.rtl_ir.specs.Assigns.{tree_bits}
-use Rattle.rtl_ir.specs.Decisions.{expanded, leaves_of}
 use Rattle.rtl_ir.specs.Faults.RuleKinds.{AtAll, AtBothEdges, AtEdge, AtLevel, AtStart, AtSteps, RuleKind, edges_agree, has_one_bit, is_one_edge, kind_of_event, kinds_of, may_stand, rules_stand, writes, writes_stand}
 use Rattle.rtl_ir.specs.Flat.Access.{Access, line_accesses, rule_accesses}
-use Rattle.rtl_ir.specs.Flat.Start.{Begun, first_constant, process_starts}
-use Rattle.rtl_ir.specs.Follow.{Join, all_joins}
+use Rattle.rtl_ir.specs.Flat.Start.{process_starts}
 use Rattle.rtl_ir.specs.Rules.{acting_rules, has_item, has_line, init_lines, is_init}
-use Rattle.rtl_ir.specs.SwitchRules.{root_by_rules}
-use Rattle.rtl_ir.specs.declared.module.Link.{Link}
 use Rattle.rtl_ir.specs.declared.process.Process.{Process}
 use Rattle.rtl_ir.specs.declared.process.SyncRule.{SyncRule}
 use Rattle.net_model.proofs.Ranges.{each_flat_map}
 use Rattle.net_model.specs.Lists.{In}
 use Rattle.net_model.specs.Proc.Latch.{is_always, without_always}
 use Rattle.net_model.specs.Within.{Each}
-use Rattle.mux_laws.proofs.TreeLess.{SameAccesses}
+use Rattle.build_laws.proofs.Staying.{SameAccesses, starts_by}
 use Rattle.latch_laws.proofs.Finding.{any_in, filter_in, right_or}
 use Rattle.latch_laws.proofs.RowsStay.{always_is, stays}
 
@@ -37,16 +32,6 @@ init_stay (r ∷ rules) = by (is_always r.event) refl (init_stay rules)
         more : (u : Bool) → flat_map (λ (rule : SyncRule). rule.updates) (if u then r ∷ filter (λ (rule : SyncRule). is_init rule.event) (filter stays rules) else filter (λ (rule : SyncRule). is_init rule.event) (filter stays rules)) ≡ flat_map (λ (rule : SyncRule). rule.updates) (if u then r ∷ filter (λ (rule : SyncRule). is_init rule.event) rules else filter (λ (rule : SyncRule). is_init rule.event) rules)
         more true = ap (λ z. r.updates ++ z) later
         more false = later
-
--- the start values that lines give
-abbrev starts_by : Process → List Link → List Begun
-starts_by p lines =
-    map
-    (λ (j : Join). record {
-      bit = j.bit;
-      value = first_constant (leaves_of (expanded (root_by_rules p.root) (tree_bits p.root) j.source));
-    })
-    (all_joins lines)
 
 pub starts_stay : (ps : List Process) → flat_map process_starts ps ≡ flat_map process_starts (map without_always ps)
 starts_stay [] = refl

@@ -8,14 +8,15 @@ use Rattle.rtl_bits.specs.declared.bit.Bit.TheVariants.{X}
 use Rattle.rtl_ir.specs.Assigns.{assigned, cases_assigns, last_source, left_bits, switches_assigns}
 use Rattle.rtl_ir.specs.Decisions.{Choice, Decision, Leaf, after_assigns, after_switches, branches_of, case_decision}
 use Rattle.rtl_ir.specs.Faults.SelfReading.{assigns_read, cases_name, cases_read, switches_read}
-use Rattle.rtl_ir.specs.Follow.{Join, all_joins, joins}
+use Rattle.rtl_ir.specs.Follow.{all_joins, joins}
+use Rattle.rtl_ir.specs.declared.follow.Join.{Join}
 use Rattle.rtl_ir.specs.Signals.{has_bit, same_bit, wire_bits}
 use Rattle.rtl_ir.specs.Tree.{CaseView, Cases, NoCase, OneCase, NoSwitch, OneSwitch, Switches}
 use Rattle.rtl_ir.specs.declared.module.Link.{Link}
 use Rattle.rtl_sig.specs.declared.sig.SigBit.{SigBit}
 use Rattle.rtl_sig.specs.declared.sig.SigBit.TheVariants.{Fixed, Wire as OnWire}
 use Rattle.rtl_sig.specs.declared.sig.WireBit.{WireBit}
-use Rattle.net_index.proofs.IndexTables.{same_bit-refl, same_bit-true}
+use Rattle.pass_laws.proofs.Once.{same_bit-refl, same_bit-true}
 use Rattle.net_model.proofs.Members.{In-left, In-right}
 use Rattle.net_model.specs.Lists.{In}
 use Rattle.latch_laws.proofs.LeavesGiven.{EachBranchLeaf, EachLeaf}

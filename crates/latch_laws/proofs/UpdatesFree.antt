@@ -11,7 +11,8 @@ use Rattle.rtl_ir.specs.Flat.Point.{bit_place}
 use Rattle.rtl_ir.specs.Flat.Process.{processes_rows}
 use Rattle.rtl_ir.specs.Flat.Rows.{plain_rows}
 use Rattle.rtl_ir.specs.Flat.Start.{start_of}
-use Rattle.rtl_ir.specs.Follow.{Join, all_joins}
+use Rattle.rtl_ir.specs.Follow.{all_joins}
+use Rattle.rtl_ir.specs.declared.follow.Join.{Join}
 use Rattle.rtl_ir.specs.Rules.{acting_rules}
 use Rattle.rtl_ir.specs.Signals.{has_bit}
 use Rattle.rtl_ir.specs.declared.module.Module.{Module}
@@ -24,8 +25,8 @@ use Rattle.net_model.specs.Proc.Latch.{is_always}
 use Rattle.net_model.specs.Refine.{IsWellDriven, places_of}
 use Rattle.pass_laws.proofs.Moving.{split}
 use Rattle.pass_laws.proofs.Placing.{bits_places}
-use Rattle.proc_laws.proofs.RebuildPlaces.{processes_places}
-use Rattle.proc_laws.specs.Rebuilds.{driven_bits, join_bits, one_rule_bits, rules_bits}
+use Rattle.build_laws.proofs.RebuildPlaces.{processes_places}
+use Rattle.build_laws.specs.Rebuilds.{driven_bits, join_bits, one_rule_bits, rules_bits}
 use Rattle.latch_laws.proofs.Finding.{has_in}
 use Rattle.latch_laws.proofs.RowsStay.{always_is}
 

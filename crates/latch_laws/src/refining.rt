@@ -6,7 +6,7 @@ ghost use Rattle.rtl_ir.specs.Types.{table_ports};
 ghost use Rattle.net_model.specs.Proc.Latch.{proc_latch_of};
 ghost use Rattle.net_model.specs.Refine.{RefinesIn};
 ghost use Rattle.proc_laws.specs.Ready.{AreRuled, IsReady};
-ghost use Rattle.sync_laws.specs.Kinds.{HaveNoTwoEdges};
+ghost use Rattle.proc_laws.specs.Kinds.{HaveNoTwoEdges};
 
 use rtl_ir::{Module, PortTable};
 

@@ -2,9 +2,9 @@
 
 use crate::module_of;
 use cell_types::{Shape, kind_of};
-use net_index::{Builder, PassFault, cell_shape};
+use net_index::{Builder, PassFault};
 use rtl_bits::{Copied, Memory};
-use rtl_ir::{Cell, Module};
+use rtl_ir::{Cell, Module, cell_shape};
 use std::alloc::Global;
 
 /// A cell with operands and a result of 128 bits.

@@ -5,7 +5,7 @@ use Rattle.std.proofs.lemmas.Bool.Decides.{nat_tests}
 use Rattle.std.proofs.lemmas.Int.{ints}
 use Rattle.cell_word.specs.Integers.{integer_in}
 use Rattle.cell_word.specs.Words.{extended_at}
-use Rattle.rtl_bits.proofs.Numbers.{number_of_small}
+use Rattle.rtl_bits.proofs.NumberLemmas.{number_of_small}
 use Rattle.rtl_bits.specs.Knowledge.{AreKnown, IsKnown}
 use Rattle.rtl_bits.specs.Numbers.{digit_of, number_of, top_of}
 use Rattle.rtl_bits.specs.Tables.{not_of}

@@ -17,7 +17,7 @@ use Rattle.cell_word.specs.Values as word_values
 use Rattle.cell_word.specs.Values.{both_signed}
 use Rattle.cell_word.specs.Words.{extended_at, fill_of}
 use Rattle.rtl_bits.proofs.Lists.{all_known_true}
-use Rattle.rtl_bits.proofs.Numbers.{bits_of_number_of}
+use Rattle.rtl_bits.proofs.NumberLemmas.{bits_of_number_of}
 use Rattle.rtl_bits.specs.Knowledge.{AreKnown, Below, IsKnown, all_known}
 use Rattle.rtl_bits.specs.Numbers.{bits_of, digit_of, number_of, top_of}
 use Rattle.rtl_bits.specs.Tables.{not_of}

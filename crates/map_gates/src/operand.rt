@@ -3,8 +3,7 @@
 ghost use Rattle.std.specs.Prelude.{◌≡◌};
 ghost use Rattle.map_gates.specs.Gates.{bit_at};
 
-use gate_nets::fill_of;
-use rtl_sig::SigBit;
+use rtl_sig::{SigBit, fill_of};
 
 /// The bit of an operand at any place: past its end its top bit where it is signed, else 0.
 pub(crate) fn bit_at(signed: bool, bits: &[SigBit], at: usize) -> SigBit
@@ -12,6 +11,6 @@ pub(crate) fn bit_at(signed: bool, bits: &[SigBit], at: usize) -> SigBit
 {
     match bits.get(at) {
         Some(bit) => *bit,
-        None => fill_of(signed, bits),
+        None => fill_of(bits, signed),
     }
 }

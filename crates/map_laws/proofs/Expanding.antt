@@ -7,8 +7,6 @@ use Rattle.rtl_ir.specs.declared.cell.Cell.{Cell}
 use Rattle.rtl_ir.specs.declared.module.Link.{Link}
 use Rattle.rtl_ir.specs.declared.module.Module.{Module}
 use Rattle.rtl_ir.specs.declared.wire.Wire.{Wire}
-use Rattle.net_index.specs.Builder.{IsInLimits, PassesLimit}
-use Rattle.net_index.specs.Numbering.{bit_count, widths_of}
 use Rattle.map_laws.specs.Expansion.{Adds, AreRising, Expands, IsExpansion, cells_added, links_added, wires_added}
 
 -- a module with further cells, wires and connections
@@ -42,25 +40,6 @@ module _ (old new : Building) (cells : List Cell) (wires : List Wire) (links : L
 
   pub wires_count : length new.body.wires ≡ length old.body.wires + length wires
   wires_count = ap (λ m. length m.wires) h.body ∙ length-append old.body.wires wires
-
-  -- what is within the limits was so before
-  pub limits_before : IsInLimits new → IsInLimits old
-  limits_before fits =
-      let few : length new.body.cells ≡ length old.body.cells + length cells = ap (λ m. length m.cells) h.body ∙ length-append old.body.cells cells in
-      let bits : bit_count (widths_of new.body.wires) ≡ bit_count (widths_of old.body.wires) + bit_count (widths_of wires) = ap (λ m. bit_count (widths_of m.wires)) h.body ∙ bits_more old.body.wires wires in
-      record {
-        cells = omega (arith, few, fits.cells);
-        bits = omega (arith, bits, fits.bits);
-        names = omega (arith, h.next, fits.names);
-      }
-    where
-      bits_more : (ws vs : List Wire) → bit_count (widths_of (ws ++ vs)) ≡ bit_count (widths_of ws) + bit_count (widths_of vs)
-      bits_more [] vs = omega arith
-      bits_more (w ∷ ws) vs = omega (arith, bits_more ws vs)
-
-  -- where a module passes a limit, it does with further items
-  pub over_later : PassesLimit old → PassesLimit new
-  over_later over fits = over (limits_before fits)
 
   -- what a map adds is an expansion
   pub expansion : (c : Cell) → Expands old new c cells wires links → IsExpansion old new c

@@ -8,7 +8,7 @@ use borrow.Author.Differences.{up, down, same_in, sum_is_lem, product_is}
 use lib.IntN.{*ℤ_comm}
 use Rattle.cell_word.specs.Integers.{integer_bits}
 use Rattle.cell_word.specs.Words.{unknown_of}
-use Rattle.rtl_bits.proofs.Numbers.{bits_of_number_of}
+use Rattle.rtl_bits.proofs.NumberLemmas.{bits_of_number_of}
 use Rattle.rtl_bits.specs.Knowledge.{AreKnown, Below}
 use Rattle.rtl_bits.specs.Numbers.{bits_of, number_of}
 use Rattle.rtl_bits.specs.declared.bit.Bit.{Bit}

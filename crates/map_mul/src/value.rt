@@ -8,11 +8,11 @@ ghost use Rattle.map_mul.specs.Expand.{divided_of, greatest_width, is_mapped, mu
 use crate::product::product;
 use cell_types::{ArithKind, CellKind, DivisionKind, PinName, Shape, WordKind};
 use gate_divide::divide;
-use gate_nets::{extended, pin_signal};
+use gate_nets::pin_signal;
 use net_index::{Builder, PassFault};
 use rtl_bits::Memory;
 use rtl_ir::Cell;
-use rtl_sig::SigSpec;
+use rtl_sig::{SigSpec, extended};
 use std::alloc::Global;
 
 /// A kind becomes gates here.

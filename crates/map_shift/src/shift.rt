@@ -5,9 +5,9 @@ ghost use Rattle.net_index.specs.Builder.{IsInLimits, PassesLimit};
 ghost use Rattle.map_shift.specs.Shift.{either_of, lower_of, shifted_of, step_of};
 
 use crate::moves::{Way, moved};
-use gate_nets::{fill_of, negate, select};
+use gate_nets::{negate, select};
 use net_index::{Builder, PassFault};
-use rtl_sig::{SigBit, SigSpec};
+use rtl_sig::{SigBit, SigSpec, fill_of};
 use std::alloc::Global;
 
 /// A word moved by what a bit of the distance stands for, where the bit is 1.
@@ -72,6 +72,6 @@ pub(crate) fn shifted_either_way(
     let right = shifted(alloc, Way::Right, fill, bits, lower(distance), builder)?;
     let back = negate(alloc, distance, builder)?;
     let left = shifted(alloc, Way::Left, fill, bits, back.as_slice(), builder)?;
-    let negative = fill_of(true, distance);
+    let negative = fill_of(distance, true);
     select(alloc, right.as_slice(), left.as_slice(), negative, builder)
 }

@@ -7,11 +7,11 @@ ghost use Rattle.map_shift.specs.Expand.{fill_by, is_mapped, moved_by, shift_by,
 use crate::moves::Way;
 use crate::shift::{shifted, shifted_either_way};
 use cell_types::{CellKind, PinName, Shape, ShiftKind, WordKind};
-use gate_nets::{fill_of, operand_of, pin_signal};
+use gate_nets::{operand_of, pin_signal};
 use net_index::{Builder, PassFault};
 use rtl_bits::Bit;
 use rtl_ir::Cell;
-use rtl_sig::{SigBit, SigSpec};
+use rtl_sig::{SigBit, SigSpec, fill_of};
 use std::alloc::Global;
 
 /// A kind becomes gates here.
@@ -26,7 +26,7 @@ fn fill_by(kind: ShiftKind, signed: bool, a: &[SigBit]) -> SigBit
     ensures value { result ≡ fill_by kind signed a.now }
 {
     match kind {
-        ShiftKind::Sshr => fill_of(signed, a),
+        ShiftKind::Sshr => fill_of(a, signed),
         ShiftKind::Shiftx => SigBit::Fixed(Bit::X),
         _ => SigBit::Fixed(Bit::S0),
     }

@@ -1,4 +1,3 @@
-pub mod Fits
 pub mod Growing
 pub mod Patterns
 pub mod Steps

@@ -9,10 +9,9 @@ use Rattle.std.specs.List.{range_with_len}
 use Rattle.std.proofs.lemmas.List.{length-map}
 use Rattle.std.proofs.lemmas.List.FromFn.{length-range_with_len}
 use Rattle.rtl_sig.specs.declared.sig.SigBit.TheVariants.{Wire as OnWire}
-use Rattle.rtl_ir.specs.Signals.{bits_of_wire}
+use Rattle.rtl_ir.specs.Signals.{bits_of_wire, same_signal}
 use Rattle.rtl_ir.specs.Build.{Building, whole}
 use Rattle.rtl_ir.specs.Tree.{CaseView, Switches}
-use Rattle.rtl_ir.specs.WritePorts.{same_signal}
 use Rattle.net_model.specs.Proc.Mux.{Made, Trees, is_default, joined_bits, made_match, mux_cell, pattern_bits, same_case}
 use Rattle.net_model.specs.Proc.Mux as by_places
 use Rattle.match_cells.specs.Numbers.{case_behind}

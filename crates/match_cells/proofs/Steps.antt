@@ -3,7 +3,7 @@ use Rattle.std.proofs.Common.{ℕ, List, Bool, true, false, Option, Some, None, 
 use Rattle.std.specs.Option.{option_map_or}
 use Rattle.rtl_sig.specs.declared.sig.SigBit.{SigBit}
 use Rattle.net_index.specs.Builder.{PassesLimit}
-use Rattle.rtl_ir.specs.WritePorts.{same_signal}
+use Rattle.rtl_ir.specs.Signals.{same_signal}
 use Rattle.net_model.specs.Proc.Mux.{is_default, joined_bits, pattern_bits}
 use Rattle.match_cells.specs.Trees.{Numbered, made_at, match_bit, new_match, with_case, with_mux}
 use Rattle.match_cells.proofs.Growing.{Grows, grows_more, grows_none, joined_grows, mux_grows, over_later}

@@ -4,7 +4,7 @@ use Rattle.std.specs.Option.{option_map_or}
 use Rattle.rtl_sig.specs.declared.sig.SigBit.{SigBit}
 use Rattle.rtl_ir.specs.Build.{Building}
 use Rattle.rtl_ir.specs.Tree.{CaseView}
-use Rattle.rtl_ir.specs.WritePorts.{same_signal}
+use Rattle.rtl_ir.specs.Signals.{same_signal}
 use Rattle.net_model.specs.Proc.Mux.{is_default, joined_bits, mux_cell, pattern_bits}
 use Rattle.match_cells.specs.Numbers.{case_behind}
 use Rattle.match_cells.specs.declared.trees.Trees.{Trees}

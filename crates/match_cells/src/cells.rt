@@ -1,18 +1,24 @@
 //! The cells of which multiplexers and matches are made.
 
-ghost use Rattle.std.specs.Prelude.{◌≡◌, ◌∷◌, ◌<◌, ◌^◌, [], true, Err, IfOk, OnOk, length, map};
+ghost use Rattle.std.specs.Prelude.{◌≡◌, ◌<◌, [], true, Err, IfOk, OnOk, map};
 ghost use Rattle.rtl_sig.specs.declared.sig.SigBit.{SigBit};
-ghost use Rattle.rtl_ir.specs.Build.{integer_param, pin_of};
-ghost use Rattle.cell_types.specs.ParamName.{param_text};
-ghost use Rattle.cell_types.specs.PinName.{pin_text};
-ghost use Rattle.net_index.specs.Builder.{IsInLimits, PassesLimit, is_number_param, new_param, new_params};
-ghost use Rattle.net_model.specs.Proc.Mux.{asked_places, equal_cell, is_asked, joined_bits, mux_cell, pattern_bit, pattern_bits};
+ghost use Rattle.rtl_ir.specs.Build.{pin_of};
+ghost use Rattle.net_index.specs.Builder.{IsInLimits, PassesLimit, new_params};
+ghost use Rattle.net_model.specs.Proc.Mux.{
+  asked_places,
+  equal_cell,
+  is_asked,
+  joined_bits,
+  mux_cell,
+  pattern_bit,
+  pattern_bits,
+};
 ghost use Rattle.match_cells.specs.Parts.{equal_params, equal_pins, mux_pins, or_cell, or_params};
 
 use cell_types::{CellKind, EqualKind, FoldKind, Param, ParamName, PinName, WordKind};
-use net_index::{Builder, PassFault, number_param, whole};
-use rtl_bits::{Bit, Memory, Text};
-use rtl_ir::Pin;
+use net_index::{Builder, PassFault, length_param, number_param, whole};
+use rtl_bits::{Bit, Memory};
+use rtl_ir::{Pin, pin_of};
 use rtl_sig::{SigBit, SigSpec, WireBit};
 use std::alloc::Global;
 
@@ -39,27 +45,6 @@ pub(crate) fn asked_places(
 {
     let places = pattern.iter().copied().zip(signal.iter().copied());
     Ok(places.filter(|place| is_asked(*place)).collect(alloc)?)
-}
-
-/// A parameter of this length. One of 2^31 or more is taken for want of memory.
-fn length_param(alloc: Global, name: ParamName, length: usize) -> Result<Param, Memory>
-    requires number { is_number_param name ≡ true }
-    ensures value { IfOk result (λ param. new_param param ≡ integer_param (param_text name) «length») }
-{
-    match u32::try_from(length) {
-        Ok(number) if number < 1 << 31 => number_param(alloc, name, number),
-        _ => Err(Memory),
-    }
-}
-
-/// A pin with this signal.
-fn pin(alloc: Global, name: PinName, bits: &[SigBit]) -> Result<Pin, Memory>
-    ensures value { IfOk result (λ pin. pin ≡ pin_of (pin_text name) bits.now) }
-{
-    Ok(Pin {
-        name: Text::from_slice(alloc, name.text())?,
-        sig: SigSpec::from_slice(alloc, bits)?,
-    })
 }
 
 /// The parameters of an `$eq` of operands of this width.
@@ -96,8 +81,8 @@ fn equal_pins(alloc: Global, places: &[Asked]) -> Result<Vec<Pin>, Memory>
     let signal = asked_of_signal(alloc, places)?;
     let pattern = asked_of_pattern(alloc, places)?;
     let mut pins = Vec::new(alloc);
-    pins.push(pin(alloc, PinName::A, signal.as_slice())?)?;
-    pins.push(pin(alloc, PinName::B, pattern.as_slice())?)?;
+    pins.push(pin_of(alloc, PinName::A, signal.as_slice())?)?;
+    pins.push(pin_of(alloc, PinName::B, pattern.as_slice())?)?;
     Ok(pins)
 }
 
@@ -172,7 +157,7 @@ fn or_cell(alloc: Global, bits: &[SigBit], builder: &mut Builder) -> Result<SigB
 {
     let kind = CellKind::Word(WordKind::Fold(FoldKind::Or));
     let params = or_params(alloc, bits.len())?;
-    let pins = [pin(alloc, PinName::A, bits)?];
+    let pins = [pin_of(alloc, PinName::A, bits)?];
     let wire = builder.add_driver(kind, params.as_slice(), &pins, PinName::Y.text(), 1)?;
     Ok(SigBit::Wire(WireBit { wire, at: 0 }))
 }
@@ -198,9 +183,9 @@ fn mux_pins(alloc: Global, a: &[SigBit], b: &[SigBit], s: SigBit) -> Result<Vec<
     ensures value { IfOk result (λ pins. pins.items ≡ mux_pins a.now b.now s) }
 {
     let mut pins = Vec::new(alloc);
-    pins.push(pin(alloc, PinName::A, a)?)?;
-    pins.push(pin(alloc, PinName::B, b)?)?;
-    pins.push(pin(alloc, PinName::S, &[s])?)?;
+    pins.push(pin_of(alloc, PinName::A, a)?)?;
+    pins.push(pin_of(alloc, PinName::B, b)?)?;
+    pins.push(pin_of(alloc, PinName::S, &[s])?)?;
     Ok(pins)
 }
 

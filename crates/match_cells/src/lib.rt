@@ -2,12 +2,12 @@
 #![tactic(auto)]
 
 mod cells;
-mod limits;
+mod levels;
 mod nodes;
 mod numbers;
 mod trees;
 
-pub use limits::check_limits;
+pub use levels::polarity_of;
 pub use nodes::{behind, case_nodes};
 pub use numbers::nodes_behind;
 pub use trees::Trees;

@@ -2,7 +2,7 @@
 
 ghost use Rattle.std.specs.Prelude.{◌≡◌, ◌∷◌, [], Err, IfOk, OnOk, OnErr, None, Some, replicate, zip};
 ghost use Rattle.std.specs.List.{list_any};
-ghost use Rattle.rtl_ir.specs.WritePorts.{same_signal};
+ghost use Rattle.rtl_ir.specs.Signals.{same_signal};
 ghost use Rattle.net_index.specs.Builder.{IsInLimits, PassesLimit};
 ghost use Rattle.net_model.specs.Proc.Mux.{is_asked, is_default};
 ghost use Rattle.match_cells.specs.Trees.{made_at, match_bit, new_match, seen, with_case, with_mux};
@@ -54,8 +54,10 @@ impl Trees {
         signal: &[SigBit],
         patterns: &[SigSpec],
     ) -> Result<SigBit, PassFault>
-        ensures exact { IfOk result (λ bit. (bit, seen self.new) ≡ new_match node signal.now patterns.now (seen self.old)) }
-        ensures over { result ≡ Err PassFault.Over → PassesLimit (new_match node signal.now patterns.now (seen self.old)).1.building }
+        ensures exact { IfOk result (λ bit. (bit, seen self.new) ≡
+            new_match node signal.now patterns.now (seen self.old)) }
+        ensures over { result ≡ Err PassFault.Over →
+            PassesLimit (new_match node signal.now patterns.now (seen self.old)).1.building }
         ensures within { IsInLimits self.old.builder → OnOk result (IsInLimits self.new.builder) }
     {
         let bits = pattern_bits(self.alloc, signal, patterns, &mut self.builder)?;
@@ -74,8 +76,10 @@ impl Trees {
         signal: &[SigBit],
         patterns: &[SigSpec],
     ) -> Result<SigBit, PassFault>
-        ensures exact { IfOk result (λ bit. (bit, seen self.new) ≡ match_bit node signal.now patterns.now (seen self.old)) }
-        ensures over { result ≡ Err PassFault.Over → PassesLimit (match_bit node signal.now patterns.now (seen self.old)).1.building }
+        ensures exact { IfOk result (λ bit. (bit, seen self.new) ≡
+            match_bit node signal.now patterns.now (seen self.old)) }
+        ensures over { result ≡ Err PassFault.Over →
+            PassesLimit (match_bit node signal.now patterns.now (seen self.old)).1.building }
         ensures within { IsInLimits self.old.builder → OnOk result (IsInLimits self.new.builder) }
     {
         match self.made_at(node) {
@@ -94,8 +98,10 @@ impl Trees {
         body: &[SigBit],
         acc: &[SigBit],
     ) -> Result<SigSpec, PassFault>
-        ensures exact { IfOk result (λ value. (value, seen self.new) ≡ with_mux node signal.now patterns.now body.now acc.now (seen self.old)) }
-        ensures over { result ≡ Err PassFault.Over → PassesLimit (with_mux node signal.now patterns.now body.now acc.now (seen self.old)).1.building }
+        ensures exact { IfOk result (λ value. (value, seen self.new) ≡
+            with_mux node signal.now patterns.now body.now acc.now (seen self.old)) }
+        ensures over { result ≡ Err PassFault.Over →
+            PassesLimit (with_mux node signal.now patterns.now body.now acc.now (seen self.old)).1.building }
         ensures within { IsInLimits self.old.builder → OnOk result (IsInLimits self.new.builder) }
     {
         let bit = self.match_bit(node, signal, patterns)?;
@@ -113,8 +119,10 @@ impl Trees {
         body: SigSpec,
         acc: SigSpec,
     ) -> Result<SigSpec, PassFault>
-        ensures exact { IfOk result (λ value. (value, seen self.new) ≡ with_case node signal.now patterns.now body acc (seen self.old)) }
-        ensures over { result ≡ Err PassFault.Over → PassesLimit (with_case node signal.now patterns.now body acc (seen self.old)).1.building }
+        ensures exact { IfOk result (λ value. (value, seen self.new) ≡
+            with_case node signal.now patterns.now body acc (seen self.old)) }
+        ensures over { result ≡ Err PassFault.Over →
+            PassesLimit (with_case node signal.now patterns.now body acc (seen self.old)).1.building }
         ensures within { IsInLimits self.old.builder → OnOk result (IsInLimits self.new.builder) }
     {
         if is_default(signal, patterns) {

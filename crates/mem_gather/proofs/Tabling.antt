@@ -14,7 +14,8 @@ use Rattle.cell_types.specs.PinName.{pin_text}
 use Rattle.cell_types.specs.declared.pin_name.PinName.TheVariants.{Data}
 use Rattle.rtl_ir.specs.Flat.Cell.{cell_kind}
 use Rattle.rtl_ir.specs.Parameters.{signal_at}
-use Rattle.rtl_ir.specs.Faults.MemoryCells.{constant_of, first_address, number_at}
+use Rattle.rtl_ir.specs.Faults.MemoryCells.{first_address, number_at}
+use Rattle.rtl_ir.specs.Signals.{constant_of}
 use Rattle.rtl_ir.specs.Flat.Memory.{init_bit_of, init_enable}
 use Rattle.cell_types.specs.declared.param_name.ParamName.TheVariants as Param
 use Rattle.mem_gather.specs.Tables.{after, below, put_start, start_bit, table}

@@ -2,7 +2,6 @@
 #![tactic(auto)]
 
 mod inits;
-mod params;
 mod reads;
 mod starts;
 mod writes;

@@ -6,10 +6,9 @@ ghost use Rattle.rtl_ir.specs.Flat.Memory.{is_read_kind};
 ghost use Rattle.rtl_ir.specs.WritePorts.{is_of_memory};
 ghost use Rattle.net_model.specs.Mem.Gather.{read_port, read_ports};
 
-use crate::params::{is_of_memory, signal_at};
 use cell_types::{CellKind, MemoryKind, PinName, kind_of};
 use rtl_bits::{Memory, Seq};
-use rtl_ir::{Cell, ReadPort};
+use rtl_ir::{Cell, ReadPort, is_of_memory, pin_signal};
 use rtl_sig::SigSpec;
 use std::alloc::Global;
 
@@ -39,8 +38,8 @@ fn read_port(alloc: Global, at: u32, cell: &Cell) -> Result<ReadPort, Memory>
     let pins = cell.pins.as_slice();
     Ok(ReadPort {
         cell: at,
-        address: SigSpec::from_slice(alloc, signal_at(pins, PinName::Addr))?,
-        data: SigSpec::from_slice(alloc, signal_at(pins, PinName::Data))?,
+        address: SigSpec::from_slice(alloc, pin_signal(pins, PinName::Addr))?,
+        data: SigSpec::from_slice(alloc, pin_signal(pins, PinName::Data))?,
     })
 }
 

@@ -1,38 +1,44 @@
 //! The start words of a memory, by a table over its addresses.
 
-ghost use Rattle.std.specs.Prelude.{◌≡◌, ◌≤◌, ◌<◌, ◌+◌, ◌*◌, ◌^◌, ℕ, IfOk, OnOk, map, nat_abs, replicate, slice_index_or};
+ghost use Rattle.std.specs.Prelude.{
+  ◌≡◌,
+  ◌≤◌,
+  ◌<◌,
+  ◌+◌,
+  ◌*◌,
+  ◌^◌,
+  ℕ,
+  IfOk,
+  OnOk,
+  map,
+  nat_abs,
+  replicate,
+  slice_index_or,
+};
 ghost use Rattle.std.specs.List.{range_with_len};
 ghost use Rattle.rtl_bits.specs.Tables.{seen_of};
 ghost use Rattle.rtl_bits.specs.declared.bit.Bit.{Bit};
 ghost use Rattle.rtl_bits.specs.declared.bit.Bit.TheVariants.{X};
 ghost use Rattle.rtl_sig.specs.declared.sig.SigBit.TheVariants as sig;
+ghost use Rattle.cell_types.specs.Given.{number_in};
 ghost use Rattle.cell_types.specs.PinName.{pin_text};
+ghost use Rattle.cell_types.specs.declared.param_name.ParamName.TheVariants as param;
 ghost use Rattle.cell_types.specs.declared.pin_name.PinName.TheVariants as pin;
 ghost use Rattle.cell_gate.specs.Control.{pick_of};
-ghost use Rattle.rtl_ir.specs.Faults.MemoryCells.{constant_of, first_address};
+ghost use Rattle.rtl_ir.specs.Faults.MemoryCells.{first_address};
+ghost use Rattle.rtl_ir.specs.Signals.{constant_of};
 ghost use Rattle.rtl_ir.specs.Flat.Cell.{cell_kind};
 ghost use Rattle.rtl_ir.specs.Flat.Memory.{init_bit_of, init_enable};
-ghost use Rattle.rtl_ir.specs.Parameters.{signal_at};
+ghost use Rattle.rtl_ir.specs.Parameters.{given_params, signal_at};
 ghost use Rattle.net_model.specs.Mem.Gather.{words_of};
 ghost use Rattle.mem_gather.specs.Tables.{after, put_start, start_bit, started, table};
 
 use crate::inits::{Init, init_cells};
-use crate::params::{number_in, signal_at, small_number};
 use cell_types::{CellKind, MemoryKind, ParamName, PinName, kind_of};
-use rtl_bits::{Bit, Bits, Memory, Seq, bit_mux};
-use rtl_ir::{Cell, Store};
+use rtl_bits::{Bit, Bits, Memory, Seq, bit_mux, number_of};
+use rtl_ir::{Cell, Store, constant_of, constants_of, number_in, pin_signal};
 use rtl_sig::SigBit;
 use std::alloc::Global;
-
-/// A constant as the bit that it is.
-fn constant_of(bit: SigBit) -> Bit
-    ensures value { result ≡ constant_of bit }
-{
-    match bit {
-        SigBit::Fixed(bit) => bit,
-        SigBit::Wire(_) => Bit::X,
-    }
-}
 
 /// The constant at a place of a signal, past the end x.
 fn constant_at(signal: &[SigBit], at: u128) -> Bit
@@ -54,17 +60,29 @@ fn bit_at(bits: &[Bit], at: usize) -> Bit
     }
 }
 
-/// The address of the first start word of a cell. One of 2^63 or more is taken for want of memory.
+/// The address of the first start word of a cell. The addresses of a checked design are below 2^33, so memory alone can
+/// be missing; one of 2^63 or more is answered with `Memory` too.
 fn first_address(alloc: Global, cell: &Cell) -> Result<u64, Memory>
     ensures value { IfOk result (λ first. first ≡ first_address cell.now) }
     ensures small { IfOk result (λ first. first < 2 ^ 63) }
 {
-    let signal = signal_at(cell.pins.as_slice(), PinName::Addr);
-    let mut bits = Vec::with_capacity(alloc, signal.len())?;
-    for bit in signal {
-        bits.push(constant_of(*bit))?;
+    let bits = constants_of(alloc, pin_signal(cell.pins.as_slice(), PinName::Addr))?;
+    match number_of(bits.as_slice()) {
+        Some(first) if first < 1 << 63 => Ok(first),
+        _ => Err(Memory),
     }
-    small_number(bits.as_slice())
+}
+
+/// How many start words a cell has. In a checked design they fit into a signal, so memory alone can be missing; 2^63 or
+/// more are answered with `Memory` too.
+fn word_count(alloc: Global, cell: &Cell) -> Result<u64, Memory>
+    ensures value { IfOk result (λ count. count ≡ number_in (given_params cell.now.params) param.Words) }
+    ensures small { IfOk result (λ count. count < 2 ^ 63) }
+{
+    match number_in(alloc, cell.params.as_slice(), ParamName::Words)? {
+        Some(count) if count < 1 << 63 => Ok(count),
+        _ => Err(Memory),
+    }
 }
 
 /// What a cell says for a bit of a word, whether it sets it.
@@ -74,7 +92,7 @@ fn enable_at(cell: &Cell, at: usize) -> Bit
 {
     match kind_of(cell.kind_name.as_slice()) {
         Some(CellKind::Memory(MemoryKind::MeminitV2)) => {
-            constant_at(signal_at(cell.pins.as_slice(), PinName::En), at as u128)
+            constant_at(pin_signal(cell.pins.as_slice(), PinName::En), at as u128)
         }
         _ => Bit::S1,
     }
@@ -98,9 +116,10 @@ fn start_word(
     number: u64,
     old: &[Bit],
 ) -> Result<Bits, Memory>
-    ensures value { IfOk result (λ word. word ≡ map (start_bit width cell.now number old.now) (range_with_len 0 width)) }
+    ensures value { IfOk result (λ word. word ≡
+        map (start_bit width cell.now number old.now) (range_with_len 0 width)) }
 {
-    let data = signal_at(cell.pins.as_slice(), PinName::Data);
+    let data = pin_signal(cell.pins.as_slice(), PinName::Data);
     let mut word = Bits::make(alloc);
     for at in 0..width {
         word.push(start_bit(width, cell, data, number, old, at))?;
@@ -145,7 +164,7 @@ fn put_cell(
         words.new.items ≡ table base size width (after width cell.now f)) }
 {
     let first = first_address(alloc, cell)?;
-    let count = number_in(alloc, cell.params.as_slice(), ParamName::Words)?;
+    let count = word_count(alloc, cell)?;
     for number in 0..count {
         put_word(alloc, base, width, words, cell, first, number)?;
     }

@@ -1,15 +1,17 @@
 -- What passes a limit within a step makes the step pass it.
-use Rattle.std.proofs.Common.{◌≡◌, ℕ, suc, ◌+◌, ◌^◌, Bool, true, false, List, length, drop, Option, if◌then◌else◌, sym, subst, subst₂}
+use Rattle.std.proofs.Common.{◌≡◌, ◌∙◌, ◌<◌, ℕ, suc, Some, get_or, ◌+◌, ◌^◌, Bool, true, false, List, length, drop, Option, if◌then◌else◌, sym, ap, subst, subst₂}
 use Rattle.std.specs.Prelude.{nat_lt, nat_abs, ◌==◌}
+use Rattle.std.proofs.lemmas.Option.{slice_get-get_or}
 use Rattle.rtl_sig.specs.declared.sig.SigBit.{SigBit}
-use Rattle.rtl_ir.specs.Build.{Building, building_of}
+use Rattle.rtl_ir.specs.Build.{Building, building_of, first_number}
 use Rattle.rtl_ir.specs.declared.module.Module.{Module}
 use Rattle.rtl_ir.specs.declared.plan.MemPlan.{MemPlan}
 use Rattle.rtl_ir.specs.declared.plan.ReadPort.{ReadPort}
 use Rattle.rtl_ir.specs.declared.plan.WritePort.{WritePort}
 use Rattle.rtl_ir.specs.declared.store.Store.{Store}
-use Rattle.net_index.specs.Builder.{PassesLimit}
-use Rattle.net_model.specs.Mem.Expand.{Word, address_match, fixed_words, low_bit, memory_step, or_unknown, port_runs, port_step, ports_step, read_step, read_tree, run_lengths, word_step, word_wires, words_made, words_step}
+use Rattle.net_index.specs.Builder.{PassesLimit, building_from}
+use Rattle.net_model.specs.Mem.Expand.{Word, address_match, building_without, expanded_memory, fixed_words, low_bit, memory_step, or_unknown, port_runs, port_step, ports_step, read_step, read_tree, run_lengths, without_memory, word_step, word_wires, words_made, words_step}
+use Rattle.memory_laws.proofs.Commuting.{made_without}
 use Rattle.match_cells.proofs.Growing.{Grows, grows_more, grows_none, link_grows, over_later}
 use Rattle.mem_map.specs.Limits.{expanded, planned_store}
 use Rattle.mem_map.specs.Words.{word}
@@ -85,5 +87,34 @@ module _ (plan : MemPlan) (s : Store) (b : Building) where
       grows_more b made.1 (memory_step plan s b) (made_grows plan (nat_abs s.offset) b)
       (grows_more made.1 (chained none plan made) (memory_step plan s b) (chained_grows none plan made) (reads_grow made.0 plan.reads (chained none plan made)))
 
-pub module_over : (m : Module) (plan : MemPlan) → PassesLimit (building_of m) → PassesLimit (expanded m plan)
-module_over m plan over = over_later (building_of m) (expanded m plan) (memory_grows plan (planned_store m plan) (building_of m)) over
+module _ (m : Module) (plan : MemPlan) where
+  abbrev s : Store
+  s = planned_store m plan
+
+  pub module_over : PassesLimit (building_without plan.store s m) → PassesLimit (expanded m plan)
+  module_over over = over_later (building_without plan.store s m) (expanded m plan) (memory_grows plan s (building_without plan.store s m)) over
+
+  -- the memory may as well go after all is added
+  pub expanded_is : (expanded m plan).body ≡ expanded_memory m plan s
+  expanded_is = ap (λ (b : Building). b.body) (made_without plan.store s plan m)
+
+  pub names_are : (expanded m plan).next ≡ (memory_step plan s (building_of m)).next
+  names_are = ap (λ (b : Building). b.next) (made_without plan.store s plan m)
+
+-- the memory at a place that is there
+pub store_at : (stores : List Store) (at : ℕ) (s other : Store) → at < length stores → s ≡ get_or stores at s → s ≡ get_or stores at other
+store_at stores at s other h is =
+    let same : Some (get_or stores at s) ≡ Some (get_or stores at other) = sym (slice_get-get_or stores at s h) ∙ slice_get-get_or stores at other h in
+    let equal : get_or stores at s ≡ get_or stores at other = cc in
+    is ∙ equal
+
+-- what the expansion begins with, of a copy of the memory, and what it comes to
+module _ (m : Module) (plan : MemPlan) (s : Store) (rest : Module) (next : ℕ) (b : Building) (same : s ≡ planned_store m plan) (left : rest ≡ without_memory plan.store s m) (number : next ≡ first_number m) (begins : b ≡ building_from next rest) where
+  pub begun_is : b ≡ building_without plan.store (planned_store m plan) m
+  begun_is =
+      let whole : building_from next rest ≡ building_without plan.store s m = λ i. record { body = left i; next = number i } in
+      begins ∙ whole ∙ ap (λ t. building_without plan.store t m) same
+
+  pub after_is : (after : Building) → after ≡ memory_step plan s b → after.body ≡ expanded_memory m plan (planned_store m plan)
+  after_is after made =
+      ap (λ (x : Building). x.body) (made ∙ (λ i. memory_step plan (same i) (begun_is i))) ∙ expanded_is m plan

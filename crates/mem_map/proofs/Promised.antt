@@ -1,5 +1,5 @@
 -- What is promised of a module in which a memory became words.
-use Rattle.std.proofs.Common.{◌≡◌, ◌<◌, ◌≤◌, ◌++◌, length, Some, Result, Ok, Err, sym, ◌∙◌, ap, subst}
+use Rattle.std.proofs.Common.{◌≡◌, ◌<◌, ◌≤◌, ◌++◌, length, Some, Result, sym, ◌∙◌, ap, subst}
 use Rattle.std.specs.Prelude.{IfOk, OnOk, option_map, slice_get}
 use Rattle.std.proofs.lemmas.List.{append-nil}
 use Rattle.std.proofs.lemmas.Option.{slice_get-get_or}
@@ -18,8 +18,10 @@ use Rattle.net_model.proofs.Swapping.{instances-append}
 use Rattle.net_model.specs.Mem.Expand.{expanded_memory, memory_step}
 use Rattle.net_model.specs.Mem.Gather.{gathered}
 use Rattle.net_model.specs.Refine.{IsWellDriven, RefinesIn}
+use Rattle.pass_laws.specs.Pass.{IsPass, KeepsInterface, StaysDriven}
 use Rattle.pass_laws.specs.Ready.{IsReady}
-use Rattle.memory_laws.specs.Named.{HaveOwnNames}
+use Rattle.pass_laws.specs.OwnNames.{HaveOwnNames}
+use Rattle.pass_laws.proofs.Promised.{answered_within}
 use Rattle.memory_laws.proofs.Formed as formed
 use Rattle.memory_laws.proofs.KeptRows.{instances_stay, no_instances}
 use Rattle.memory_laws.proofs.MemoryBuilt.{memory_grows}
@@ -27,6 +29,7 @@ use Rattle.memory_laws.proofs.Readied.{still_named, still_ready}
 use Rattle.memory_laws.proofs.Refined as refined
 use Rattle.mem_map.specs.Gathered.{IsGathered}
 use Rattle.mem_map.specs.Limits.{expanded, no_store, planned_store}
+use Rattle.mem_map.proofs.Passing.{names_are}
 
 -- where the plan is gathered from the module, and nothing passes a limit
 module _ (table : PortTable) (m : Module) (plan : MemPlan) (inside : plan.store < length m.memories) (limits : IsInLimits (expanded m plan)) (is : IsGathered table m plan) where
@@ -43,7 +46,7 @@ module _ (table : PortTable) (m : Module) (plan : MemPlan) (inside : plan.store 
 
   -- fresh names are short
   few : (memory_step (gathered m plan.store s) s (building_of m)).next ≤ 1000000000
-  few = subst (λ p. (memory_step p s (building_of m)).next ≤ 1000000000) (sym gathers) limits.names
+  few = subst (λ p. (memory_step p s (building_of m)).next ≤ 1000000000) (sym gathers) (subst (λ n. n ≤ 1000000000) (names_are m plan) limits.names)
 
   refines : RefinesIn m (expanded_memory m plan s) table
   refines = subst (λ p. RefinesIn m (expanded_memory m p s) table) gathers (refined.refines table m s plan.store is.ready is.named there)
@@ -62,35 +65,43 @@ module _ (table : PortTable) (m : Module) (plan : MemPlan) (inside : plan.store 
 
 -- what is promised of a module after the memory; name, ports and instances stay, whatever the plan is
 pub record Gives (m : Module) (plan : MemPlan) (n : Module) : Type 0 where
-  pub refines : (table : PortTable) → IsGathered table m plan → RefinesIn m n table
-  pub driven : (table : PortTable) → IsGathered table m plan → (over : Ports) → IsWellDriven over m → IsWellDriven over n
-  pub ready : (table : PortTable) → IsGathered table m plan → IsReady (table_ports table.modules) n
+  pub kept : KeepsInterface m n
+  pub pass : (table : PortTable) → IsGathered table m plan → IsPass table m n
+  pub driven : (table : PortTable) → IsGathered table m plan → StaysDriven m n
   pub named : (table : PortTable) → IsGathered table m plan → HaveOwnNames n
-  pub id : n.id ≡ m.id
-  pub ports : ports_of n.wires ≡ ports_of m.wires
-  pub instances : instances n.cells ≡ instances m.cells
 
 module _ (m : Module) (plan : MemPlan) (inside : plan.store < length m.memories) where
-  gives : IsInLimits (expanded m plan) → Gives m plan (expanded_memory m plan (planned_store m plan))
-  gives limits =
+  keeps : KeepsInterface m (expanded_memory m plan (planned_store m plan))
+  keeps =
       let s : Store = planned_store m plan in
       let all = memory_grows plan s (building_of m) in
       record {
-        refines = λ table is. refines table m plan inside limits is;
-        driven = λ table is. driven table m plan inside limits is;
-        ready = λ table is. ready table m plan inside limits is;
-        named = λ table is. named table m plan inside limits is;
-        id = ap (λ (n : Module). n.id) all.body;
-        ports = ap (λ (n : Module). ports_of n.wires) all.body ∙ ports_more m.wires all.wires all.inner;
+        id = sym (ap (λ (n : Module). n.id) all.body);
+        ports = sym (ap (λ (n : Module). ports_of n.wires) all.body ∙ ports_more m.wires all.wires all.inner);
         instances =
-            instances_stay s.name (memory_step plan s (building_of m)).body.cells
+            sym
+            (instances_stay s.name (memory_step plan s (building_of m)).body.cells
             ∙ ap (λ (n : Module). instances n.cells) all.body
             ∙ instances-append m.cells all.cells
             ∙ ap (λ z. instances m.cells ++ z) (no_instances all.cells all.plain)
-            ∙ append-nil (instances m.cells);
+            ∙ append-nil (instances m.cells));
       }
+
+  gives : IsInLimits (expanded m plan) → Gives m plan (expanded_memory m plan (planned_store m plan))
+  gives limits = record {
+    kept = keeps;
+    pass = λ table is. record {
+      refines = refines table m plan inside limits is;
+      ready = λ h. ready table m plan inside limits is;
+      driven = λ over agree. driven table m plan inside limits is over;
+      id = keeps.id;
+      ports = keeps.ports;
+      instances = keeps.instances;
+    };
+    driven = λ table is. driven table m plan inside limits is;
+    named = λ table is. named table m plan inside limits is;
+  }
 
   -- of what is answered
   pub answer_gives : (r : Result Module PassFault) → IfOk r (λ after. after ≡ expanded_memory m plan (planned_store m plan)) → OnOk r (IsInLimits (expanded m plan)) → IfOk r (Gives m plan)
-  answer_gives (Ok after) e limits = subst (Gives m plan) (sym e) (gives limits)
-  answer_gives (Err fault) e limits = tt
+  answer_gives r is within = answered_within r (expanded_memory m plan (planned_store m plan)) is (IsInLimits (expanded m plan)) within (Gives m plan) gives

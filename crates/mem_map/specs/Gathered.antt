@@ -6,7 +6,7 @@ use Rattle.rtl_ir.specs.declared.plan.MemPlan.{MemPlan}
 use Rattle.rtl_ir.specs.declared.ports.PortTable.{PortTable}
 use Rattle.net_model.specs.Mem.Gather.{plan_of}
 use Rattle.pass_laws.specs.Ready.{IsReady}
-use Rattle.memory_laws.specs.Named.{HaveOwnNames}
+use Rattle.pass_laws.specs.OwnNames.{HaveOwnNames}
 
 -- the plan is the one that is gathered for its memory from the module, which a pass may be given over the ports of these modules,
 -- and of whose memories no two have one name

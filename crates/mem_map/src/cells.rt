@@ -1,43 +1,27 @@
 //! The cells of words, write chains and read trees.
 
-ghost use Rattle.std.specs.Prelude.{◌≡◌, true, Err, IfOk, OnOk};
-ghost use Rattle.rtl_ir.specs.Build.{integer_param, pin_of};
-ghost use Rattle.cell_types.specs.ParamName.{param_text};
-ghost use Rattle.cell_types.specs.PinName.{pin_text};
-ghost use Rattle.net_index.specs.Builder.{IsInLimits, PassesLimit, is_number_param, new_param, new_params};
+ghost use Rattle.std.specs.Prelude.{◌≡◌, Err, IfOk, OnOk};
+ghost use Rattle.rtl_ir.specs.Build.{pin_of};
+ghost use Rattle.net_index.specs.Builder.{IsInLimits, PassesLimit, new_params};
 ghost use Rattle.net_model.specs.Mem.Expand.{address_match, mux_of_signals, run_select};
-ghost use Rattle.mem_map.specs.Parts.{and_cell, binary_params, binary_pins, mux_pins, register_cell, register_params, register_pins};
+ghost use Rattle.mem_map.specs.Parts.{
+  and_cell,
+  binary_params,
+  binary_pins,
+  mux_pins,
+  register_cell,
+  register_params,
+  register_pins,
+};
 
-use crate::words::fixed;
 use cell_types::{
     BitwiseKind, CellKind, EqualKind, Param, ParamName, PinName, StorageKind, WordKind,
 };
-use net_index::{Builder, PassFault, number_param, whole};
-use rtl_bits::{Bit, Bits, Memory, Text};
-use rtl_ir::Pin;
-use rtl_sig::{SigBit, SigSpec, WireBit};
+use net_index::{Builder, PassFault, length_param, number_param, whole};
+use rtl_bits::{Bit, Bits, Memory};
+use rtl_ir::{Pin, pin_of};
+use rtl_sig::{SigBit, SigSpec, WireBit, fixed};
 use std::alloc::Global;
-
-/// A parameter of this length. One of 2^31 or more is taken for want of memory.
-fn length_param(alloc: Global, name: ParamName, length: usize) -> Result<Param, Memory>
-    requires number { is_number_param name ≡ true }
-    ensures value { IfOk result (λ param. new_param param ≡ integer_param (param_text name) «length») }
-{
-    match u32::try_from(length) {
-        Ok(number) if number < 1 << 31 => number_param(alloc, name, number),
-        _ => Err(Memory),
-    }
-}
-
-/// A pin with this signal.
-fn pin(alloc: Global, name: PinName, bits: &[SigBit]) -> Result<Pin, Memory>
-    ensures value { IfOk result (λ pin. pin ≡ pin_of (pin_text name) bits.now) }
-{
-    Ok(Pin {
-        name: Text::from_slice(alloc, name.text())?,
-        sig: SigSpec::from_slice(alloc, bits)?,
-    })
-}
 
 /// The parameters of two unsigned operands of this width, and an output of one bit.
 fn binary_params(alloc: Global, width: usize) -> Result<Vec<Param>, Memory>
@@ -57,8 +41,8 @@ fn binary_pins(alloc: Global, a: &[SigBit], b: &[SigBit]) -> Result<Vec<Pin>, Me
     ensures value { IfOk result (λ pins. pins.items ≡ binary_pins a.now b.now) }
 {
     let mut pins = Vec::new(alloc);
-    pins.push(pin(alloc, PinName::A, a)?)?;
-    pins.push(pin(alloc, PinName::B, b)?)?;
+    pins.push(pin_of(alloc, PinName::A, a)?)?;
+    pins.push(pin_of(alloc, PinName::B, b)?)?;
     Ok(pins)
 }
 
@@ -130,9 +114,9 @@ fn mux_pins(alloc: Global, a: &[SigBit], b: &[SigBit], s: SigBit) -> Result<Vec<
     ensures value { IfOk result (λ pins. pins.items ≡ mux_pins a.now b.now s) }
 {
     let mut pins = Vec::new(alloc);
-    pins.push(pin(alloc, PinName::A, a)?)?;
-    pins.push(pin(alloc, PinName::B, b)?)?;
-    pins.push(pin(alloc, PinName::S, &[s])?)?;
+    pins.push(pin_of(alloc, PinName::A, a)?)?;
+    pins.push(pin_of(alloc, PinName::B, b)?)?;
+    pins.push(pin_of(alloc, PinName::S, &[s])?)?;
     Ok(pins)
 }
 
@@ -177,9 +161,9 @@ fn register_pins(
     ensures value { IfOk result (λ pins. pins.items ≡ register_pins clock d.now q.now) }
 {
     let mut pins = Vec::new(alloc);
-    pins.push(pin(alloc, PinName::Clk, &[clock])?)?;
-    pins.push(pin(alloc, PinName::D, d)?)?;
-    pins.push(pin(alloc, PinName::Q, q)?)?;
+    pins.push(pin_of(alloc, PinName::Clk, &[clock])?)?;
+    pins.push(pin_of(alloc, PinName::D, d)?)?;
+    pins.push(pin_of(alloc, PinName::Q, q)?)?;
     Ok(pins)
 }
 

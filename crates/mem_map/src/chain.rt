@@ -25,8 +25,10 @@ fn port_runs(
     enable: &[SigBit],
     builder: &mut Builder,
 ) -> Result<SigSpec, PassFault>
-    ensures exact { IfOk result (λ value. (value, builder.new) ≡ port_runs matched runs.now acc.now written.now enable.now builder.old) }
-    ensures over { result ≡ Err PassFault.Over → PassesLimit (port_runs matched runs.now acc.now written.now enable.now builder.old).1 }
+    ensures exact { IfOk result (λ value. (value, builder.new) ≡
+        port_runs matched runs.now acc.now written.now enable.now builder.old) }
+    ensures over { result ≡ Err PassFault.Over →
+        PassesLimit (port_runs matched runs.now acc.now written.now enable.now builder.old).1 }
     ensures within { IsInLimits builder.old → OnOk result (IsInLimits builder.new) }
 {
     let mut value = Seq::make(alloc);
@@ -104,7 +106,8 @@ fn word_step(
     builder: &mut Builder,
 ) -> Result<(), PassFault>
     ensures exact { OnOk result (builder.new ≡ word_step plan.now (word address signal.now) builder.old) }
-    ensures over { result ≡ Err PassFault.Over → PassesLimit (word_step plan.now (word address signal.now) builder.old) }
+    ensures over { result ≡ Err PassFault.Over →
+        PassesLimit (word_step plan.now (word address signal.now) builder.old) }
     ensures within { IsInLimits builder.old → OnOk result (IsInLimits builder.new) }
 {
     let d = ports_step(alloc, address, plan.writes.as_slice(), signal, builder)?;

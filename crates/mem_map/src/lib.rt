@@ -10,15 +10,11 @@ mod without;
 mod words;
 
 ghost use Rattle.std.specs.Prelude.{◌≡◌, ◌<◌, Err, IfOk, OnOk, length, nat_abs};
-ghost use Rattle.rtl_ir.specs.Flat.Cell.{Ports, instances};
-ghost use Rattle.rtl_ir.specs.Ports.{ports_of};
-ghost use Rattle.rtl_ir.specs.Types.{table_ports};
 ghost use Rattle.rtl_ir.specs.declared.ports.PortTable.{PortTable};
 ghost use Rattle.net_index.specs.Builder.{IsInLimits, PassesLimit};
 ghost use Rattle.net_model.specs.Mem.Expand.{expanded_memory, memory_step, words_made};
-ghost use Rattle.net_model.specs.Refine.{IsWellDriven, RefinesIn};
-ghost use Rattle.pass_laws.specs.Ready.{IsReady};
-ghost use Rattle.memory_laws.specs.Named.{HaveOwnNames};
+ghost use Rattle.pass_laws.specs.OwnNames.{HaveOwnNames};
+ghost use Rattle.pass_laws.specs.Pass.{IsPass, KeepsInterface, StaysDriven};
 ghost use Rattle.mem_map.specs.Gathered.{IsGathered};
 ghost use Rattle.mem_map.specs.Limits.{ExpandPassesLimit, expanded, planned_store};
 ghost use Rattle.mem_map.specs.Words.{words_of};
@@ -27,8 +23,7 @@ use crate::chain::words_step;
 use crate::reads::reads_step;
 use crate::without::without_memory;
 use crate::words::{Words, fixed_words, word_wires};
-use match_cells::check_limits;
-use net_index::{Builder, PassFault};
+use net_index::{Builder, PassFault, first_number};
 use rtl_bits::Copied;
 use rtl_ir::{MemPlan, Module, Store};
 use std::alloc::Global;
@@ -37,20 +32,19 @@ use std::alloc::Global;
 /// a register with a chain of multiplexers, one for each write port that reaches it, and each read port a tree
 /// of multiplexers; without write ports the words are constants. The memory and its cells go. Where the module may
 /// be given to a pass, so may the answer, its next memory may be expanded, and no known output bit is lost. `Over`
-/// comes where the module with all that is added, its memory beside it, would pass a limit on cells, on bits of
-/// wires or on fresh names. After an error the module is given up. In the Yosys manual, the command `memory_map`.
+/// comes where the module after the memory would pass a limit on cells, on bits of wires or on fresh names. After an error the module is given up. In the Yosys manual, the command `memory_map`.
 pub fn expand(alloc: Global, module: Module, plan: &MemPlan) -> Result<Module, PassFault>
     requires in_range { plan.now.store < length «module».memories }
     ensures exact { IfOk result (λ after. after ≡ expanded_memory «module» plan.now (planned_store «module» plan.now)) }
     ensures over { result ≡ Err PassFault.Over → ExpandPassesLimit «module» plan.now }
     ensures within { OnOk result (IsInLimits (expanded «module» plan.now)) }
-    ensures refines { IfOk result (λ after. (table : PortTable) → IsGathered table «module» plan.now → RefinesIn «module» after table) }
-    ensures well_driven { IfOk result (λ after. (table : PortTable) → IsGathered table «module» plan.now → (over : Ports) → IsWellDriven over «module» → IsWellDriven over after) }
-    ensures well_formed { IfOk result (λ after. (table : PortTable) → IsGathered table «module» plan.now → IsReady (table_ports table.modules) after) }
-    ensures named { IfOk result (λ after. (table : PortTable) → IsGathered table «module» plan.now → HaveOwnNames after) }
-    ensures same_id { IfOk result (λ after. after.id ≡ «module».id) }
-    ensures same_ports { IfOk result (λ after. ports_of after.wires ≡ ports_of «module».wires) }
-    ensures same_instances { IfOk result (λ after. instances after.cells ≡ instances «module».cells) }
+    ensures kept { IfOk result (KeepsInterface «module») }
+    ensures pass { IfOk result (λ after. (table : PortTable) → IsGathered table «module» plan.now →
+        IsPass table «module» after) }
+    ensures driven { IfOk result (λ after. (table : PortTable) → IsGathered table «module» plan.now →
+        StaysDriven «module» after) }
+    ensures named { IfOk result (λ after. (table : PortTable) → IsGathered table «module» plan.now →
+        HaveOwnNames after) }
 {
     replace_memory(alloc, module, plan)
 }
@@ -62,12 +56,15 @@ fn replace_memory(alloc: Global, module: Module, plan: &MemPlan) -> Result<Modul
     ensures over { result ≡ Err PassFault.Over → ExpandPassesLimit «module» plan.now }
     ensures within { OnOk result (IsInLimits (expanded «module» plan.now)) }
 {
-    check_limits(&module)?;
     let at = plan.store as usize;
     let store = module.memories.as_slice()[at].copy()?;
-    let builder = Builder::of(alloc, module)?;
-    let builder = memory_step(alloc, plan, &store, builder)?;
-    Ok(without_memory(alloc, at, store.name.as_slice(), builder.finish())?)
+    // Fresh names go on from those of the whole module, the memory's among them.
+    let next = first_number(&module);
+    let rest = without_memory(alloc, at, store.name.as_slice(), module)?;
+    let builder = Builder::numbered_from(alloc, next, rest);
+    builder.check_limits()?;
+    let after = memory_step(alloc, plan, &store, builder)?;
+    Ok(after.finish())
 }
 
 /// Words, write chains and read trees are added. After an error the builder is given up.

@@ -69,8 +69,10 @@ fn read_tree(
     base: u64,
     builder: &mut Builder,
 ) -> Result<Option<SigSpec>, PassFault>
-    ensures exact { IfOk result (λ value. (value, builder.new) ≡ read_tree (words_of words.now) address.now bits base builder.old) }
-    ensures over { result ≡ Err PassFault.Over → PassesLimit (read_tree (words_of words.now) address.now bits base builder.old).1 }
+    ensures exact { IfOk result (λ value. (value, builder.new) ≡
+        read_tree (words_of words.now) address.now bits base builder.old) }
+    ensures over { result ≡ Err PassFault.Over →
+        PassesLimit (read_tree (words_of words.now) address.now bits base builder.old).1 }
     ensures within { IsInLimits builder.old → OnOk result (IsInLimits builder.new) }
 {
     if !has_word(words, bits, base) {
@@ -88,7 +90,8 @@ fn read_tree(
 /// The address 2^`bits` behind the base, where words go on that far.
 #[tactic(auto, using(crate::proofs::Reaching::far_above, crate::proofs::Reaching::past_above))]
 fn above(words: &Words, bits: usize, base: u64) -> Option<u64>
-    ensures value { MatchOption result (words.now.first + length words.now.signals ≤ base + 2 ^ bits) (λ above. above ≡ base + 2 ^ bits) }
+    ensures value { MatchOption result (words.now.first + length words.now.signals ≤ base + 2 ^ bits) (λ above. above ≡
+        base + 2 ^ bits) }
 {
     let behind = words.behind();
     if bits >= 64 {
@@ -110,8 +113,10 @@ fn high_half(
     base: u64,
     builder: &mut Builder,
 ) -> Result<Option<SigSpec>, PassFault>
-    ensures exact { IfOk result (λ value. (value, builder.new) ≡ read_tree (words_of words.now) address.now bits (base + 2 ^ bits) builder.old) }
-    ensures over { result ≡ Err PassFault.Over → PassesLimit (read_tree (words_of words.now) address.now bits (base + 2 ^ bits) builder.old).1 }
+    ensures exact { IfOk result (λ value. (value, builder.new) ≡
+        read_tree (words_of words.now) address.now bits (base + 2 ^ bits) builder.old) }
+    ensures over { result ≡ Err PassFault.Over →
+        PassesLimit (read_tree (words_of words.now) address.now bits (base + 2 ^ bits) builder.old).1 }
     ensures within { IsInLimits builder.old → OnOk result (IsInLimits builder.new) }
 {
     match above(words, bits, base) {

@@ -1,49 +1,16 @@
 //! The module without a memory and its cells.
 
-ghost use Rattle.std.specs.Prelude.{◌≡◌, ◌+◌, ◌++◌, IfOk, not, ◌&&◌, filter, take, drop, option_map};
+ghost use Rattle.std.specs.Prelude.{◌≡◌, ◌+◌, ◌++◌, IfOk, not, ◌&&◌, filter, take, drop};
 ghost use Rattle.rtl_ir.specs.Flat.Cell.{cell_kind};
-ghost use Rattle.rtl_ir.specs.Parameters.{chars_in, memory_name};
 ghost use Rattle.rtl_ir.specs.WritePorts.{is_of_memory};
 ghost use Rattle.rtl_ir.specs.declared.cell.Cell.{Cell};
 ghost use Rattle.rtl_ir.specs.declared.store.Store.{Store};
 ghost use Rattle.net_model.specs.Mem.Expand.{is_memory_kind, without_memory};
 
-use cell_types::{CellKind, ParamName, kind_of};
+use cell_types::{CellKind, kind_of};
 use rtl_bits::{Memory, Seq};
-use rtl_ir::{Cell, CellParam, Module, Store, Value};
+use rtl_ir::{Cell, Module, Store, is_of_memory};
 use std::alloc::Global;
-
-/// The characters of a string, where the constant is one.
-fn chars_in(value: &Value) -> Option<&[u8]>
-    ensures value { option_map (λ text. text.now) result ≡ chars_in value.now }
-{
-    match value {
-        Value::Chars(text) => Some(text.as_slice()),
-        _ => None,
-    }
-}
-
-/// The name of the memory that a cell belongs to, where it is written as a string.
-fn memory_name(params: &[CellParam]) -> Option<&[u8]>
-    ensures value { option_map (λ name. name.now) result ≡ memory_name params.now }
-{
-    for param in params {
-        if param.name.as_slice() == ParamName::Memid.text() {
-            return chars_in(&param.value);
-        }
-    }
-    None
-}
-
-/// Whether the cell belongs to the memory of this name.
-fn is_of_memory(name: &[u8], cell: &Cell) -> bool
-    ensures value { result ≡ is_of_memory name.now cell.now }
-{
-    match memory_name(cell.params.as_slice()) {
-        Some(memory) => name == memory,
-        None => false,
-    }
-}
 
 /// Whether a cell of this type is one of a memory.
 fn is_memory_kind(kind: Option<CellKind>) -> bool
@@ -63,7 +30,8 @@ fn stays(name: &[u8], cell: &Cell) -> bool
 
 /// The cells that are none of this memory.
 fn other_cells(alloc: Global, name: &[u8], cells: Seq<Cell>) -> Result<Seq<Cell>, Memory>
-    ensures value { IfOk result (λ others. others ≡ filter (λ (c : Cell). not (is_memory_kind (cell_kind c) && is_of_memory name.now c)) cells) }
+    ensures value { IfOk result (λ others. others ≡
+        filter (λ (c : Cell). not (is_memory_kind (cell_kind c) && is_of_memory name.now c)) cells) }
 {
     let mut others = Vec::new(alloc);
     for cell in cells.into_vec() {

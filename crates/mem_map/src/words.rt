@@ -1,7 +1,6 @@
 //! The words of a memory, each with the signal that stands for it.
 
-ghost use Rattle.std.specs.Prelude.{◌≡◌, ◌+◌, [], ◌∷◌, Err, IfOk, OnOk, length, map, option_map};
-ghost use Rattle.rtl_sig.specs.declared.sig.SigBit.TheVariants.{Fixed};
+ghost use Rattle.std.specs.Prelude.{◌≡◌, ◌+◌, [], ◌∷◌, Err, IfOk, OnOk, length, option_map};
 ghost use Rattle.rtl_ir.specs.Build.{fresh_wire};
 ghost use Rattle.net_index.specs.Builder.{IsInLimits, PassesLimit};
 ghost use Rattle.net_model.specs.Mem.Expand.{fixed_words, word_at, word_wires};
@@ -9,9 +8,9 @@ ghost use Rattle.net_model.specs.Proc.Start.{init_attribute};
 ghost use Rattle.mem_map.specs.Words.{words_of};
 
 use net_index::{Builder, PassFault, whole};
-use rtl_bits::{Bit, Bits, Copied, Memory, Seq, Text};
+use rtl_bits::{Bits, Copied, Memory, Seq, Text};
 use rtl_ir::{Attribute, Value};
-use rtl_sig::{SigBit, SigSpec};
+use rtl_sig::{SigSpec, fixed};
 use std::alloc::Global;
 
 /// The words of a memory, with rising address from the first one on.
@@ -21,17 +20,6 @@ pub(crate) struct Words {
     pub(crate) first: u32,
     /// Of each word the signal that stands for it.
     pub(crate) signals: Seq<SigSpec>,
-}
-
-/// The bits as constants of a signal.
-pub(crate) fn fixed(alloc: Global, bits: &[Bit]) -> Result<SigSpec, Memory>
-    ensures value { IfOk result (λ signal. signal ≡ map Fixed bits.now) }
-{
-    let mut signal = SigSpec::make(alloc);
-    for bit in bits {
-        signal.push(SigBit::Fixed(*bit))?;
-    }
-    Ok(signal)
 }
 
 /// Words that are constants.
@@ -65,8 +53,10 @@ pub(crate) fn word_wires(
 
 /// The signal of a fresh wire with these start values.
 fn word_wire(alloc: Global, bits: &Bits, builder: &mut Builder) -> Result<SigSpec, PassFault>
-    ensures exact { IfOk result (λ signal. (signal, builder.new) ≡ fresh_wire (length bits.now) (init_attribute bits.now ∷ []) builder.old) }
-    ensures over { result ≡ Err PassFault.Over → PassesLimit (fresh_wire (length bits.now) (init_attribute bits.now ∷ []) builder.old).1 }
+    ensures exact { IfOk result (λ signal. (signal, builder.new) ≡
+        fresh_wire (length bits.now) (init_attribute bits.now ∷ []) builder.old) }
+    ensures over { result ≡ Err PassFault.Over →
+        PassesLimit (fresh_wire (length bits.now) (init_attribute bits.now ∷ []) builder.old).1 }
     ensures within { OnOk result (IsInLimits builder.new) }
 {
     let width = u32::try_from(bits.as_slice().len()).map_err(|_| Memory)?;

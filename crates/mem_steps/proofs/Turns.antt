@@ -8,7 +8,7 @@ use Rattle.rtl_ir.specs.declared.module.Module.{Module}
 use Rattle.rtl_ir.specs.declared.plan.MemPlan.{MemPlan}
 use Rattle.rtl_ir.specs.declared.store.Store.{Store}
 use Rattle.net_index.specs.Builder.{IsInLimits, PassesLimit}
-use Rattle.net_model.specs.Mem.Expand.{expanded_memory, first_memory, memories_gone, memory_of, memory_step}
+use Rattle.net_model.specs.Mem.Expand.{building_without, expanded_memory, first_memory, memories_gone, memory_of, memory_step}
 use Rattle.net_model.specs.Mem.Gather.{gathered, plan_of}
 use Rattle.mem_map.specs.Limits.{ExpandPassesLimit, expanded, no_store, planned_store}
 use Rattle.memory_laws.proofs.MadeSteps.{memory_makes}
@@ -54,8 +54,8 @@ module _ (m : Module) (plan : MemPlan) (gathers : Some plan ≡ plan_of m 0) whe
     store_is : planned_store m plan ≡ s
     store_is = λ i. slice_index_or (are i) ((plan_is i).store) no_store
 
-    building_is : expanded m plan ≡ memory_step (gathered m 0 s) s (building_of m)
-    building_is = λ i. memory_step (plan_is i) (store_is i) (building_of m)
+    building_is : expanded m plan ≡ memory_step (gathered m 0 s) s (building_without 0 s m)
+    building_is = λ i. memory_step (plan_is i) (store_is i) (building_without ((plan_is i).store) (store_is i) m)
 
     next_is : expanded_memory m plan (planned_store m plan) ≡ next
     next_is = λ i. expanded_memory m (plan_is i) (store_is i)

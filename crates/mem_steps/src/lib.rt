@@ -2,14 +2,13 @@
 #![tactic(auto)]
 
 ghost use Rattle.std.specs.Prelude.{◌≡◌, [], true, false, Err, IfOk, None, OnOk, Some, length};
-ghost use Rattle.rtl_ir.specs.Flat.Cell.{Ports, cell_kind, instances};
-ghost use Rattle.rtl_ir.specs.Ports.{ports_of};
+ghost use Rattle.rtl_ir.specs.Flat.Cell.{cell_kind};
 ghost use Rattle.rtl_ir.specs.Types.{table_ports};
 ghost use Rattle.rtl_ir.specs.declared.cell.Cell.{Cell};
 ghost use Rattle.net_model.specs.Mem.Expand.{is_memory_kind, memory_of};
-ghost use Rattle.net_model.specs.Refine.{IsWellDriven, RefinesIn};
 ghost use Rattle.net_model.specs.Within.{Each};
-ghost use Rattle.memory_laws.specs.Named.{HaveOwnNames};
+ghost use Rattle.pass_laws.specs.OwnNames.{HaveOwnNames};
+ghost use Rattle.pass_laws.specs.Pass.{IsPass, StaysDriven};
 ghost use Rattle.pass_laws.specs.Ready.{IsReady};
 ghost use Rattle.mem_steps.specs.Within.{are_within, memory_within};
 
@@ -20,8 +19,8 @@ use rtl_ir::{Module, PortTable};
 use std::alloc::Global;
 
 /// The module in which all memories are words: in the order of the list each one is gathered from its cells and
-/// expanded. No memory is left, and no cell of one. `Over` comes where one of the memories, with all that is added
-/// for it and itself beside it, would pass a limit on cells, on bits of wires or on fresh names. In the Yosys manual,
+/// expanded. No memory is left, and no cell of one. `Over` comes where the module after one of
+/// the memories would pass a limit on cells, on bits of wires or on fresh names: its own cells count no more. In the Yosys manual,
 /// the commands `memory_collect` and `memory_map`.
 pub fn apply(alloc: Global, module: Module, ports: &PortTable) -> Result<Module, PassFault>
     requires ready { IsReady (table_ports ports.now.modules) «module» }
@@ -29,12 +28,8 @@ pub fn apply(alloc: Global, module: Module, ports: &PortTable) -> Result<Module,
     ensures exact { IfOk result (λ after. after ≡ memory_of «module») }
     ensures over { result ≡ Err PassFault.Over → memory_within «module» ≡ None }
     ensures within { IfOk result (λ after. memory_within «module» ≡ Some after) }
-    ensures refines { IfOk result (λ after. RefinesIn «module» after ports.now) }
-    ensures well_driven { IfOk result (λ after. (over : Ports) → IsWellDriven over «module» → IsWellDriven over after) }
-    ensures well_formed { IfOk result (IsReady (table_ports ports.now.modules)) }
-    ensures same_id { IfOk result (λ after. after.id ≡ «module».id) }
-    ensures same_ports { IfOk result (λ after. ports_of after.wires ≡ ports_of «module».wires) }
-    ensures same_instances { IfOk result (λ after. instances after.cells ≡ instances «module».cells) }
+    ensures pass { IfOk result (IsPass ports.now «module») }
+    ensures driven { IfOk result (StaysDriven «module») }
     ensures memories_gone { IfOk result (λ after. after.memories ≡ []) }
     ensures cells_gone { IfOk result (λ after. Each (λ (c : Cell). is_memory_kind (cell_kind c) ≡ false) after.cells) }
 {

@@ -10,8 +10,8 @@ use Rattle.rtl_bits.specs.declared.bit.Bit.TheVariants.{S0, S1, X, Z, M, Dash}
 use Rattle.rtl_sig.specs.declared.sig.SigBit.{SigBit}
 use Rattle.rtl_sig.specs.declared.sig.SigBit.TheVariants as sig
 use Rattle.rtl_sig.specs.declared.sig.WireBit.{WireBit}
-use Rattle.rtl_ir.specs.Signals.{same_bit}
-use Rattle.rtl_ir.specs.WritePorts.{Clocking, same_clocking, same_flag, same_place, same_signal, same_value}
+use Rattle.rtl_ir.specs.Signals.{same_bit, same_place, same_signal, same_value}
+use Rattle.rtl_ir.specs.WritePorts.{Clocking, same_clocking, same_flag}
 
 value_same : (a b : Bit) → same_value a b ≡ true → a ≡ b
 value_same S0 S0 e = refl

@@ -10,7 +10,8 @@ use Rattle.rtl_ir.specs.declared.store.Store.{Store}
 use Rattle.rtl_bits.specs.declared.bit.Bit.{Bit}
 use Rattle.rtl_bits.specs.declared.bit.Bit.TheVariants.{S0, S1, X, Z, M, Dash}
 use Rattle.rtl_bits.specs.Knowledge.{is_known}
-use Rattle.rtl_ir.specs.Faults.MemoryCells.{constant_of, is_address}
+use Rattle.rtl_ir.specs.Faults.MemoryCells.{is_address}
+use Rattle.rtl_ir.specs.Signals.{constant_of}
 use Rattle.memory_check.specs.Starts.{IsNumber, are_constants, are_inside, constant_number}
 
 tests : (base end first start n : ℕ)

@@ -5,7 +5,8 @@ use Rattle.rtl_bits.specs.Knowledge.{all_known}
 use Rattle.rtl_bits.specs.Numbers.{number_of}
 use Rattle.rtl_sig.specs.declared.sig.SigBit.{SigBit}
 use Rattle.rtl_ir.specs.declared.store.Store.{Store}
-use Rattle.rtl_ir.specs.Faults.MemoryCells.{constant_of, is_address}
+use Rattle.rtl_ir.specs.Faults.MemoryCells.{is_address}
+use Rattle.rtl_ir.specs.Signals.{constant_of}
 
 -- the number that a signal of constants stands for
 abbrev pub constant_number : List SigBit → ℕ

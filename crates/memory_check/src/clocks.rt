@@ -6,17 +6,16 @@ ghost use Rattle.rtl_ir.specs.declared.module.Link.{Link};
 ghost use Rattle.rtl_ir.specs.declared.module.Module.{Module};
 ghost use Rattle.rtl_ir.specs.Follow.{follow};
 ghost use Rattle.rtl_ir.specs.Types.{table_ports};
+ghost use Rattle.rtl_ir.specs.Signals as signals;
 ghost use Rattle.rtl_ir.specs.WritePorts as ports;
 ghost use Rattle.net_index.specs.Index.{IsIndex};
 ghost use Rattle.memory_check.specs.Clocks.{AreClocks, followed, is_high};
 ghost use Rattle.memory_check.specs.Shapes.{HasShape};
 
-use crate::given::signal_at;
 use cell_types::{Level, PinName, Shape};
 use net_index::Index;
 use rtl_bits::{Memory, Seq};
-use rtl_ir::{Cell, Event, Module, PortTable};
-use rtl_same::Same;
+use rtl_ir::{Cell, Event, Module, PortTable, Same, pin_signal};
 use rtl_sig::SigBit;
 use std::alloc::Global;
 
@@ -30,10 +29,11 @@ pub(crate) struct Clocking<'a> {
 impl<'a> Clocking<'a> {
     /// When a write cell of this shape acts.
     pub(crate) fn of_cell(cell: &'a Cell, shape: &Shape) -> Clocking<'a>
-        ensures value { HasShape shape.now MemwrV2 cell.now → (links : List Link) → followed links result ≡ ports.cell_clocking links cell.now }
+        ensures value { HasShape shape.now MemwrV2 cell.now → (links : List Link) →
+            followed links result ≡ ports.cell_clocking links cell.now }
     {
         Clocking {
-            clock: signal_at(cell.pins.as_slice(), PinName::Clk),
+            clock: pin_signal(cell.pins.as_slice(), PinName::Clk),
             rising: is_high(shape.levels.clk),
         }
     }
@@ -82,7 +82,8 @@ impl<'a> Clocks<'a> {
         other: Clocking,
     ) -> Result<bool, Memory>
         ensures clocks { OnOk result ((m : Module) → AreClocks self.old m → AreClocks self.new m) }
-        ensures value { IfOk result (λ same. (m : Module) → AreClocks self.old m → same ≡ ports.same_clocking (followed m.links one.entry) (followed m.links other.entry)) }
+        ensures value { IfOk result (λ same. (m : Module) → AreClocks self.old m →
+            same ≡ ports.same_clocking (followed m.links one.entry) (followed m.links other.entry)) }
     {
         if let Some(index) = &self.index {
             return Ok(same_clocking(index, one, other));
@@ -109,14 +110,16 @@ fn is_high(level: Level) -> bool
 
 /// Whether the two are the same edge of the same clock.
 fn same_clocking(index: &Index, one: Clocking, other: Clocking) -> bool
-    ensures value { (m : Module) → IsIndex index.now (table_ports []) m → result ≡ ports.same_clocking (followed m.links one.entry) (followed m.links other.entry) }
+    ensures value { (m : Module) → IsIndex index.now (table_ports []) m →
+        result ≡ ports.same_clocking (followed m.links one.entry) (followed m.links other.entry) }
 {
     same_signal(index, one.clock, other.clock) && one.rising == other.rising
 }
 
 /// Whether the two signals lead back along the connections to the same places.
 fn same_signal(index: &Index, one: &[SigBit], other: &[SigBit]) -> bool
-    ensures value { (m : Module) → IsIndex index.now (table_ports []) m → result ≡ ports.same_signal (map (follow m.links) one.now) (map (follow m.links) other.now) }
+    ensures value { (m : Module) → IsIndex index.now (table_ports []) m →
+        result ≡ signals.same_signal (map (follow m.links) one.now) (map (follow m.links) other.now) }
 {
     if one.len() != other.len() {
         return false;
@@ -131,7 +134,8 @@ fn same_signal(index: &Index, one: &[SigBit], other: &[SigBit]) -> bool
 
 /// Whether the two bits lead back along the connections to the same place.
 fn have_same_end(index: &Index, one: SigBit, other: SigBit) -> bool
-    ensures value { (m : Module) → IsIndex index.now (table_ports []) m → result ≡ ports.same_place (follow m.links one) (follow m.links other) }
+    ensures value { (m : Module) → IsIndex index.now (table_ports []) m →
+        result ≡ signals.same_place (follow m.links one) (follow m.links other) }
 {
     let here = index.follow(one);
     let there = index.follow(other);
@@ -141,7 +145,7 @@ fn have_same_end(index: &Index, one: SigBit, other: SigBit) -> bool
 /// Whether the two bits or constants are the same.
 #[tactic(auto, using(crate::proofs::Same::place_is))]
 fn is_same_place(one: SigBit, other: SigBit) -> bool
-    ensures value { result ≡ ports.same_place one other }
+    ensures value { result ≡ signals.same_place one other }
 {
     one.same(&other)
 }

@@ -2,7 +2,6 @@
 #![tactic(auto)]
 
 mod clocks;
-mod given;
 mod memories;
 mod ports;
 mod starts;

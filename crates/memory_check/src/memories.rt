@@ -15,11 +15,10 @@ ghost use Rattle.memory_check.specs.Ports.{line_of};
 ghost use Rattle.memory_check.specs.Shapes.{HasShape};
 
 use crate::clocks::Clocks;
-use crate::given::memory_name;
 use crate::ports::Ports;
 use cell_types::{MemoryKind, Shape};
 use rtl_bits::Memory;
-use rtl_ir::{Cell, Event, Module, Process, SyncRule, WriteLine};
+use rtl_ir::{Cell, Event, Module, Process, SyncRule, WriteLine, memory_name};
 use std::alloc::Global;
 use std::collections::HashMap;
 
@@ -47,8 +46,8 @@ impl<'a> Memories<'a> {
         })
     }
 
-    /// Whether a cell of this kind and shape names no memory of the module, or is a fault of it, behind the cells so far. If
-    /// it is none, it counts among them.
+    /// Whether a cell of this kind and shape names no memory of the module, or is a fault of it, behind the cells so
+    /// far. If it is none, it counts among them.
     pub fn is_bad_cell(
         &mut self,
         alloc: Global,
@@ -56,9 +55,12 @@ impl<'a> Memories<'a> {
         kind: MemoryKind,
         shape: &Shape,
     ) -> Result<bool, Memory>
-        ensures bad { IfOk result (λ bad. (m : Module) (earlier : List Cell) → KnowsCells self.old m earlier → HasShape shape.now kind cell.now →
+        ensures bad { IfOk result (λ bad. (m : Module) (earlier : List Cell) → KnowsCells self.old m earlier →
+            HasShape shape.now kind cell.now →
             bad ≡ cells.is_bad_memory_cell true m earlier cell.now kind) }
-        ensures noted { IfOk result (λ bad. bad ≡ false → (m : Module) (earlier : List Cell) → KnowsCells self.old m earlier → HasShape shape.now kind cell.now → kind_of cell.now.kind_name ≡ Some (Cells.Memory kind) →
+        ensures noted { IfOk result (λ bad. bad ≡ false → (m : Module) (earlier : List Cell) →
+            KnowsCells self.old m earlier → HasShape shape.now kind cell.now →
+            kind_of cell.now.kind_name ≡ Some (Cells.Memory kind) →
             KnowsCells self.new m (earlier ++ cell.now ∷ [])) }
     {
         match memory_name(cell.params.as_slice()) {
@@ -67,7 +69,8 @@ impl<'a> Memories<'a> {
         }
     }
 
-    /// The same of a cell of the memory of this name.
+    /// Whether a cell that names this memory names none of the module, or is a fault of it, behind the cells so far. If it
+    /// is none, it counts among them.
     fn is_bad_in(
         &mut self,
         alloc: Global,
@@ -76,9 +79,13 @@ impl<'a> Memories<'a> {
         kind: MemoryKind,
         shape: &Shape,
     ) -> Result<bool, Memory>
-        ensures bad { IfOk result (λ bad. (m : Module) (earlier : List Cell) → KnowsCells self.old m earlier → HasShape shape.now kind cell.now →
-            bad ≡ option_map_or (cells.is_bad_in true m earlier cell.now kind) (cells.store_named m.memories name.now) true) }
-        ensures noted { IfOk result (λ bad. bad ≡ false → (m : Module) (earlier : List Cell) → KnowsCells self.old m earlier → HasShape shape.now kind cell.now → kind_of cell.now.kind_name ≡ Some (Cells.Memory kind) →
+        ensures bad { IfOk result (λ bad. (m : Module) (earlier : List Cell) → KnowsCells self.old m earlier →
+            HasShape shape.now kind cell.now →
+            bad ≡ option_map_or (cells.is_bad_in true m earlier cell.now kind)
+            (cells.store_named m.memories name.now) true) }
+        ensures noted { IfOk result (λ bad. bad ≡ false → (m : Module) (earlier : List Cell) →
+            KnowsCells self.old m earlier → HasShape shape.now kind cell.now →
+            kind_of cell.now.kind_name ≡ Some (Cells.Memory kind) →
             parameters.memory_name cell.now.params ≡ Some name.now → KnowsCells self.new m (earlier ++ cell.now ∷ [])) }
     {
         match self.stores.get_mut(name) {
@@ -87,12 +94,13 @@ impl<'a> Memories<'a> {
         }
     }
 
-    /// Whether a line of the process that writes names no memory of the module, or is a fault of it, behind the lines so far.
-    /// If there is none, they count among them.
+    /// Whether a line of the process that writes names no memory of the module, or is a fault of it, behind the lines
+    /// so far. If there is none, they count among them.
     pub fn has_bad_line(&mut self, alloc: Global, process: &'a Process) -> Result<bool, Memory>
         ensures bad { IfOk result (λ bad. (m : Module) (before : List EventLine) → KnowsLines self.old m before →
             bad ≡ lines.has_bad_line true m before (write_lines process.now)) }
-        ensures noted { IfOk result (λ bad. bad ≡ false → (m : Module) (before : List EventLine) → KnowsLines self.old m before →
+        ensures noted { IfOk result (λ bad. bad ≡ false → (m : Module) (before : List EventLine) →
+            KnowsLines self.old m before →
             KnowsLines self.new m (before ++ write_lines process.now)) }
     {
         for rule in process.syncs.as_slice() {
@@ -103,11 +111,13 @@ impl<'a> Memories<'a> {
         Ok(false)
     }
 
-    /// The same of the lines of a rule.
+    /// Whether a line of the rule names no memory of the module, or is a fault of it, behind the lines so far. If there is
+    /// none, they count among them.
     fn has_bad_in(&mut self, alloc: Global, rule: &'a SyncRule) -> Result<bool, Memory>
         ensures bad { IfOk result (λ bad. (m : Module) (before : List EventLine) → KnowsLines self.old m before →
             bad ≡ lines.has_bad_line true m before (rule_lines rule.now)) }
-        ensures noted { IfOk result (λ bad. bad ≡ false → (m : Module) (before : List EventLine) → KnowsLines self.old m before →
+        ensures noted { IfOk result (λ bad. bad ≡ false → (m : Module) (before : List EventLine) →
+            KnowsLines self.old m before →
             KnowsLines self.new m (before ++ rule_lines rule.now)) }
     {
         for line in rule.writes.as_slice() {
@@ -118,7 +128,8 @@ impl<'a> Memories<'a> {
         Ok(false)
     }
 
-    /// The same of a line of a rule with this event.
+    /// Whether a line of a rule with this event names no memory of the module, or is a fault of it, behind the lines so
+    /// far. If it is none, it counts among them.
     fn is_bad_line(
         &mut self,
         alloc: Global,
@@ -127,7 +138,8 @@ impl<'a> Memories<'a> {
     ) -> Result<bool, Memory>
         ensures bad { IfOk result (λ bad. (m : Module) (before : List EventLine) → KnowsLines self.old m before →
             bad ≡ lines.is_bad_line true m before (line_of event.now line.now)) }
-        ensures noted { IfOk result (λ bad. bad ≡ false → (m : Module) (before : List EventLine) → KnowsLines self.old m before →
+        ensures noted { IfOk result (λ bad. bad ≡ false → (m : Module) (before : List EventLine) →
+            KnowsLines self.old m before →
             KnowsLines self.new m (before ++ (line_of event.now line.now) ∷ [])) }
     {
         match self.stores.get_mut(line.memory.as_slice()) {

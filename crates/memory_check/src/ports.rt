@@ -1,6 +1,22 @@
 //! The write ports of one memory so far.
 
-ghost use Rattle.std.specs.Prelude.{◌≡◌, ◌<◌, ◌+◌, ◌++◌, ◌∷◌, ◌||◌, [], List, Some, true, false, IfOk, OnOk, max, unwrap_or};
+ghost use Rattle.std.specs.Prelude.{
+  ◌≡◌,
+  ◌<◌,
+  ◌+◌,
+  ◌++◌,
+  ◌∷◌,
+  ◌||◌,
+  [],
+  List,
+  Some,
+  true,
+  false,
+  IfOk,
+  OnOk,
+  max,
+  unwrap_or,
+};
 ghost use Rattle.cell_types.specs.declared.memory.MemoryKind.{MemoryKind};
 ghost use Rattle.cell_types.specs.declared.memory.MemoryKind.TheVariants.{MemwrV2};
 ghost use Rattle.rtl_ir.specs.declared.cell.Cell.{Cell};
@@ -17,18 +33,13 @@ use crate::clocks::{Clocking, Clocks};
 use crate::starts::{are_enables, are_words};
 use cell_types::{MemoryKind, Shape};
 use rtl_bits::Memory;
+use rtl_ir::limits::{MAX_ADDRESS, MAX_PORT};
 use rtl_ir::{Cell, Event, Store, WriteLine};
 use std::alloc::Global;
 use std::collections::HashSet;
 
-/// The greatest number of a write port.
-const MAX_PORT: u32 = 65_535;
-
-/// The most bits of an address.
-const MAX_ADDRESS: usize = 32;
-
-/// A memory and its write ports so far: the numbers of those that are cells, one more than the greatest of all numbers, and
-/// when the first one acts. All act when the first one does.
+/// A memory and its write ports so far: the numbers of those that are cells, one more than the greatest of all numbers,
+/// and when the first one acts. All act when the first one does.
 #[derive(Drop)]
 pub(crate) struct Ports<'a> {
     store: &'a Store,
@@ -60,9 +71,11 @@ impl<'a> Ports<'a> {
         shape: &Shape,
     ) -> Result<bool, Memory>
         ensures clocks { OnOk result ((m : Module) → AreClocks clocks.old m → AreClocks clocks.new m) }
-        ensures bad { IfOk result (λ bad. (m : Module) (s : Store) (ports : List rtl.WritePort) → AreClocks clocks.old m → HasCells m.links self.old s ports → HasShape shape.now kind cell.now →
+        ensures bad { IfOk result (λ bad. (m : Module) (s : Store) (ports : List rtl.WritePort) →
+            AreClocks clocks.old m → HasCells m.links self.old s ports → HasShape shape.now kind cell.now →
             bad ≡ (cells.is_unlike s cell.now || cells.is_bad_access true m.links ports s cell.now kind)) }
-        ensures noted { IfOk result (λ bad. bad ≡ false → (m : Module) (s : Store) (ports : List rtl.WritePort) → AreClocks clocks.old m → HasCells m.links self.old s ports → HasShape shape.now kind cell.now →
+        ensures noted { IfOk result (λ bad. bad ≡ false → (m : Module) (s : Store) (ports : List rtl.WritePort) →
+            AreClocks clocks.old m → HasCells m.links self.old s ports → HasShape shape.now kind cell.now →
             HasCells m.links self.new s (with_cell m.links ports kind cell.now)) }
     {
         if is_unlike(self.store, shape) {
@@ -87,9 +100,11 @@ impl<'a> Ports<'a> {
         shape: &Shape,
     ) -> Result<bool, Memory>
         ensures clocks { OnOk result ((m : Module) → AreClocks clocks.old m → AreClocks clocks.new m) }
-        ensures bad { IfOk result (λ bad. (m : Module) (s : Store) (ports : List rtl.WritePort) → AreClocks clocks.old m → HasCells m.links self.old s ports → HasShape shape.now MemwrV2 cell.now →
+        ensures bad { IfOk result (λ bad. (m : Module) (s : Store) (ports : List rtl.WritePort) →
+            AreClocks clocks.old m → HasCells m.links self.old s ports → HasShape shape.now MemwrV2 cell.now →
             bad ≡ cells.is_bad_write true m.links ports cell.now) }
-        ensures noted { IfOk result (λ bad. bad ≡ false → (m : Module) (s : Store) (ports : List rtl.WritePort) → AreClocks clocks.old m → HasCells m.links self.old s ports → HasShape shape.now MemwrV2 cell.now →
+        ensures noted { IfOk result (λ bad. bad ≡ false → (m : Module) (s : Store) (ports : List rtl.WritePort) →
+            AreClocks clocks.old m → HasCells m.links self.old s ports → HasShape shape.now MemwrV2 cell.now →
             HasCells m.links self.new s (ports ++ rtl.cell_port m.links cell.now ∷ [])) }
     {
         let number = shape.port.number;
@@ -114,9 +129,13 @@ impl<'a> Ports<'a> {
         line: &'a WriteLine,
     ) -> Result<bool, Memory>
         ensures clocks { OnOk result ((m : Module) → AreClocks clocks.old m → AreClocks clocks.new m) }
-        ensures bad { IfOk result (λ bad. (m : Module) (s : Store) (ports : List rtl.WritePort) (lines : List rtl.EventLine) → AreClocks clocks.old m → HasLines m.links self.old s ports lines →
+        ensures bad { IfOk result (λ bad.
+            (m : Module) (s : Store) (ports : List rtl.WritePort) (lines : List rtl.EventLine) →
+            AreClocks clocks.old m → HasLines m.links self.old s ports lines →
             bad ≡ is_bad_line_behind m.links s ports lines (line_of event.now line.now)) }
-        ensures noted { IfOk result (λ bad. bad ≡ false → (m : Module) (s : Store) (ports : List rtl.WritePort) (lines : List rtl.EventLine) → AreClocks clocks.old m → HasLines m.links self.old s ports lines →
+        ensures noted { IfOk result (λ bad. bad ≡ false →
+            (m : Module) (s : Store) (ports : List rtl.WritePort) (lines : List rtl.EventLine) →
+            AreClocks clocks.old m → HasLines m.links self.old s ports lines →
             HasLines m.links self.new s ports (lines ++ (line_of event.now line.now) ∷ [])) }
     {
         let number = self.next;
@@ -142,7 +161,8 @@ impl<'a> Ports<'a> {
         clocking: Clocking<'a>,
     ) -> Result<bool, Memory>
         ensures clocks { OnOk result ((m : Module) → AreClocks clocks.old m → AreClocks clocks.new m) }
-        ensures value { IfOk result (λ clash. (m : Module) → AreClocks clocks.old m → clash ≡ unlike m.links self.now.first (followed m.links clocking.entry)) }
+        ensures value { IfOk result (λ clash. (m : Module) → AreClocks clocks.old m →
+            clash ≡ unlike m.links self.now.first (followed m.links clocking.entry)) }
     {
         match self.first {
             Some(first) => Ok(!clocks.are_same(alloc, clocking, first)?),
@@ -165,8 +185,8 @@ impl<'a> Ports<'a> {
     }
 }
 
-/// Whether the words of a cell of this shape have another width than those of the memory, or its addresses have no bit or
-/// too many.
+/// Whether the words of a cell of this shape have another width than those of the memory, or its addresses have no bit
+/// or too many.
 fn is_unlike(store: &Store, shape: &Shape) -> bool
     ensures value { (kind : MemoryKind) (c : Cell) → HasShape shape.now kind c → result ≡ cells.is_unlike store.now c }
 {

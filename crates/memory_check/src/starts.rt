@@ -7,11 +7,9 @@ ghost use Rattle.rtl_ir.specs.Faults.MemoryCells as cells;
 ghost use Rattle.memory_check.specs.Shapes.{HasShape};
 ghost use Rattle.memory_check.specs.Starts.{are_inside, IsNumber};
 
-use crate::given::signal_at;
 use cell_types::{PinName, Shape};
-use net_index::is_all_constant;
 use rtl_bits::Bit;
-use rtl_ir::{Cell, Store};
+use rtl_ir::{Cell, Store, constant_of, is_all_constant, pin_signal};
 use rtl_sig::SigBit;
 
 /// A number that is past the addresses of every memory.
@@ -19,14 +17,16 @@ const PAST: u64 = 1 << 33;
 
 /// Whether the start words of a cell of this shape are constants, and stand at addresses of the memory.
 pub(crate) fn are_words(store: &Store, cell: &Cell, shape: &Shape) -> bool
-    ensures value { (kind : MemoryKind) → HasShape shape.now kind cell.now → result ≡ cells.are_words store.now cell.now }
+    ensures value { (kind : MemoryKind) → HasShape shape.now kind cell.now →
+        result ≡ cells.are_words store.now cell.now }
 {
     let pins = cell.pins.as_slice();
-    is_all_constant(signal_at(pins, PinName::Data))
-        && are_inside(store, signal_at(pins, PinName::Addr), shape.port.words)
+    is_all_constant(pin_signal(pins, PinName::Data))
+        && are_inside(store, pin_signal(pins, PinName::Addr), shape.port.words)
 }
 
-/// Whether so many words from this address on stand in the memory, where the count may be cut off at the greatest `u32`. Of
+/// Whether so many words from this address on stand in the memory, where the count may be cut off at the greatest
+/// `u32`. Of
 /// no words nothing is asked.
 fn are_inside(store: &Store, address: &[SigBit], count: u32) -> bool
     ensures value { (words : ℕ) → count ≡ small words → result ≡ are_inside store.now address.now words }
@@ -60,19 +60,9 @@ fn constant_number(signal: &[SigBit]) -> Option<u64>
     Some(number)
 }
 
-/// A constant as the bit that it is.
-fn constant_of(bit: SigBit) -> Bit
-    ensures value { result ≡ cells.constant_of bit }
-{
-    match bit {
-        SigBit::Fixed(bit) => bit,
-        SigBit::Wire(_) => Bit::X,
-    }
-}
-
 /// Whether constants tell which bits of the start words of a cell of this shape are set.
 pub(crate) fn are_enables(cell: &Cell, shape: &Shape) -> bool
     ensures value { (kind : MemoryKind) → HasShape shape.now kind cell.now → result ≡ cells.are_enables cell.now }
 {
-    is_all_constant(signal_at(cell.pins.as_slice(), PinName::En)) || shape.port.words == 0
+    is_all_constant(pin_signal(cell.pins.as_slice(), PinName::En)) || shape.port.words == 0
 }

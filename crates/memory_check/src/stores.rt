@@ -4,9 +4,7 @@ ghost use Rattle.std.specs.Prelude.{◌≡◌};
 ghost use Rattle.rtl_ir.specs.Faults.Stores.{is_bad_store};
 
 use rtl_ir::Store;
-
-/// The most bits of one memory.
-const MAX_BITS: u64 = 65_536;
+use rtl_ir::limits::MAX_STORE;
 
 /// Whether the memory has no word, an address below 0, or too many bits.
 pub fn is_bad_store(store: &Store) -> bool
@@ -15,5 +13,5 @@ pub fn is_bad_store(store: &Store) -> bool
     if store.size < 1 || store.offset < 0 {
         return true;
     }
-    u64::from(store.width) * u64::from(store.size.unsigned_abs()) > MAX_BITS
+    u64::from(store.width) * u64::from(store.size.unsigned_abs()) > MAX_STORE
 }

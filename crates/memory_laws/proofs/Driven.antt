@@ -41,12 +41,13 @@ use Rattle.net_model.specs.Within.{Each, IsWithin}
 use Rattle.map_laws.proofs.FreshWires.{IsFresh, IsSpotOf, fresh_number, from_spots, in_wire_spots, names_of, old_number, one_name, rising_distinct, rising_fresh, wire_spots, wire_spots_distinct}
 use Rattle.pass_laws.proofs.Placing.{bits_places, places_more}
 use Rattle.pass_laws.proofs.Rewriting.{links-append}
-use Rattle.proc_laws.proofs.CountingItems.{distinct_once, in_often, often, often_in, often_more, once_distinct}
-use Rattle.proc_laws.proofs.RebuildBits.{port_name}
-use Rattle.proc_laws.proofs.RebuildSpots.{IsKept, rows_kept}
-use Rattle.mux_laws.proofs.TreeLess.{memories_same}
+use Rattle.build_laws.proofs.CountingItems.{distinct_once, in_often, often, often_in, often_more, once_distinct}
+use Rattle.build_laws.proofs.RebuildBits.{port_name}
+use Rattle.build_laws.proofs.RebuildSpots.{IsKept, rows_kept}
+use Rattle.build_laws.proofs.Staying.{memories_same}
 use Rattle.memory_laws.proofs.KeptRows.{cells_same, instances_stay, memories_stay, no_instances, stays, without, without_is}
-use Rattle.memory_laws.proofs.Made.{Makes, times}
+use Rattle.memory_laws.proofs.Made.{Makes}
+use Rattle.build_laws.proofs.CountingPlaces.{times}
 use Rattle.memory_laws.proofs.MadeSteps.{data_bits, memory_makes}
 use Rattle.memory_laws.proofs.MemoryThere.{before, built, plan}
 

@@ -14,8 +14,8 @@ use Rattle.net_model.specs.Mem.Gather.{gathered}
 use Rattle.pass_laws.specs.Replaces.{IsEven, IsFaultless}
 use Rattle.pass_laws.proofs.Alone.{library_faultless}
 use Rattle.pass_laws.specs.Ready.{IsReady}
-use Rattle.memory_laws.specs.Named.{HaveOwnNames}
-use Rattle.memory_laws.proofs.Faultless.{in_place}
+use Rattle.pass_laws.specs.OwnNames.{HaveOwnNames}
+use Rattle.pass_laws.proofs.Finding.{in_place}
 use Rattle.memory_laws.proofs.Fitting.{IsFit}
 use Rattle.memory_laws.proofs.FittingPlan.{built_fits}
 use Rattle.memory_laws.proofs.FittingSteps.{AreFit}

@@ -1,9 +1,9 @@
 -- What a module without faults has of its memories: words of at most 65,536 bits, and write ports of their width.
 use Rattle.std.proofs.Common.{◌≡◌, ◌≤◌, ℕ, zero, suc, ◌+◌, ◌*◌, Bool, true, false, ◌||◌, List, [], ◌∷◌, ◌++◌, length, Option, Some, None, if◌then◌else◌, ◌⊎◌, inl, inr, ⊎_elim, refl, sym, ◌∙◌, ap, arith}
-use Rattle.std.specs.Prelude.{◌==◌, ◌&&◌, filter, find, flat_map, int_lt, map, nat_abs, nat_le, nat_lt, not, pos, slice_get, ℤ, negsuc}
+use Rattle.std.specs.Prelude.{◌==◌, ◌&&◌, filter, flat_map, int_lt, map, nat_abs, nat_le, nat_lt, not, pos, slice_get, ℤ, negsuc}
 use Rattle.std.specs.Option.{option_and_then, option_map_or}
 use Rattle.std.specs.Str.{bytes_eq}
-use Rattle.std.proofs.lemmas.Bool.{and_parts, eqb-true, ltb-false}
+use Rattle.std.proofs.lemmas.Bool.{and_parts, eqb-true, ltb-false, or_parts}
 use Rattle.std.proofs.lemmas.Slice.Eq.{bytes_eq-Decides}
 use Rattle.cell_types.specs.declared.kind.CellKind.{CellKind}
 use Rattle.cell_types.specs.declared.kind.CellKind.TheVariants.{Word, Gate, Storage, StorageGate, Memory}
@@ -31,11 +31,11 @@ use Rattle.net_model.specs.Mem.Gather.{write_port}
 use Rattle.net_model.specs.Within.{Each}
 use Rattle.pass_laws.proofs.Faultless.{all_fine, fits, library_faults, no_cell_faults, no_faults, none_left, none_right}
 use Rattle.pass_laws.specs.Ready.{IsReady}
-use Rattle.mux_laws.proofs.MatchBits.{or_false}
 use Rattle.memory_laws.proofs.KeptRows.{without}
 use Rattle.memory_laws.proofs.PortSteps.{AreWide}
-use Rattle.memory_laws.proofs.PinWidths.{pin_fits}
+use Rattle.pass_laws.proofs.PinWidths.{pin_fits}
 use Rattle.cell_types.specs.declared.pin_name.PinName.TheVariants.{En}
+use Rattle.pass_laws.proofs.Finding.{found_there, in_place, filtered_in}
 
 pub no_fault : (t : Bool) (f : Fault) → fault_if t f ≡ [] → t ≡ false
 no_fault true f e = absurd (cc)
@@ -72,12 +72,6 @@ word_fits scope id s e =
     by false false false ea ec h =
         times_more s.width (nat_abs s.size) (some_size s.size ea) (ltb-false 65536 (s.width * nat_abs s.size) ec)
 
--- the memory at a place
-pub in_place : {A : Type 0} (xs : List A) (at : ℕ) (x : A) → slice_get xs at ≡ Some x → In x xs
-in_place [] at x e = absurd (cc)
-in_place (y ∷ xs) zero x e = let same : x ≡ y = cc in inl same
-in_place (y ∷ xs) (suc at) x e = inr (in_place xs at x e)
-
 -- each other memory has another name
 pub others_apart : (stores : List Store) (at : ℕ) (s : Store) → Distinct (map (λ (r : Store). r.name) stores) → slice_get stores at ≡ Some s → Each (λ (r : Store). r.name ≡ s.name → ⊥) (without at stores)
 others_apart [] at s h e r i f = absurd i
@@ -96,24 +90,6 @@ one_named (y ∷ stores) h r s (inl i) (inr j) e =
 one_named (y ∷ stores) h r s (inr i) (inl j) e =
     absurd (apart_at y.name (map (λ (q : Store). q.name) stores) h.0 r.name (In-map (λ (q : Store). q.name) r stores i) (sym (ap (λ (q : Store). q.name) j) ∙ sym e))
 one_named (y ∷ stores) h r s (inr i) (inr j) e = one_named stores h.1 r s i j e
-
--- what is found is there, and passes the test
-pub found_there : (test : Store → Bool) (stores : List Store) (r : Store) → find test stores ≡ Some r → In r stores × (test r ≡ true)
-found_there test [] r e = absurd (cc)
-found_there test (y ∷ stores) r e = by (test y) refl e (found_there test stores r)
-  where
-    by : (t : Bool) → test y ≡ t → (if t then Some y else find test stores) ≡ Some r → (find test stores ≡ Some r → In r stores × (test r ≡ true)) → In r (y ∷ stores) × (test r ≡ true)
-    by true f g later = let same : r ≡ y = cc in (inl same, ap test same ∙ f)
-    by false f g later = let k = later g in (inr k.0, k.1)
-
-pub in_filter : (test : Cell → Bool) (cells : List Cell) (c : Cell) → In c (filter test cells) → In c cells × (test c ≡ true)
-in_filter test [] c i = absurd i
-in_filter test (d ∷ cells) c i = by (test d) refl i (in_filter test cells c)
-  where
-    by : (t : Bool) → test d ≡ t → In c (if t then d ∷ filter test cells else filter test cells) → (In c (filter test cells) → In c cells × (test c ≡ true)) → In c (d ∷ cells) × (test c ≡ true)
-    by true f (inl e) later = (inl e, ap test e ∙ f)
-    by true f (inr j) later = let k = later j in (inr k.0, k.1)
-    by false f j later = let k = later j in (inr k.0, k.1)
 
 -- an access in order is one of them
 in_placed : (a b : Access) (xs : List Access) → In a (place_access b xs) → (a ≡ b) ⊎ In a xs
@@ -169,8 +145,8 @@ module _ (ports : Ports) (m : Module) (ready : IsReady ports m) (distinct : Dist
             let k = found_there (λ (z : Store). bytes_eq z.name q) m.memories r e in
             let name : r.name ≡ s.name = (bytes_eq-Decides r.name q).0 k.1 ∙ sym is in
             let same : r ≡ s = one_named m.memories distinct r s k.0 there name in
-            let unlike : is_unlike r c ≡ false = (or_false (is_unlike r c) (is_bad_access false m.links (cell_ports m.links r.name earlier) r c MemwrV2) f).0 in
-            let width : not (number_at c Param.Width == r.width) ≡ false = (or_false (not (number_at c Param.Width == r.width)) (number_at c Param.Abits == 0) ((or_false _ (nat_lt 32 (number_at c Param.Abits)) unlike).0)).0 in
+            let unlike : is_unlike r c ≡ false = (or_parts (is_unlike r c) (is_bad_access false m.links (cell_ports m.links r.name earlier) r c MemwrV2) f).0 in
+            let width : not (number_at c Param.Width == r.width) ≡ false = (or_parts (not (number_at c Param.Width == r.width)) (number_at c Param.Abits == 0) ((or_parts _ (nat_lt 32 (number_at c Param.Abits)) unlike).0)).0 in
             eqb-true (number_at c Param.Width) r.width (not_true (number_at c Param.Width == r.width) width) ∙ ap (λ (z : Store). z.width) same
 
         by : (o : Option (List ℕ)) → option_map_or (bytes_eq s.name) o false ≡ true → option_map_or (is_bad_in false m earlier c MemwrV2) (option_and_then (store_named m.memories) o) true ≡ false → number_at c Param.Width ≡ s.width
@@ -195,6 +171,6 @@ module _ (ports : Ports) (m : Module) (ready : IsReady ports m) (distinct : Dist
         let a = In-mapped write_port port (cell_accesses s.name m.cells) i in
         let test = λ (c : Cell). is_write_cell c.kind_name && is_of_memory s.name c in
         let c = In-mapped cell_access a.0 (filter test m.cells) (in_order a.0 (map cell_access (filter test m.cells)) a.1) in
-        let k = in_filter test m.cells c.0 c.1 in
+        let k = filtered_in test m.cells c.0 c.1 in
         let both = and_parts (is_write_cell c.0.kind_name) (is_of_memory s.name c.0) k.1 in
         ap (λ (q : WritePort). length q.enable) a.2 ∙ ap (λ (q : Access). length q.enable) c.2 ∙ cell_wide c.0 k.0 both.0 both.1

@@ -1,22 +1,19 @@
 -- The cells that are built for a memory have no fault of their kinds, and the connections have sides of one width.
-use Rattle.std.proofs.Common.{◌≡◌, ◌<◌, ◌≤◌, ℕ, ◌%◌, ◌^◌, Bool, true, false, ◌||◌, List, [], ◌∷◌, length, Some, None, if◌then◌else◌, refl, ◌∙◌, arith}
-use Rattle.std.specs.Prelude.{◌==◌, codes, nat_lt}
-use Rattle.std.proofs.lemmas.Bool.{eq-eqb, lt-ltb}
+use Rattle.std.proofs.Common.{◌≡◌, ◌<◌, ◌≤◌, ℕ, Bool, true, false, ◌||◌, List, [], ◌∷◌, length, Some, None, if◌then◌else◌, refl, arith}
+use Rattle.std.specs.Prelude.{codes}
 use Rattle.cell_types.specs.Fault.{fault_of}
 use Rattle.cell_types.specs.ParamName.{param_text}
 use Rattle.cell_types.specs.PinName.{pin_text}
 use Rattle.cell_types.specs.declared.kind.CellKind.{CellKind}
 use Rattle.cell_types.specs.declared.kind.CellKind.TheVariants.{Storage, Word}
-use Rattle.cell_types.specs.declared.param_name.ParamName.TheVariants.{ASigned, AWidth, BSigned, BWidth, ClkPolarity, Width, YWidth}
-use Rattle.cell_types.specs.declared.pin_name.PinName.TheVariants.{A, B, Clk, D, Q, S, Y}
+use Rattle.cell_types.specs.declared.param_name.ParamName.TheVariants.{ASigned, AWidth, BSigned, BWidth, YWidth}
+use Rattle.cell_types.specs.declared.pin_name.PinName.TheVariants.{A, B, D, Q, S, Y}
 use Rattle.cell_types.specs.declared.storage.StorageKind.TheVariants.{Dff}
 use Rattle.cell_types.specs.declared.word.BitwiseKind.TheVariants.{And}
 use Rattle.cell_types.specs.declared.word.EqualKind.TheVariants.{Eq}
 use Rattle.cell_types.specs.declared.word.WordKind.TheVariants.{Bitwise, Equal, Mux}
-use Rattle.rtl_bits.proofs.Numbers.{bits_of_known, number_of_bits_of}
 use Rattle.rtl_bits.specs.Knowledge.{all_known}
-use Rattle.rtl_bits.proofs.Lists.{true_all_known}
-use Rattle.rtl_bits.specs.Numbers.{bits_of, number_of}
+use Rattle.rtl_bits.specs.Numbers.{number_of}
 use Rattle.rtl_bits.specs.declared.bit.Bit.{Bit}
 use Rattle.rtl_sig.specs.declared.sig.SigBit.{SigBit}
 use Rattle.rtl_ir.specs.Build.{integer_param, pin_of, whole}
@@ -26,50 +23,15 @@ use Rattle.rtl_ir.specs.Flat.Cell.{cell_kind}
 use Rattle.rtl_ir.specs.Signals.{bits_of_wire, has_constant}
 use Rattle.rtl_ir.specs.Types.{Library}
 use Rattle.rtl_ir.specs.declared.cell.Cell.{Cell}
-use Rattle.mux_laws.proofs.FrameCells.{no_constant}
+use Rattle.build_laws.proofs.CellFits.{no_constant, mux_fits, eq_fits, dff_fits}
 use Rattle.memory_laws.proofs.PortCells.{whole_long}
-
-number_known : (n : ℕ) → all_known (low_bits n 32) ≡ true
-unfolding low_bits
-number_known n = true_all_known (bits_of n 32) (bits_of_known n 32)
-
-number_is : (n : ℕ) → n ≤ 4096 → number_of (low_bits n 32) ≡ n
-unfolding low_bits
-number_is n few = let low : n % 2 ^ 32 ≡ n = omega (arith, few) in number_of_bits_of n 32 ∙ low
-
-mux_fits : (v : List Bit) (la lb ly n : ℕ) → all_known v ≡ true → number_of v ≡ n → la ≡ n → lb ≡ n → ly ≡ n → 0 < n → n ≤ 4096
-    → fault_of (Word Mux) (record { name = param_text Width; value = v } ∷ [])
-    (record { name = pin_text A; width = la } ∷ record { name = pin_text B; width = lb } ∷ record { name = pin_text S; width = 1 } ∷ record { name = pin_text Y; width = ly } ∷ []) ≡ None
-mux_fits v la lb ly n k e ea eb ey some few =
-    let positive : nat_lt 0 n ≡ true = lt-ltb 0 n some in
-    let narrow : nat_lt 4096 n ≡ false = grind arith in
-    let same : (n == n) ≡ true = eq-eqb n n refl in
-    rw (k, e, ea, eb, ey, positive, narrow, same) refl
-
-eq_fits : (z v o : List Bit) (la lb ly n : ℕ) → all_known z ≡ true → all_known v ≡ true → all_known o ≡ true → number_of v ≡ n → number_of o ≡ 1 → la ≡ n → lb ≡ n → ly ≡ 1 → 0 < n → n ≤ 4096
-    → fault_of (Word (Equal Eq))
-    (record { name = param_text ASigned; value = z } ∷ record { name = param_text AWidth; value = v } ∷ record { name = param_text BSigned; value = z } ∷ record { name = param_text BWidth; value = v } ∷ record { name = param_text YWidth; value = o } ∷ [])
-    (record { name = pin_text A; width = la } ∷ record { name = pin_text B; width = lb } ∷ record { name = pin_text Y; width = ly } ∷ []) ≡ None
-eq_fits z v o la lb ly n kz kv ko nv one ea eb ey some few =
-    let positive : nat_lt 0 n ≡ true = lt-ltb 0 n some in
-    let narrow : nat_lt 4096 n ≡ false = grind arith in
-    let same : (n == n) ≡ true = eq-eqb n n refl in
-    rw (kz, kv, ko, nv, one, ea, eb, ey, positive, narrow, same) refl
+use Rattle.pass_laws.proofs.CellNumbers.{number_known, number_is}
 
 and_fits : (z o : List Bit) (ly : ℕ) → all_known z ≡ true → all_known o ≡ true → number_of o ≡ 1 → ly ≡ 1
     → fault_of (Word (Bitwise And))
     (record { name = param_text ASigned; value = z } ∷ record { name = param_text AWidth; value = o } ∷ record { name = param_text BSigned; value = z } ∷ record { name = param_text BWidth; value = o } ∷ record { name = param_text YWidth; value = o } ∷ [])
     (record { name = pin_text A; width = 1 } ∷ record { name = pin_text B; width = 1 } ∷ record { name = pin_text Y; width = ly } ∷ []) ≡ None
 and_fits z o ly kz ko one ey = rw (kz, ko, one, ey) refl
-
-dff_fits : (v p : List Bit) (lc ld lq n : ℕ) → all_known v ≡ true → number_of v ≡ n → all_known p ≡ true → lc ≡ 1 → ld ≡ n → lq ≡ n → 0 < n → n ≤ 4096
-    → fault_of (Storage Dff) (record { name = param_text Width; value = v } ∷ record { name = param_text ClkPolarity; value = p } ∷ [])
-    (record { name = pin_text Clk; width = lc } ∷ record { name = pin_text D; width = ld } ∷ record { name = pin_text Q; width = lq } ∷ []) ≡ None
-dff_fits v p lc ld lq n kv nv kp ec ed eq some few =
-    let positive : nat_lt 0 n ≡ true = lt-ltb 0 n some in
-    let narrow : nat_lt 4096 n ≡ false = grind arith in
-    let same : (n == n) ≡ true = eq-eqb n n refl in
-    rw (kv, kp, nv, ec, ed, eq, positive, narrow, same) refl
 
 or_none : (t : Bool) → t ≡ false → (t || false) ≡ false
 or_none true e = e

@@ -4,7 +4,7 @@ use Rattle.std.specs.Prelude.{◌==◌, ◌&&◌, find, map, nat_lt, not}
 use Rattle.std.specs.List.{list_any}
 use Rattle.std.specs.Option.{option_and_then, option_map_or}
 use Rattle.std.specs.Str.{bytes_eq}
-use Rattle.std.proofs.lemmas.Bool.{and_parts, eqb-false, eqb-true, ltb-false, ltb-true}
+use Rattle.std.proofs.lemmas.Bool.{and_parts, eqb-false, eqb-true, ltb-false, ltb-true, or_parts}
 use Rattle.std.proofs.lemmas.Slice.Eq.{bytes_eq-Decides}
 use Rattle.std.proofs.lemmas.List.FromFn.{length-map-range_with_len}
 use Rattle.cell_types.specs.PinName.{pin_text}
@@ -43,10 +43,10 @@ use Rattle.net_model.specs.Mem.Gather.{gathered, read_port, read_ports, write_po
 use Rattle.net_model.specs.Within.{Each}
 use Rattle.pass_laws.proofs.Faultless.{all_fine, fits, library_faults, no_cell_faults, no_faults, none_right}
 use Rattle.pass_laws.specs.Ready.{IsReady}
-use Rattle.mux_laws.proofs.MatchBits.{or_false}
-use Rattle.memory_laws.proofs.Faultless.{found_there, no_fault, one_named, write_kind}
+use Rattle.memory_laws.proofs.Faultless.{no_fault, one_named, write_kind}
+use Rattle.pass_laws.proofs.Finding.{found_there}
 use Rattle.memory_laws.proofs.FittingSteps.{AreFit, ReadFits, WriteFits, memory_fits}
-use Rattle.memory_laws.proofs.PinWidths.{param_reads, pin_fits, shape_of}
+use Rattle.pass_laws.proofs.PinWidths.{param_reads, pin_fits, shape_of}
 use Rattle.memory_laws.proofs.PlanIn.{access_cell}
 
 not_true : (t : Bool) → not t ≡ false → t ≡ true
@@ -57,7 +57,7 @@ not_true false e = absurd (cc)
 free_of : (name : List ℕ) (pins : List Pin) → list_any (λ (p : Pin). bytes_eq p.name name && has_constant p.sig) pins ≡ false → has_constant (signal_at pins name) ≡ false
 free_of name [] e = refl
 free_of name (p ∷ pins) e =
-    let both = or_false (bytes_eq p.name name && has_constant p.sig) (list_any (λ (q : Pin). bytes_eq q.name name && has_constant q.sig) pins) e in
+    let both = or_parts (bytes_eq p.name name && has_constant p.sig) (list_any (λ (q : Pin). bytes_eq q.name name && has_constant q.sig) pins) e in
     by (bytes_eq p.name name) both.0 (free_of name pins both.1)
   where
     by : (t : Bool) → (t && has_constant p.sig) ≡ false → has_constant (signal_at pins name) ≡ false → has_constant (option_map_or (λ (q : Pin). q.sig) (if t then Some p else find (λ (q : Pin). bytes_eq q.name name) pins) []) ≡ false
@@ -73,8 +73,8 @@ record HasSizes (s : Store) (c : Cell) : Type 0 where
 module _ (ports : Ports) (m : Module) (ready : IsReady ports m) (distinct : Distinct (map (λ (r : Store). r.name) m.memories)) (s : Store) (there : In s m.memories) where
   sizes_of : (c : Cell) → is_unlike s c ≡ false → HasSizes s c
   sizes_of c unlike =
-      let first = or_false (not (number_at c Param.Width == s.width) || (number_at c Param.Abits == 0)) (nat_lt 32 (number_at c Param.Abits)) unlike in
-      let second = or_false (not (number_at c Param.Width == s.width)) (number_at c Param.Abits == 0) first.0 in
+      let first = or_parts (not (number_at c Param.Width == s.width) || (number_at c Param.Abits == 0)) (nat_lt 32 (number_at c Param.Abits)) unlike in
+      let second = or_parts (not (number_at c Param.Width == s.width)) (number_at c Param.Abits == 0) first.0 in
       let other = eqb-false (number_at c Param.Abits) 0 second.1 in
       record {
         width = eqb-true (number_at c Param.Width) s.width (not_true (number_at c Param.Width == s.width) second.0);
@@ -95,7 +95,7 @@ module _ (ports : Ports) (m : Module) (ready : IsReady ports m) (distinct : Dist
       found q is (Some r) e f =
           let k = found_there (λ (z : Store). bytes_eq z.name q) m.memories r e in
           let same : r ≡ s = one_named m.memories distinct r s k.0 there ((bytes_eq-Decides r.name q).0 k.1 ∙ sym is) in
-          subst (λ (z : Store). is_unlike z c ≡ false) same (or_false (is_unlike r c) (is_bad_access false m.links (cell_ports m.links r.name earlier) r c kind) f).0
+          subst (λ (z : Store). is_unlike z c ≡ false) same (or_parts (is_unlike r c) (is_bad_access false m.links (cell_ports m.links r.name earlier) r c kind) f).0
 
       by : (o : Option (List ℕ)) → option_map_or (bytes_eq s.name) o false ≡ true → option_map_or (is_bad_in false m earlier c kind) (option_and_then (store_named m.memories) o) true ≡ false → is_unlike s c ≡ false
       by None e f = absurd (cc)

@@ -3,7 +3,7 @@ use Rattle.std.proofs.Common.{◌≡◌, ◌<◌, ◌≤◌, ℕ, zero, suc, ◌
 use Rattle.std.specs.Prelude.{◌==◌, drop, map, nat_abs, nat_lt, not, replicate, take}
 use Rattle.std.proofs.lemmas.Bool.{eq-eqb}
 use Rattle.std.proofs.lemmas.List.{length-drop, length-take-le}
-use Rattle.rtl_bits.proofs.Numbers.{bits_of_length}
+use Rattle.rtl_bits.proofs.NumberLemmas.{bits_of_length}
 use Rattle.rtl_bits.specs.Numbers.{bits_of}
 use Rattle.rtl_bits.specs.declared.bit.Bit.{Bit}
 use Rattle.rtl_bits.specs.declared.bit.Bit.TheVariants.{S1, X}
@@ -23,7 +23,7 @@ use Rattle.net_model.specs.Mem.Expand.{Word, address_match, fixed_words, halves,
 use Rattle.net_model.specs.Proc.Start.{init_attribute}
 use Rattle.net_model.specs.Within.{Each}
 use Rattle.pass_laws.specs.Replaces.{IsEven}
-use Rattle.mux_laws.proofs.FrameCells.{no_constant}
+use Rattle.build_laws.proofs.CellFits.{no_constant}
 use Rattle.memory_laws.proofs.Fitting.{IsFit, and_fit, dff_fit, eq_fit, mux_fit}
 use Rattle.memory_laws.proofs.PortCells.{whole_long}
 use Rattle.memory_laws.proofs.PortRuns.{run_length_long}

@@ -13,7 +13,7 @@ use Rattle.net_model.specs.Mem.Gather.{gathered}
 use Rattle.net_model.specs.Refine.{IsWellDriven}
 use Rattle.net_model.specs.Within.{IsWithin}
 use Rattle.pass_laws.specs.Ready.{IsReady}
-use Rattle.memory_laws.specs.Named.{HaveOwnNames}
+use Rattle.pass_laws.specs.OwnNames.{HaveOwnNames}
 use Rattle.memory_laws.proofs.Driven.{after_is, memory_driven, memory_instances, memory_ports}
 use Rattle.memory_laws.proofs.Faultless.{none_there, others_apart}
 use Rattle.memory_laws.proofs.MemoryThere.{before}

@@ -14,7 +14,8 @@ use Rattle.net_model.specs.Mem.Gather.{gathered}
 use Rattle.net_model.specs.Refine.{IsWellDriven, RefinesOver}
 use Rattle.pass_laws.specs.Ready.{IsReady}
 use Rattle.pass_laws.proofs.Passes.{refines_in_turn}
-use Rattle.memory_laws.specs.Named.{AreShort, HaveOwnNames, IsShort}
+use Rattle.memory_laws.specs.Named.{AreShort, IsShort}
+use Rattle.pass_laws.specs.OwnNames.{HaveOwnNames}
 use Rattle.memory_laws.proofs.Formed.{driven, same_id, same_instances, same_ports}
 use Rattle.memory_laws.proofs.KeptRows.{without}
 use Rattle.memory_laws.proofs.Readied.{others_left, still_named, still_ready}

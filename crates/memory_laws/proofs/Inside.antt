@@ -16,7 +16,7 @@ use Rattle.net_model.proofs.Ranges.{each_both, each_more, each_none}
 use Rattle.net_model.specs.Mem.Expand.{address_match, low_bit, mux_of_signals, port_runs, port_step, ports_step, run_lengths, run_select}
 use Rattle.net_model.specs.Within.{BitIn, CellIn, Each, LinkIn, SigIn}
 use Rattle.map_laws.proofs.Wholes.{cell_more, link_more}
-use Rattle.mux_laws.proofs.FrameCells.{whole_within}
+use Rattle.build_laws.proofs.CellFits.{whole_within}
 
 -- how many wires there are
 abbrev pub count_of : Building → ℕ

@@ -24,7 +24,7 @@ use Rattle.net_model.specs.Mem.Expand.{is_memory_kind}
 use Rattle.net_model.proofs.Members.{In-cases, In-left, In-right}
 use Rattle.net_model.specs.Lists.{In}
 use Rattle.net_model.specs.Within.{Each}
-use Rattle.mux_laws.proofs.TreeGrowing.{IsPlainCell}
+use Rattle.build_laws.proofs.Growing.{IsPlainCell}
 
 -- a cell that is none of the memory of this name
 abbrev pub stays : List ℕ → Cell → Bool

@@ -24,7 +24,6 @@ pub mod Formed
 pub mod Inside
 pub mod InsideSteps
 pub mod PlanIn
-pub mod PinWidths
 pub mod Fitting
 pub mod FittingSteps
 pub mod FittingPlan
@@ -34,3 +33,4 @@ pub mod Counted
 pub mod Readied
 pub mod InTurn
 pub mod Turned
+pub mod Commuting

@@ -42,16 +42,13 @@ use Rattle.pass_laws.proofs.Faultless.{type_is}
 use Rattle.pass_laws.specs.Bits.{cells_bits, links_bits, pin_bits}
 use Rattle.pass_laws.proofs.Placing.{bits_places, outputs_places, places_more, points_places}
 use Rattle.pass_laws.proofs.Rewriting.{links-append}
-use Rattle.proc_laws.proofs.CountingItems.{often, often_more}
-use Rattle.mux_laws.proofs.FrameCells.{bits_back}
-use Rattle.mux_laws.proofs.TreeGrowing.{IsPlainCell, with_more}
+use Rattle.build_laws.proofs.CountingItems.{often_more}
+use Rattle.build_laws.proofs.CellFits.{bits_back}
+use Rattle.build_laws.proofs.Growing.{IsPlainCell, with_more}
 use Rattle.net_model.proofs.Ranges.{each_both, each_more, each_none}
 use Rattle.net_model.specs.Within.{AreInner, Each}
 use Rattle.rtl_ir.specs.declared.module.Link.{Link}
-
--- how often a bit stands among places
-abbrev pub times : Place → List Place → ℕ
-times q ps = often place_same q ps
+use Rattle.build_laws.proofs.CountingPlaces.{times, times_bits}
 
 -- what is added between two states: the bits that the cells drive are among those of the wires and these further ones, those
 -- that the connections drive among these
@@ -92,11 +89,6 @@ bits_more first (w ∷ ws) vs =
     let place : (first + 1) + length ws ≡ first + length (w ∷ ws) = omega arith in
     ap (λ z. bits_of_wire first w.width ++ z) (bits_more (first + 1) ws vs ∙ ap (λ n. bits_from (first + 1) ws ++ bits_from n vs) place)
     ∙ sym (append_assoc (bits_of_wire first w.width) (bits_from (first + 1) ws) (bits_from (first + length (w ∷ ws)) vs))
-
--- a bit stands among two lists as often as among both
-pub times_bits : (p : Path) (ws : List Wire) (q : Place) (xs ys : List WireBit) → times q (bits_places p ws (xs ++ ys)) ≡ times q (bits_places p ws xs) + times q (bits_places p ws ys)
-times_bits p ws q xs ys =
-    ap (times q) (map-append (bit_place p ws) xs ys) ∙ often_more place_same q (bits_places p ws xs) (bits_places p ws ys)
 
 pub makes_both : (a b c : Building) (xs ys ls ks : List WireBit) → Makes a b xs ls → Makes b c ys ks → Makes a c (xs ++ ys) (ls ++ ks)
 makes_both a b c xs ys ls ks g h = record {

@@ -30,9 +30,10 @@ use Rattle.map_laws.proofs.FreshWires.{names_of}
 use Rattle.map_laws.specs.Expansion.{AreRising, bits_from}
 use Rattle.pass_laws.proofs.Counting.{count, count_more}
 use Rattle.pass_laws.proofs.Placing.{bits_places}
-use Rattle.mux_laws.proofs.FrameCells.{bits_back}
-use Rattle.mux_laws.proofs.TreeGrowing.{with_more}
-use Rattle.memory_laws.proofs.Made.{Makes, bits_more, makes_both, makes_driver, makes_link, makes_none, makes_plain, makes_store, times, times_bits}
+use Rattle.build_laws.proofs.CellFits.{bits_back}
+use Rattle.build_laws.proofs.Growing.{with_more}
+use Rattle.memory_laws.proofs.Made.{Makes, bits_more, makes_both, makes_driver, makes_link, makes_none, makes_plain, makes_store}
+use Rattle.build_laws.proofs.CountingPlaces.{times, times_bits}
 
 match_makes : (address : List SigBit) (number : ℕ) (b : Building) → Makes b (address_match address number b).1 [] []
 match_makes address number b =

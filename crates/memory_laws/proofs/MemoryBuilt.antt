@@ -27,9 +27,9 @@ use Rattle.net_model.specs.Valuation.{passed_of}
 use Rattle.net_model.specs.Words.{fetched_of}
 use Rattle.pass_laws.proofs.Driving.{row_of}
 use Rattle.pass_laws.proofs.Rewriting.{links-append}
-use Rattle.mux_laws.proofs.TreeGrowing.{Grows, grows_both, grows_link, grows_none, met_before}
-use Rattle.mux_laws.proofs.TreeSteps.{BodyMet}
-use Rattle.mux_laws.proofs.ValueMoment.{AreMet, Moment, seen, seen_all}
+use Rattle.build_laws.proofs.Growing.{Grows, grows_both, grows_link, grows_none, met_before}
+use Rattle.build_laws.proofs.Meeting.{BodyMet}
+use Rattle.build_laws.proofs.Moments.{AreMet, Moment, seen, seen_all}
 use Rattle.memory_laws.proofs.PortCells.{at, at_get}
 use Rattle.memory_laws.proofs.ReadTrees.{IsAsWide, read_stands, tree_at, tree_grows, tree_wide, word_of}
 use Rattle.memory_laws.proofs.WordSteps.{wires_grow, words_grow}

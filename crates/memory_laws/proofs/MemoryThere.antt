@@ -26,8 +26,8 @@ use Rattle.net_model.specs.Refine.{Solved}
 use Rattle.net_model.specs.Relate.{Says}
 use Rattle.net_model.specs.Run.{Time}
 use Rattle.net_model.specs.Valuation.{Valuation}
-use Rattle.mux_laws.proofs.TreeGrowing.{Grows}
-use Rattle.mux_laws.proofs.TreeSteps.{BodyMet}
+use Rattle.build_laws.proofs.Growing.{Grows}
+use Rattle.build_laws.proofs.Meeting.{BodyMet}
 use Rattle.memory_laws.proofs.MemoryBuilt.{memory_grows, words_there}
 use Rattle.memory_laws.proofs.Saying.{memory_says}
 use Rattle.memory_laws.proofs.WordCells.{level_of, moment_of}

@@ -20,18 +20,19 @@ use Rattle.net_model.specs.Lists.{In}
 use Rattle.net_model.specs.Mem.Expand.{expanded_memory}
 use Rattle.net_model.specs.Mem.Gather.{clock_bit, read_port, read_ports, write_port}
 use Rattle.net_model.specs.Within.{BitIn, CellIn, Each, IsWithin, ProcessIn, SigIn}
-use Rattle.memory_laws.proofs.Faultless.{in_filter, in_order}
+use Rattle.memory_laws.proofs.Faultless.{in_order}
 use Rattle.memory_laws.proofs.Inside.{PortIn, StaysIn}
 use Rattle.memory_laws.proofs.InsideSteps.{ReadIn, memory_stays}
 use Rattle.memory_laws.proofs.KeptRows.{stays}
 use Rattle.memory_laws.proofs.MemoryThere.{before, built, grown, plan}
+use Rattle.pass_laws.proofs.Finding.{filtered_in}
 
 -- each access is one of a cell that writes the memory
 pub access_cell : (cells : List Cell) (name : List ℕ) (a : Access) → In a (cell_accesses name cells) → (c : Cell) × In c cells × (a ≡ cell_access c) × (is_write_cell c.kind_name ≡ true) × (is_of_memory name c ≡ true)
 access_cell cells name a i =
     let test = λ (c : Cell). is_write_cell c.kind_name && is_of_memory name c in
     let c = In-mapped cell_access a (filter test cells) (in_order a (map cell_access (filter test cells)) i) in
-    let k = in_filter test cells c.0 c.1 in
+    let k = filtered_in test cells c.0 c.1 in
     let both = and_parts (is_write_cell c.0.kind_name) (is_of_memory name c.0) k.1 in
     (c.0, k.0, c.2, both.0, both.1)
 

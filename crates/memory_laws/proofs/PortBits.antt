@@ -21,9 +21,9 @@ use Rattle.net_model.specs.Picked.{equal_of}
 use Rattle.net_model.specs.Valuation.{Valuation}
 use Rattle.net_model.specs.Words.{address_is, after_ports, followed_by}
 use Rattle.memory_laws.proofs.Chain.{chained, has_at, port_hit}
-use Rattle.mux_laws.proofs.ValueCells.{pair_match}
-use Rattle.mux_laws.proofs.ValueMoment.{Moment, seen_all}
-use Rattle.mux_laws.proofs.ValueOrders.{all_right}
+use Rattle.build_laws.proofs.CellValues.{pair_match}
+use Rattle.build_laws.proofs.Moments.{Moment, seen_all}
+use Rattle.build_laws.proofs.Orders.{all_right}
 
 -- the data of a port where it may follow are no more than its data
 followed_low : (fs : List Bool) (hits : List Bit) (new : Bit) → Below (followed_by fs hits new) new

@@ -1,6 +1,6 @@
 -- The cells of a write port: the match of its address, the select of a run of its enable, and the multiplexer.
-use Rattle.std.proofs.Common.{◌≡◌, ◌<◌, ◌≤◌, ℕ, zero, suc, ◌+◌, ◌^◌, List, [], ◌∷◌, ◌++◌, length, Some, refl, sym, ◌∙◌, ap, subst, arith}
-use Rattle.std.specs.Prelude.{codes, drop, map, slice_get, slice_index_or, take}
+use Rattle.std.proofs.Common.{◌≡◌, ◌<◌, ◌≤◌, ℕ, zero, suc, ◌+◌, ◌^◌, List, [], ◌∷◌, ◌++◌, length, refl, sym, ◌∙◌, ap, subst, arith}
+use Rattle.std.specs.Prelude.{codes, drop, map, slice_index_or, take}
 use Rattle.std.specs.List.{range_with_len}
 use Rattle.std.proofs.lemmas.List.{get_or-append-add, get_or-drop, get_or-take, get_or_append_left}
 use Rattle.cell_types.specs.declared.word.BitwiseKind.TheVariants.{And}
@@ -13,7 +13,7 @@ use Rattle.rtl_bits.specs.Knowledge.{Below}
 use Rattle.cell_types.specs.Shape.{small}
 use Rattle.std.proofs.lemmas.List.FromFn.{get_or-map-range_with_len}
 use Rattle.std.proofs.Math.Nat.{mod-eq_of_lt}
-use Rattle.rtl_bits.proofs.Numbers.{number_of_bits_of}
+use Rattle.rtl_bits.proofs.NumberLemmas.{number_of_bits_of}
 use Rattle.rtl_sig.specs.declared.sig.WireBit.{WireBit}
 use Rattle.rtl_bits.specs.Numbers.{bits_of, number_of}
 use Rattle.rtl_bits.specs.Tables.{and_of, mux_of}
@@ -28,10 +28,10 @@ use Rattle.rtl_ir.specs.declared.cell.Cell.{Cell}
 use Rattle.net_model.specs.Mem.Expand.{address_match, mux_of_signals, run_select}
 use Rattle.net_model.specs.Words.{address_is}
 use Rattle.pass_laws.proofs.Driving.{own_driver, own_in, row_of}
-use Rattle.mux_laws.proofs.TreeGrowing.{Grows, grows_driver, grows_none}
-use Rattle.mux_laws.proofs.ValueCells.{equal_gives, equal_made, pair_match}
-use Rattle.mux_laws.proofs.ValueMoment.{AreMet, IsCellMet, Moment, met_last, seen, seen_all}
-use Rattle.mux_laws.proofs.ValueOrders.{all_folded}
+use Rattle.build_laws.proofs.Growing.{Grows, grows_driver, grows_none}
+use Rattle.build_laws.proofs.CellValues.{equal_gives, equal_made, pair_match, whole_get}
+use Rattle.build_laws.proofs.Moments.{AreMet, IsCellMet, Moment, met_last, seen, seen_all}
+use Rattle.build_laws.proofs.Orders.{all_folded}
 use Rattle.memory_laws.proofs.PortBits.{address_folds, address_pairs, pairs_address, pairs_long, pairs_number, zero_and}
 use Rattle.memory_laws.proofs.Chain.{has_at}
 
@@ -47,21 +47,6 @@ select_grows match enable b =
 pub mux_grows : (a c : List SigBit) (s : SigBit) (b : Building) → Grows b (mux_of_signals a c s b).1
 mux_grows a c s b =
     grows_driver (codes "$mux") Mux refl _ (pin_of (codes "\\A") a ∷ pin_of (codes "\\B") c ∷ pin_of (codes "\\S") (s ∷ []) ∷ []) (codes "\\Y") (length a) b
-
-wire_got : (wire from width k : ℕ) → k < width → slice_get (map OnWire (map (λ at. record { wire = wire; at = at }) (range_with_len from width))) k ≡ Some (OnWire (record { wire = wire; at = from + k }))
-wire_got wire from zero k lt = absurd (omega (arith, lt))
-wire_got wire from (suc n) zero lt =
-    let here : from ≡ from + 0 = omega arith in
-    ap (λ z. Some (OnWire (record { wire = wire; at = z }))) here
-wire_got wire from (suc n) (suc k) lt =
-    let later : (from + 1) + k ≡ from + suc k = omega arith in
-    wire_got wire (from + 1) n k (omega (arith, lt)) ∙ ap (λ z. Some (OnWire (record { wire = wire; at = z }))) later
-
--- a bit of a whole wire
-pub whole_get : (wire width k : ℕ) → k < width → slice_get (whole wire width) k ≡ Some (OnWire (record { wire = wire; at = k }))
-whole_get wire width k lt =
-    let here : 0 + k ≡ k = omega arith in
-    wire_got wire 0 width k lt ∙ ap (λ z. Some (OnWire (record { wire = wire; at = z }))) here
 
 module _ (m : Moment) where
   abbrev match_made : List ℕ → List SigBit → List SigBit → ℕ → ℕ → Cell

@@ -14,12 +14,12 @@ use Rattle.rtl_bits.specs.declared.bit.Bit.TheVariants.{X}
 use Rattle.rtl_sig.specs.declared.sig.SigBit.{SigBit}
 use Rattle.rtl_sig.specs.declared.sig.SigBit.TheVariants.{Fixed}
 use Rattle.rtl_ir.specs.Build.{Building}
-use Rattle.rtl_ir.specs.WritePorts.{same_place}
+use Rattle.rtl_ir.specs.Signals.{same_place}
 use Rattle.net_model.specs.Mem.Expand.{low_bit, mux_of_signals, port_runs, run_length, run_lengths, run_select}
-use Rattle.proc_laws.proofs.RebuildMemories.{place_is}
-use Rattle.mux_laws.proofs.TreeGrowing.{Grows, grows_both, grows_none, met_before}
-use Rattle.mux_laws.proofs.ValueMoment.{AreMet, Moment, seen}
+use Rattle.build_laws.proofs.Growing.{Grows, grows_both, grows_none, met_before}
+use Rattle.build_laws.proofs.Moments.{AreMet, Moment, seen}
 use Rattle.memory_laws.proofs.PortCells.{at, at_drop, at_get, at_left, at_right, at_take, mux_at, mux_grows, select_grows, select_stands, whole_long}
+use Rattle.pass_laws.proofs.SamePlaces.{place_is}
 
 -- runs of equal bits that fill a signal
 abbrev pub AreRuns : List ℕ → List SigBit → Type 0

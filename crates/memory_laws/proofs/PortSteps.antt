@@ -15,8 +15,8 @@ use Rattle.net_model.specs.Lists.{In}
 use Rattle.net_model.specs.Mem.Expand.{address_match, port_runs, port_step, ports_step, run_lengths}
 use Rattle.net_model.specs.Words.{address_is}
 use Rattle.memory_laws.proofs.Chain.{chained, port_hit}
-use Rattle.mux_laws.proofs.TreeGrowing.{Grows, grows_both, grows_none, met_before}
-use Rattle.mux_laws.proofs.ValueMoment.{AreMet, Moment, seen_all}
+use Rattle.build_laws.proofs.Growing.{Grows, grows_both, grows_none, met_before}
+use Rattle.build_laws.proofs.Moments.{AreMet, Moment, seen_all}
 use Rattle.memory_laws.proofs.PortBits.{address_misses, zero_and}
 use Rattle.memory_laws.proofs.PortCells.{at, match_grows, match_stands}
 use Rattle.memory_laws.proofs.PortRuns.{runs_are, runs_grow, runs_long, runs_stand}

@@ -39,7 +39,7 @@ use Rattle.net_model.specs.Value.{value_of}
 use Rattle.net_model.specs.Within.{Each}
 use Rattle.net_model.specs.Words.{fetched_of}
 use Rattle.net_model.proofs.Members.{In-mapped}
-use Rattle.mux_laws.proofs.TreeSteps.{BodyMet, body_before}
+use Rattle.build_laws.proofs.Meeting.{BodyMet, body_before}
 use Rattle.memory_laws.proofs.MemoryBuilt.{port_reads, reads_there, words_by}
 use Rattle.memory_laws.proofs.MemoryThere.{IsBuilt, before, built, plan, says, start, start_bits, wires, words}
 use Rattle.memory_laws.proofs.ReadTrees.{IsAsWide}

@@ -15,8 +15,8 @@ use Rattle.rtl_sig.specs.declared.sig.SigBit.{SigBit}
 use Rattle.rtl_ir.specs.Build.{Building}
 use Rattle.net_model.specs.Mem.Expand.{Word, halves, low_bit, mux_of_signals, or_unknown, read_tree, word_at}
 use Rattle.net_model.specs.Words.{fetched_of}
-use Rattle.mux_laws.proofs.TreeGrowing.{Grows, grows_both, grows_none, met_before}
-use Rattle.mux_laws.proofs.ValueMoment.{AreMet, Moment, seen, seen_all}
+use Rattle.build_laws.proofs.Growing.{Grows, grows_both, grows_none, met_before}
+use Rattle.build_laws.proofs.Moments.{AreMet, Moment, seen, seen_all}
 use Rattle.memory_laws.proofs.PortCells.{at, mux_at, mux_grows, whole_long}
 
 pub halves_grow : (s : SigBit) (low high : Option (List SigBit)) (b : Building) → Grows b (halves s low high b).1

@@ -1,33 +1,28 @@
 -- Where a module may be given to a pass, so may the module in which a memory of it became words.
-use Rattle.std.proofs.Common.{◌≡◌, ◌<◌, ◌≤◌, ℕ, zero, suc, ◌+◌, false, List, [], ◌∷◌, ◌++◌, length, Some, ◌⊎◌, inl, inr, ⊎_elim, refl, sym, ◌∙◌, ap, subst, arith}
-use Rattle.std.specs.Prelude.{ℤ, filter, flat_map, int_lt, map, pos, slice_get, ◌&&◌, ◌||◌}
-use Rattle.std.specs.List.{list_any}
-use Rattle.std.specs.Ordering.{int_eq}
+use Rattle.std.proofs.Common.{◌≡◌, ◌<◌, ◌≤◌, ℕ, zero, suc, ◌+◌, List, [], ◌∷◌, ◌++◌, length, Some, ◌⊎◌, inl, inr, ⊎_elim, refl, sym, ◌∙◌, ap, subst, arith}
+use Rattle.std.specs.Prelude.{filter, flat_map, map, slice_get}
 use Rattle.std.proofs.lemmas.List.Elements.{filter-append}
 use Rattle.rtl_sig.specs.declared.sig.WireBit.{WireBit}
 use Rattle.rtl_ir.specs.Build.{building_of}
 use Rattle.rtl_ir.specs.Drivers.{drive_count, drives_of, port_drives}
-use Rattle.rtl_ir.specs.Fault.{BadPort, Fault, fault_if, spot}
+use Rattle.rtl_ir.specs.Fault.{BadPort, spot}
 use Rattle.rtl_ir.specs.Faults.Bits.{bits_faults}
 use Rattle.rtl_ir.specs.Faults.Cells.{cell_faults, has_constant_output}
 use Rattle.rtl_ir.specs.Faults.Stores.{store_faults}
-use Rattle.rtl_ir.specs.Faults.Wires.{is_bad_port, is_inout, wire_faults, with_number}
 use Rattle.rtl_ir.specs.Flat.Memory.{reading_cells}
-use Rattle.rtl_ir.specs.Ports.{is_port}
 use Rattle.rtl_ir.specs.Scope.{without_processes}
 use Rattle.rtl_ir.specs.Types.{Library, Ports}
 use Rattle.rtl_ir.specs.declared.cell.Cell.{Cell}
 use Rattle.rtl_ir.specs.declared.module.Link.{Link}
 use Rattle.rtl_ir.specs.declared.module.Module.{Module}
 use Rattle.rtl_ir.specs.declared.store.Store.{Store}
-use Rattle.rtl_ir.specs.declared.wire.Role.{Role}
 use Rattle.rtl_ir.specs.declared.wire.Wire.{Wire}
 use Rattle.net_model.proofs.Members.{Distinct-append, In-right, apart_at, apart_from, map-append}
 use Rattle.net_model.proofs.Ranges.{each_filter}
 use Rattle.net_model.specs.Lists.{Distinct, In}
 use Rattle.net_model.specs.Mem.Expand.{expanded_memory, memory_step}
 use Rattle.net_model.specs.Mem.Gather.{gathered}
-use Rattle.net_model.specs.Within.{AreInner, Each, IsWithin}
+use Rattle.net_model.specs.Within.{Each, IsWithin}
 use Rattle.map_laws.proofs.FreshWires.{names_of}
 use Rattle.map_laws.specs.Expansion.{bits_from}
 use Rattle.pass_laws.specs.Bits.{cells_bits, links_bits}
@@ -37,12 +32,13 @@ use Rattle.pass_laws.proofs.Alone.{is_false, library_faultless, links_even, no_l
 use Rattle.pass_laws.proofs.Counting.{bits_of, cells_more, count, count_more, driven_count, links_more}
 use Rattle.pass_laws.proofs.Faultless.{HasNoFaults, all_fine, fits, no_cell_faults, no_faults, none_left, none_right}
 use Rattle.pass_laws.proofs.Forming.{all_none}
-use Rattle.proc_laws.proofs.CountingBits.{cells_below, count_beyond, fresh_below, fresh_once, links_below, no_two, ports_below, ports_further}
-use Rattle.mux_laws.proofs.TreeGrowing.{IsPlainCell}
-use Rattle.memory_laws.specs.Named.{HaveOwnNames}
+use Rattle.build_laws.proofs.CountingBits.{cells_below, count_beyond, fresh_below, fresh_once, links_below, no_two, ports_below}
+use Rattle.build_laws.proofs.Growing.{IsPlainCell}
+use Rattle.pass_laws.specs.OwnNames.{HaveOwnNames}
 use Rattle.memory_laws.proofs.Counted.{data_of, fewer_cells, parted}
 use Rattle.memory_laws.proofs.Driven.{after, after_is, fresh_names, made, names_apart, ports_bits}
-use Rattle.memory_laws.proofs.Faultless.{in_place, none_there, others_apart}
+use Rattle.memory_laws.proofs.Faultless.{none_there, others_apart}
+use Rattle.pass_laws.proofs.Finding.{in_place}
 use Rattle.memory_laws.proofs.Fitting.{IsFit}
 use Rattle.memory_laws.proofs.FittingPlan.{built_fits}
 use Rattle.memory_laws.proofs.FittingSteps.{AreFit}
@@ -50,22 +46,7 @@ use Rattle.memory_laws.proofs.KeptRows.{stays, without}
 use Rattle.memory_laws.proofs.MemoryThere.{before, built, plan}
 use Rattle.memory_laws.proofs.PlanIn.{expanded_within}
 use Rattle.memory_laws.proofs.StillFine.{cells_new_fine, cells_stay_fine, faults_split}
-
--- wires that are no ports have no faults
-inner_faults : (id : List ℕ) (numbers : List ℤ) (fs : List Wire) → AreInner fs → wire_faults id numbers fs ≡ []
-inner_faults id numbers [] h = refl
-inner_faults id numbers (f ∷ fs) h =
-    let good : is_bad_port numbers f ≡ false = ap (λ (r : Role). is_inout r || (is_port r && (int_lt f.number (pos 1) || list_any (int_eq f.number) numbers))) (h f (inl refl)) in
-    ap (λ t. fault_if t (BadPort (spot id f.name)) ++ wire_faults id (with_number numbers f) fs) good
-    ∙ inner_faults id (with_number numbers f) fs (λ w i. h w (inr i))
-
-further_faults : (id : List ℕ) (numbers : List ℤ) (ws fs : List Wire) → AreInner fs → wire_faults id numbers ws ≡ [] → wire_faults id numbers (ws ++ fs) ≡ []
-further_faults id numbers [] fs h e = inner_faults id numbers fs h
-further_faults id numbers (w ∷ ws) fs h e =
-    let here : List Fault = fault_if (is_bad_port numbers w) (BadPort (spot id w.name)) in
-    let a : here ≡ [] = none_left here (wire_faults id (with_number numbers w) ws) e in
-    let b : wire_faults id (with_number numbers w) (ws ++ fs) ≡ [] = further_faults id (with_number numbers w) ws fs h (none_right here (wire_faults id (with_number numbers w) ws) e) in
-    λ i. a i ++ b i
+use Rattle.pass_laws.proofs.Widening.{more_faults, more_drives}
 
 -- nor have the other memories
 without_none : {A B : Type 0} (f : A → List B) (at : ℕ) (xs : List A) → flat_map f xs ≡ [] → flat_map f (without at xs) ≡ []
@@ -165,7 +146,7 @@ module _ (ports : Ports) (k : Module) (s : Store) (place : ℕ) (there : slice_g
     driven_low =
         let old = driven_count ports m refl even x in
         let new = driven_count ports next refl even_after x in
-        let outside : count x (bits_of (port_drives 0 (m.wires ++ wires))) ≡ count x (bits_of (port_drives 0 m.wires)) = ap (λ z. count x (bits_of z)) (ports_further 0 m.wires wires (made k s place there apart ready.within few).inner) in
+        let outside : count x (bits_of (port_drives 0 (m.wires ++ wires))) ≡ count x (bits_of (port_drives 0 m.wires)) = ap (λ z. count x (bits_of z)) (more_drives 0 m.wires wires (made k s place there apart ready.within few).inner) in
         omega (arith, old, new, outside, cells_low, links_low, count_more x (cells_bits ports m.cells) (links_bits m.links), count_more x (cells_bits ports (filter (stays s.name) (m.cells ++ cells))) (links_bits (m.links ++ links)))
 
     old_only : x.wire < length m.wires → drive_count (drives_of ports next) x ≤ drive_count (drives_of ports m) x
@@ -189,7 +170,7 @@ module _ (ports : Ports) (k : Module) (s : Store) (place : ℕ) (there : slice_g
 
   next_ready : IsReady ports next
   next_ready = record {
-    faultless = all_none (further_faults m.id [] m.wires wires (made k s place there apart ready.within few).inner none.wires) (without_none (store_faults without_processes m.id) place k.memories none.stores) cells_none refl (no_link_faults m.id 1 (m.links ++ links) even_after) bits_none;
+    faultless = all_none (more_faults m.id [] m.wires wires (made k s place there apart ready.within few).inner ∙ none.wires) (without_none (store_faults without_processes m.id) place k.memories none.stores) cells_none refl (no_link_faults m.id 1 (m.links ++ links) even_after) bits_none;
     named = all_named;
     within = subst IsWithin (after_is k s place there apart ready.within few) (expanded_within k s place ready.within);
   }

@@ -12,8 +12,9 @@ use Rattle.net_model.specs.Mem.Gather.{gathered}
 use Rattle.net_model.specs.Refine.{RefinesIn, RefinesOver}
 use Rattle.net_model.specs.Within.{IsWithin}
 use Rattle.pass_laws.specs.Ready.{IsReady}
-use Rattle.memory_laws.specs.Named.{HaveOwnNames}
-use Rattle.memory_laws.proofs.Faultless.{few, in_place, none_there, others_apart, writes_wide}
+use Rattle.pass_laws.specs.OwnNames.{HaveOwnNames}
+use Rattle.memory_laws.proofs.Faultless.{few, none_there, others_apart, writes_wide}
+use Rattle.pass_laws.proofs.Finding.{in_place}
 use Rattle.memory_laws.proofs.MemoryThere.{before}
 use Rattle.memory_laws.proofs.Relating.{memory_refines}
 

@@ -14,29 +14,26 @@ use Rattle.rtl_ir.specs.Flat.Place.{Frame, Path, Place}
 use Rattle.rtl_ir.specs.Flat.Point.{bit_place}
 use Rattle.rtl_ir.specs.Flat.Reads.{read_points}
 use Rattle.rtl_ir.specs.Flat.Rows.{plain_rows, rows_of}
-use Rattle.rtl_ir.specs.Flat.Tree as flat
 use Rattle.rtl_ir.specs.declared.cell.Cell.{Cell}
 use Rattle.rtl_ir.specs.declared.module.Module.{Module}
 use Rattle.rtl_ir.specs.declared.store.Store.{Store}
-use Rattle.rtl_ir.specs.declared.wire.Role.TheVariants.{Input}
 use Rattle.rtl_ir.specs.declared.wire.Wire.{Wire}
 use Rattle.rtl_sig.specs.declared.sig.WireBit.{WireBit}
 use Rattle.net_model.proofs.Grown.{grown_refines, ports_more}
-use Rattle.net_model.proofs.GrowingMore.{rows_more}
 use Rattle.net_model.proofs.Lifted.{related, row_stays}
 use Rattle.net_model.proofs.Members.{In-cases, In-left, In-mapped, In-right}
 use Rattle.net_model.proofs.Swapping.{instances-append, rows-append}
-use Rattle.net_model.specs.Lists.{Distinct, In}
+use Rattle.net_model.specs.Lists.{In}
 use Rattle.net_model.specs.Mem.Expand.{expanded_memory, without_memory}
-use Rattle.net_model.specs.Refine.{IsWellDriven, RefinesOver, places_of}
+use Rattle.net_model.specs.Refine.{RefinesOver}
 use Rattle.net_model.specs.Relate.{KeepsTo, Reached, Related, RowsRelate, SameMoment}
 use Rattle.net_model.specs.Run.{Time}
 use Rattle.net_model.specs.Valuation.{Valuation}
 use Rattle.net_model.specs.Value.{value_of}
-use Rattle.net_model.specs.Within.{AreInner, Each, IsWithin, with_wires}
+use Rattle.net_model.specs.Within.{Each, IsWithin, with_wires}
 use Rattle.pass_laws.proofs.Passes.{refines_in_turn}
 use Rattle.pass_laws.proofs.Rewriting.{links-append}
-use Rattle.mux_laws.proofs.TreeLess.{memories_same}
+use Rattle.build_laws.proofs.Staying.{memories_same}
 use Rattle.memory_laws.proofs.FreeRows.{IsFreeRow, free_cells, free_links, free_memories, free_places}
 use Rattle.memory_laws.proofs.KeptRows.{apart_from_one, cells_stay, instances_stay, memories_stay, no_instances, stays, without, without_is}
 use Rattle.memory_laws.proofs.MemoryThere.{IsBuilt, before, grown, in_range, plan, says, start, wires, words, writes, writes_are}
@@ -44,6 +41,7 @@ use Rattle.memory_laws.proofs.PortSteps.{AreWide}
 use Rattle.memory_laws.proofs.ReadKept.{read_kept}
 use Rattle.memory_laws.proofs.Saying.{below_free, free_below, unknown_said, word_own}
 use Rattle.memory_laws.proofs.WordKept.{word_kept}
+use Rattle.build_laws.proofs.Built.{still_driven}
 
 -- the rows of one cell are among those of all
 rows_among : (begun : SigBit → Bit) (ports : Ports) (p : Path) (ws : List Wire) (cells : List Cell) (c : Cell) → In c cells → (d : Driven) → In d (cell_rows begun ports p ws c (cell_kind c)) → In d (cells_rows begun ports p ws cells)
@@ -52,15 +50,6 @@ rows_among begun ports p ws (x ∷ cells) c (inl e) d j =
     In-left d _ _ (subst (λ z. In d (cell_rows begun ports p ws z (cell_kind z))) e j)
 rows_among begun ports p ws (x ∷ cells) c (inr i) d j =
     In-right d (cell_rows begun ports p ws x (cell_kind x)) _ (rows_among begun ports p ws cells c i d j)
-
--- fresh wires give no bit a second driver
-still_driven : (m : Module) (fresh : List Wire) → AreInner fresh → IsWithin m → (ports : Ports) → IsWellDriven ports m → IsWellDriven ports (with_wires fresh m)
-still_driven m fresh inner within ports h = record {
-  inputs = λ p. subst (λ lines. Distinct (flat.places (flat.role_points Input p lines))) (sym (ports_more m.wires fresh inner)) (h.inputs p);
-  rows = λ p. subst (λ rows. Distinct (places_of rows)) (sym (rows_more ports p m fresh within)) (h.rows p);
-  apart = λ p x i at n j. h.apart p x (subst (In x) (rows_more ports p m fresh within) i) at n (subst (In n) (ports_more m.wires fresh inner) j);
-  instances = h.instances;
-}
 
 longer : (f : Frame) (p : Path) → f ∷ p ≡ p → ⊥
 longer f p e = let n : length (f ∷ p) ≡ length p = ap length e in absurd (omega arith)

@@ -29,7 +29,8 @@ use Rattle.net_model.specs.Within.{Each}
 use Rattle.pass_laws.specs.Replaces.{IsFaultless}
 use Rattle.pass_laws.proofs.Alone.{own_kind}
 use Rattle.pass_laws.proofs.Faultless.{none_left, none_right}
-use Rattle.memory_laws.proofs.Faultless.{found_there, no_fault}
+use Rattle.memory_laws.proofs.Faultless.{no_fault}
+use Rattle.pass_laws.proofs.Finding.{found_there}
 use Rattle.memory_laws.proofs.KeptRows.{filter_stays, of_other, stays, without}
 
 -- what is found among the others, where the one that goes is not looked for

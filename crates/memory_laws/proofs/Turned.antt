@@ -23,7 +23,8 @@ use Rattle.net_model.specs.Refine.{RefinesIn}
 use Rattle.net_model.specs.Within.{Each}
 use Rattle.pass_laws.specs.Ready.{IsReady}
 use Rattle.pass_laws.proofs.Faultless.{all_fine, library_faults, no_faults, none_right}
-use Rattle.memory_laws.specs.Named.{AreShort, HaveOwnNames}
+use Rattle.memory_laws.specs.Named.{AreShort}
+use Rattle.pass_laws.specs.OwnNames.{HaveOwnNames}
 use Rattle.memory_laws.proofs.Faultless.{no_fault, none_there}
 use Rattle.memory_laws.proofs.InTurn.{IsExpanded, all_expanded, all_gone}
 

@@ -23,7 +23,7 @@ use Rattle.net_model.specs.Run.{Time, Start, Step}
 use Rattle.net_model.specs.Valuation.{Valuation, read}
 use Rattle.net_model.specs.Value.{edge_at}
 use Rattle.pass_laws.proofs.Driving.{own_driver, own_in, row_of}
-use Rattle.mux_laws.proofs.ValueMoment.{IsCellMet, Moment}
+use Rattle.build_laws.proofs.Moments.{IsCellMet, Moment}
 
 -- the level after the edge of a clock
 abbrev pub level_of : Bool → Level

@@ -32,8 +32,8 @@ use Rattle.net_model.specs.Run.{Time, Start, Step}
 use Rattle.net_model.specs.Valuation.{Valuation}
 use Rattle.net_model.specs.Value.{edge_at, value_of}
 use Rattle.net_model.specs.Words.{after_ports}
-use Rattle.mux_laws.proofs.TreeSteps.{body_before}
-use Rattle.mux_laws.proofs.ValueMoment.{AreMet}
+use Rattle.build_laws.proofs.Meeting.{body_before}
+use Rattle.build_laws.proofs.Moments.{AreMet}
 use Rattle.memory_laws.proofs.MemoryBuilt.{IsAmong, steps_there, wires_there, words_by}
 use Rattle.memory_laws.proofs.MemoryThere.{IsBuilt, before, built, clock_is, grown, plan, rising_is, says, start, start_bit, start_bits, wires, word_got, words, writes}
 use Rattle.memory_laws.proofs.PortCells.{at_whole}

@@ -34,12 +34,13 @@ use Rattle.net_model.specs.Valuation.{Valuation}
 use Rattle.net_model.specs.Value.{edge_at}
 use Rattle.net_model.specs.Words.{after_ports}
 use Rattle.memory_laws.proofs.Chain.{chained}
-use Rattle.mux_laws.proofs.TreeGrowing.{Grows, IsPlainCell, grows_both, grows_none, met_before}
-use Rattle.mux_laws.proofs.ValueMoment.{AreMet, Moment, met_last}
+use Rattle.build_laws.proofs.Growing.{Grows, IsPlainCell, grows_both, grows_none, met_before}
+use Rattle.build_laws.proofs.Moments.{AreMet, Moment, met_last}
 use Rattle.memory_laws.proofs.PortBits.{ports_chained}
-use Rattle.memory_laws.proofs.PortCells.{at, at_whole, whole_get, whole_long}
+use Rattle.memory_laws.proofs.PortCells.{at, at_whole, whole_long}
 use Rattle.memory_laws.proofs.PortSteps.{AreWide, ports_grow, ports_stand}
 use Rattle.memory_laws.proofs.WordCells.{dff_gives, dff_starts, level_of, moment_of}
+use Rattle.build_laws.proofs.CellValues.{whole_get}
 
 -- a cell of the library goes last
 pub grows_cell : (name : List ℕ) (kind : CellKind) → kind_of name ≡ Some kind → is_memory_kind kind ≡ false → (params : List CellParam) (pins : List Pin) (b : Building) → Grows b (new_cell name params pins b)

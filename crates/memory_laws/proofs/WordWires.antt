@@ -15,7 +15,7 @@ use Rattle.net_model.specs.Lists.{In}
 use Rattle.net_model.specs.Mem.Expand.{Word, fixed_words, word_at, word_wires}
 use Rattle.net_model.specs.Proc.Start.{init_attribute}
 use Rattle.net_model.specs.Within.{Each}
-use Rattle.mux_laws.proofs.TreeGrowing.{Grows, grows_both}
+use Rattle.build_laws.proofs.Growing.{Grows, grows_both}
 use Rattle.memory_laws.proofs.PortCells.{whole_long}
 use Rattle.memory_laws.proofs.ReadTrees.{IsAsWide}
 use Rattle.memory_laws.proofs.WordSteps.{wires_grow}

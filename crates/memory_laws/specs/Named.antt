@@ -1,15 +1,10 @@
 -- What is asked of the memories of a module.
-use Rattle.std.specs.Prelude.{◌≤◌, ℕ, zero, suc, List, [], ◌∷◌, map}
+use Rattle.std.specs.Prelude.{◌≤◌, ℕ, zero, suc, List, [], ◌∷◌}
 use Rattle.rtl_ir.specs.Build.{building_of}
 use Rattle.rtl_ir.specs.declared.module.Module.{Module}
 use Rattle.rtl_ir.specs.declared.store.Store.{Store}
-use Rattle.net_model.specs.Lists.{Distinct}
 use Rattle.net_model.specs.Mem.Expand.{first_memory, memory_step}
 use Rattle.net_model.specs.Mem.Gather.{gathered}
-
--- no two memories have one name
-abbrev pub HaveOwnNames : Module → Type 0
-HaveOwnNames m = Distinct (map (λ (s : Store). s.name) m.memories)
 
 -- the fresh names that the first memory takes, where there is one, are numbers of up to nine digits
 abbrev pub IsShort : Module → List Store → Type 0

@@ -3,7 +3,8 @@
 
 ghost use Rattle.std.specs.Prelude.{◌≡◌, ℕ, Some, length, slice_get};
 ghost use Rattle.rtl_ir.specs.Types.{table_ports};
-ghost use Rattle.memory_laws.specs.Named.{AreShort, HaveOwnNames};
+ghost use Rattle.memory_laws.specs.Named.{AreShort};
+ghost use Rattle.pass_laws.specs.OwnNames.{HaveOwnNames};
 ghost use Rattle.net_model.specs.Mem.Expand.{expanded_memory, memory_of};
 ghost use Rattle.net_model.specs.Mem.Gather.{gathered};
 ghost use Rattle.net_model.specs.Refine.{RefinesIn};

@@ -36,12 +36,12 @@ use Rattle.pass_laws.proofs.Faultless.{no_faults, type_is}
 use Rattle.pass_laws.proofs.Outputs.{output_bits}
 use Rattle.pass_laws.specs.Bits.{cells_bits, links_bits, pin_bits}
 use Rattle.pass_laws.specs.Replaces.{IsFaultless}
-use Rattle.proc_laws.proofs.CountingBits.{among}
+use Rattle.build_laws.proofs.CountingBits.{among}
 use Rattle.proc_laws.proofs.RebuildDriven.{instances_stay, still_driven}
 use Rattle.proc_laws.proofs.RebuildFaults.{last_ready}
 use Rattle.proc_laws.proofs.RebuildProcesses.{each_good}
 use Rattle.proc_laws.specs.Ready.{AreRuled, HaveNoLines, IsReady}
-use Rattle.proc_laws.specs.Rebuilds.{Rebuilds, checked_bits, driven_bits, rebuilt, rules_bits}
+use Rattle.build_laws.specs.Rebuilds.{Rebuilds, checked_bits, driven_bits, rebuilt, rules_bits}
 use Rattle.proc_laws.specs.Step.{IsStep}
 use Rattle.mux_laws.proofs.FrameGrowing.{GrowsBy, IsWholeWord}
 use Rattle.mux_laws.proofs.FrameRuns.{tree_count}
@@ -158,6 +158,6 @@ mux_step table m ready ruled lines few =
       id = sym (ap (λ (b : Module). b.id) (mux_is ports m ready));
       ports = mux_ports ports m ready few;
       instances = mux_instances ports m ready few;
-      driven = λ over agree h. mux_driven ports m ready few over h;
+      driven = λ over h. mux_driven ports m ready few over h;
       refines = refines table m ready ruled lines;
     }

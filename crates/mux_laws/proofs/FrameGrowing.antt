@@ -28,7 +28,7 @@ use Rattle.map_laws.proofs.Wholes.{cell_more, line_more}
 use Rattle.map_laws.specs.Expansion.{Adds, AreRising, IsBare, IsWhole, IsWholeLink, bits_from, cell_bits, kind_bits}
 use Rattle.pass_laws.proofs.Counting.{links_more}
 use Rattle.pass_laws.specs.Bits.{links_bits}
-use Rattle.mux_laws.proofs.FrameCells.{bits_back, bits_within, no_constant}
+use Rattle.build_laws.proofs.CellFits.{bits_back, bits_within, no_constant}
 
 -- a combinational cell on words, in a module of so many wires
 pub record IsWholeWord (count : ℕ) (c : Cell) : Type 0 where

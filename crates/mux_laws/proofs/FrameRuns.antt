@@ -12,7 +12,7 @@ use Rattle.net_model.specs.Lists.{In}
 use Rattle.net_model.specs.Proc.Mux.{comes_before, goes_on, in_bit_order, place_bit, runs_behind, runs_of, tree_runs}
 use Rattle.net_model.specs.Within.{Each}
 use Rattle.pass_laws.proofs.Counting.{count}
-use Rattle.proc_laws.proofs.CountingBits.{among, among_in}
+use Rattle.build_laws.proofs.CountingBits.{among, among_in}
 
 -- a run has a bit, and at most 4,096
 abbrev pub IsRun : List WireBit → Type 0

@@ -14,16 +14,16 @@ use Rattle.rtl_sig.specs.declared.sig.WireBit.{WireBit}
 use Rattle.rtl_ir.specs.Assigns.{assigned, cases_assigns, last_source}
 use Rattle.rtl_ir.specs.Build.{Building, integer_param, made_name, pin_of}
 use Rattle.rtl_ir.specs.Faults.ProcessLimits.{cases_pass, passes_limit, switches_pass}
-use Rattle.rtl_ir.specs.Follow.{Join, all_joins}
-use Rattle.rtl_ir.specs.Signals.{same_bit}
+use Rattle.rtl_ir.specs.Follow.{all_joins}
+use Rattle.rtl_ir.specs.declared.follow.Join.{Join}
+use Rattle.rtl_ir.specs.Signals.{same_bit, same_signal}
 use Rattle.rtl_ir.specs.Tree.{Switches, NoSwitch, OneSwitch, Cases, NoCase, OneCase}
-use Rattle.rtl_ir.specs.WritePorts.{same_signal}
 use Rattle.rtl_ir.specs.declared.module.Link.{Link}
 use Rattle.net_model.proofs.Ranges.{JoinIn, OptionIn, all_joins_in, each_both, each_filter, each_more, each_none}
 use Rattle.net_model.specs.Lists.{In}
 use Rattle.net_model.specs.Proc.Mux.{Made, Trees, asked_places, assigns_run, cases_value, equal_cell, is_asked, is_default, joined_bits, made_match, match_bit, mux_cell, pattern_bit, pattern_bits, run_value, same_case, switches_value, with_case}
 use Rattle.net_model.specs.Within.{BitIn, CasesIn, Each, LinkIn, SigIn, SwitchesIn}
-use Rattle.mux_laws.proofs.FrameCells.{eq_whole, mux_whole, or_whole, whole_length, whole_within}
+use Rattle.build_laws.proofs.CellFits.{eq_whole, mux_whole, or_whole, whole_length, whole_within}
 use Rattle.mux_laws.proofs.FrameGrowing.{GrowsBy, driver_there, grows_both, grows_driver, grows_none, no_fewer}
 
 -- what stands among some wires does so among more
@@ -225,7 +225,7 @@ gives_case width some few at signal patterns body acc t many narrow h k lb ib la
         }
 
 -- what the last assign of a run gives it
-last_in : (n : ℕ) (js : List Join) (b : WireBit) → Each (JoinIn n) js → OptionIn n (last_source js b)
+pub last_in : (n : ℕ) (js : List Join) (b : WireBit) → Each (JoinIn n) js → OptionIn n (last_source js b)
 last_in n [] b h = tt
 last_in n (j ∷ js) b h = by (last_source js b) (same_bit j.bit b) (last_in n js b (λ x i. h x (inr i)))
   where

@@ -1,7 +1,3 @@
-pub mod ValueOrders
-pub mod ValueMoment
-pub mod ValueCells
-pub mod TreeGrowing
 pub mod MatchBits
 pub mod TreeRead
 pub mod TreePlaces
@@ -10,10 +6,7 @@ pub mod TreeFree
 pub mod TreeValue
 pub mod TreeRuns
 pub mod TreeSteps
-pub mod TreeLess
-pub mod TreeBuilt
 pub mod TreeRefining
-pub mod FrameCells
 pub mod FrameGrowing
 pub mod FrameTrees
 pub mod FrameRuns

@@ -1,6 +1,6 @@
 -- The bits that stand for patterns, and for the patterns of a case, have no less than what matches.
 use Rattle.std.proofs.Common.{◌≡◌, Bool, true, false, if◌then◌else◌, List, [], ◌∷◌, length, refl, ◌∙◌, ap}
-use Rattle.std.specs.Prelude.{◌||◌, codes, map, zip}
+use Rattle.std.specs.Prelude.{codes, map, zip}
 use Rattle.std.specs.List.{list_any}
 use Rattle.cell_types.specs.declared.word.EqualKind.TheVariants.{Eq}
 use Rattle.cell_types.specs.declared.word.FoldKind.TheVariants.{Or}
@@ -17,15 +17,11 @@ use Rattle.rtl_sig.specs.declared.sig.SigBit.{SigBit}
 use Rattle.rtl_sig.specs.declared.sig.SigBit.TheVariants.{Fixed, Wire as OnWire}
 use Rattle.net_model.specs.Picked.{case_match, equal_of, pattern_match}
 use Rattle.net_model.specs.Proc.Mux.{asked_places, equal_cell, is_asked, joined_bits, pattern_bit, pattern_bits}
-use Rattle.mux_laws.proofs.TreeGrowing.{Grows, grows_both, grows_driver, grows_none, met_before}
-use Rattle.mux_laws.proofs.ValueCells.{equal_gives, or_gives, or_made, pair_match}
-use Rattle.mux_laws.proofs.ValueMoment.{AreMet, IsCellMet, Moment, met_last, seen, seen_all}
-use Rattle.mux_laws.proofs.ValueOrders.{all_folded, all_right, and_below, any_folded, any_one, any_right, equal_one}
-
--- neither of two that are not either
-pub or_false : (a b : Bool) → (a || b) ≡ false → (a ≡ false) × (b ≡ false)
-or_false true b e = absurd (cc)
-or_false false b e = (refl, e)
+use Rattle.build_laws.proofs.Growing.{Grows, grows_both, grows_driver, grows_none, met_before}
+use Rattle.build_laws.proofs.CellValues.{equal_gives, or_gives, or_made, pair_match}
+use Rattle.build_laws.proofs.Moments.{AreMet, IsCellMet, Moment, met_last, seen, seen_all}
+use Rattle.build_laws.proofs.Orders.{all_folded, all_right, and_below, any_folded, any_one, any_right, equal_one}
+use Rattle.std.proofs.lemmas.Bool.{or_parts}
 
 -- what is added for a pattern, for patterns, and to join them
 equal_grows : (places : List (SigBit × SigBit)) (b : Building) → Grows b (equal_cell places b).1
@@ -77,7 +73,7 @@ module _ (m : Moment) where
   unasked_matched (q ∷ pattern) [] e = refl
   unasked_matched (OnWire b ∷ pattern) (s ∷ signal) e = absurd (cc)
   unasked_matched (Fixed c ∷ pattern) (s ∷ signal) e =
-      let both = or_false (is_known c) (list_any is_asked (zip pattern signal)) e in
+      let both = or_parts (is_known c) (list_any is_asked (zip pattern signal)) e in
       ap (λ t. and_of (if t then equal_of (seen m s) c else S1) (matched signal pattern)) both.0
       ∙ ap (and_of S1) (unasked_matched pattern signal both.1)
 

@@ -3,7 +3,6 @@ use Rattle.std.proofs.Common.{◌≡◌, ◌≤◌, ◌<◌, ℕ, zero, suc, Boo
 use Rattle.std.specs.Prelude.{codes, not, slice_get, zip}
 use Rattle.std.specs.List.{list_any}
 use Rattle.std.specs.Option.{option_map_or}
-use Rattle.std.proofs.lemmas.Bool.{and_parts, eqb-true}
 use Rattle.std.proofs.lemmas.Bool.Decides.{Decides-eqb}
 use Rattle.std.proofs.lemmas.Slice.Eq.{slice_eq-Decides}
 use Rattle.cell_types.specs.declared.word.WordKind.TheVariants.{Mux}
@@ -11,50 +10,20 @@ use Rattle.rtl_bits.proofs.Orders.{Below_trans}
 use Rattle.rtl_bits.specs.Knowledge.{Below}
 use Rattle.rtl_bits.specs.Tables.{or_of}
 use Rattle.rtl_bits.specs.declared.bit.Bit.{Bit}
-use Rattle.rtl_bits.specs.declared.bit.Bit.TheVariants.{S0, S1, X, Z, M, Dash}
+use Rattle.rtl_bits.specs.declared.bit.Bit.TheVariants.{S0, S1}
 use Rattle.rtl_ir.specs.Build.{Building, made_name, pin_of, whole}
-use Rattle.rtl_ir.specs.WritePorts.{same_place, same_signal, same_value}
+use Rattle.rtl_ir.specs.Signals.{same_signal}
 use Rattle.rtl_sig.specs.declared.sig.SigBit.{SigBit}
-use Rattle.rtl_sig.specs.declared.sig.SigBit.TheVariants.{Fixed, Wire as OnWire}
 use Rattle.rtl_sig.specs.declared.sig.WireBit.{WireBit}
 use Rattle.net_model.specs.Picked.{chosen_of}
 use Rattle.net_model.specs.Proc.Mux.{Made, Trees, is_asked, is_default, joined_bits, made_match, match_bit, mux_cell, pattern_bits, same_case, with_case}
 use Rattle.mux_laws.proofs.MatchBits.{any_matched, case_stands, joined_grow, patterns_grow, unasked_matched}
-use Rattle.mux_laws.proofs.TreeGrowing.{Grows, grows_both, grows_driver, grows_none, met_before}
+use Rattle.build_laws.proofs.Growing.{Grows, grows_both, grows_driver, grows_none, met_before}
 use Rattle.mux_laws.proofs.TreePlaces.{Asked}
-use Rattle.mux_laws.proofs.ValueCells.{mux_gives}
-use Rattle.mux_laws.proofs.ValueMoment.{AreMet, Moment, Stands, met_last, seen, stands_at, stands_long, stands_two, wire_stands}
-use Rattle.mux_laws.proofs.ValueOrders.{chosen_both, chosen_mux}
-
--- the same constant, bit and signal by their tests
-value_is : (a b : Bit) → same_value a b ≡ true → a ≡ b
-value_is S0 S0 e = refl
-value_is S1 S1 e = refl
-value_is X X e = refl
-value_is Z Z e = refl
-value_is M M e = refl
-value_is Dash Dash e = refl
-value_is a b e = absurd (cc)
-
-place_is : (a b : SigBit) → same_place a b ≡ true → a ≡ b
-place_is (Fixed a) (Fixed b) e = ap Fixed (value_is a b e)
-place_is (OnWire a) (OnWire b) e =
-    let both = and_parts _ _ e in
-    let wire : a.wire ≡ b.wire = eqb-true a.wire b.wire both.0 in
-    let at : a.at ≡ b.at = eqb-true a.at b.at both.1 in
-    λ i. OnWire (record { wire = wire i; at = at i })
-place_is (Fixed a) (OnWire b) e = absurd (cc)
-place_is (OnWire a) (Fixed b) e = absurd (cc)
-
-signal_is : (a b : List SigBit) → same_signal a b ≡ true → a ≡ b
-signal_is [] [] e = refl
-signal_is [] (t ∷ b) e = absurd (cc)
-signal_is (s ∷ a) [] e = absurd (cc)
-signal_is (s ∷ a) (t ∷ b) e =
-    let both = and_parts (same_place s t) (same_signal a b) e in
-    let first : s ≡ t = place_is s t both.0 in
-    let rest : a ≡ b = signal_is a b both.1 in
-    λ i. first i ∷ rest i
+use Rattle.build_laws.proofs.CellValues.{mux_gives}
+use Rattle.build_laws.proofs.Moments.{AreMet, Moment, Stands, met_last, seen, stands_at, stands_long, stands_two, wire_stands}
+use Rattle.build_laws.proofs.Orders.{chosen_both, chosen_mux}
+use Rattle.pass_laws.proofs.SamePlaces.{signal_is}
 
 case_is : (a b : List ℕ) → same_case a b ≡ true → a ≡ b
 case_is a b e = (slice_eq-Decides Decides-eqb a b (same_case a b) refl).0 e

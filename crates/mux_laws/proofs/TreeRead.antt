@@ -7,7 +7,7 @@ use Rattle.rtl_ir.specs.Flat.Point.{Point, point}
 use Rattle.rtl_sig.specs.declared.sig.SigBit.{SigBit}
 use Rattle.net_model.specs.Picked.{chosen_of, picked_by}
 use Rattle.mux_laws.proofs.MatchBits.{any_matched}
-use Rattle.mux_laws.proofs.ValueMoment.{Moment, seen}
+use Rattle.build_laws.proofs.Moments.{Moment, seen}
 
 module _ (m : Moment) (leaf : SigBit → Bit) where
   abbrev mutual

@@ -27,11 +27,12 @@ use Rattle.net_model.specs.Proc.Mux.{proc_mux_of, processes_step}
 use Rattle.net_model.specs.Refine.{IsMet, RefinesIn}
 use Rattle.net_model.specs.Within.{with_wires}
 use Rattle.proc_laws.specs.Ready.{AreRuled, HaveNoLines, IsReady}
-use Rattle.mux_laws.proofs.TreeGrowing.{Grows}
-use Rattle.mux_laws.proofs.TreeBuilt.{built_refines, moment, process_among}
-use Rattle.mux_laws.proofs.TreeLess.{none_acting, none_begun, none_written}
-use Rattle.mux_laws.proofs.TreeSteps.{BodyMet, picks_met, processes_grow}
-use Rattle.mux_laws.proofs.ValueMoment.{Moment}
+use Rattle.build_laws.proofs.Growing.{Grows}
+use Rattle.build_laws.proofs.Built.{built_refines, moment, process_among}
+use Rattle.build_laws.proofs.Staying.{none_acting, none_begun, none_written}
+use Rattle.mux_laws.proofs.TreeSteps.{picks_met, processes_grow}
+use Rattle.build_laws.proofs.Meeting.{BodyMet}
+use Rattle.build_laws.proofs.Moments.{Moment}
 
 -- the row of a tree bit of a process
 abbrev bit_row : Path → List Wire → Process → WireBit → Driven

@@ -1,5 +1,5 @@
 -- Each tree bit of a process is connected to what stands for its decision.
-use Rattle.std.proofs.Common.{◌≡◌, ◌≤◌, ℕ, suc, List, [], ◌∷◌, ◌++◌, length, Some, ⊎_elim, inl, inr, refl, sym, ◌∙◌, ap, subst}
+use Rattle.std.proofs.Common.{◌≡◌, ◌≤◌, ℕ, suc, List, [], ◌∷◌, length, Some, ⊎_elim, inl, inr, refl, sym, ◌∙◌, ap, subst}
 use Rattle.std.specs.Prelude.{map, slice_get, slice_index_or}
 use Rattle.rtl_bits.proofs.Orders.{Below_trans}
 use Rattle.rtl_bits.specs.Knowledge.{Below}
@@ -9,17 +9,14 @@ use Rattle.rtl_ir.specs.Assigns.{tree_bits}
 use Rattle.rtl_ir.specs.Build.{Building}
 use Rattle.rtl_ir.specs.Decisions.{Leaf, after_assigns, case_decision}
 use Rattle.rtl_ir.specs.Flat.Driver.{Driven, Joined}
-use Rattle.rtl_ir.specs.Flat.Link.{joins, link_rows}
+use Rattle.rtl_ir.specs.Flat.Link.{joins}
 use Rattle.rtl_ir.specs.Flat.Pick.{no_test, pick_of}
 use Rattle.rtl_ir.specs.Flat.Point.{point, points}
 use Rattle.rtl_ir.specs.Tree.{CaseView}
-use Rattle.rtl_ir.specs.declared.module.Link.{Link}
-use Rattle.rtl_ir.specs.declared.module.Module.{Module}
 use Rattle.rtl_ir.specs.declared.process.Process.{Process}
 use Rattle.rtl_sig.specs.declared.sig.SigBit.{SigBit}
 use Rattle.rtl_sig.specs.declared.sig.SigBit.TheVariants.{Fixed, Wire as OnWire}
 use Rattle.rtl_sig.specs.declared.sig.WireBit.{WireBit}
-use Rattle.net_model.proofs.Members.{In-left, In-right}
 use Rattle.net_model.specs.Lists.{In}
 use Rattle.net_model.specs.Picked.{picked}
 use Rattle.net_model.specs.Proc.Mux.{Trees, process_step, processes_step, run_step, run_value, runs_step, switches_value, tree_runs}
@@ -28,14 +25,14 @@ use Rattle.net_model.specs.Valuation.{read}
 use Rattle.net_model.specs.Within.{Each}
 use Rattle.pass_laws.proofs.Driving.{joined_in, row_of}
 use Rattle.pass_laws.proofs.Giving.{passed_on}
-use Rattle.pass_laws.proofs.Rewriting.{links-append}
 use Rattle.mux_laws.proofs.MatchMade.{MadeStand, none_made}
-use Rattle.mux_laws.proofs.TreeGrowing.{Grows, grows_both, grows_link, grows_none, met_before}
+use Rattle.build_laws.proofs.Growing.{Grows, grows_both, grows_link, grows_none, met_before}
 use Rattle.mux_laws.proofs.TreePlaces.{switches_find, tree_at}
 use Rattle.mux_laws.proofs.TreeRead.{decided, picked_is}
 use Rattle.mux_laws.proofs.TreeRuns.{tree_run, tree_runs_short}
 use Rattle.mux_laws.proofs.TreeValue.{assigns_stand, switches_grow, switches_stand}
-use Rattle.mux_laws.proofs.ValueMoment.{AreMet, Moment, Stands, seen, stands_long}
+use Rattle.build_laws.proofs.Moments.{AreMet, Moment, Stands, seen, stands_long}
+use Rattle.build_laws.proofs.Meeting.{BodyMet, body_before, links_last}
 
 -- what is added for a run, runs, a process and processes
 abbrev start_value : CaseView → List WireBit → List SigBit
@@ -59,29 +56,6 @@ processes_grow b [] = grows_none b
 processes_grow b (p ∷ ps) = grows_both b (process_step b p) _ (process_grows b p) (processes_grow (process_step b p) ps)
 
 module _ (m : Moment) where
-  -- the rows of connections are met
-  abbrev pub LinksMet : List Link → Type 0
-  LinksMet links = (d : Driven) → In d (link_rows m.path m.wires links) → IsMet d m.time m.has
-
-  -- what is met of a building
-  pub record BodyMet (b : Building) : Type 0 where
-    pub cells : AreMet m b.body.cells
-    pub links : LinksMet b.body.links
-
-  pub links_before : (xs ys : List Link) → LinksMet (xs ++ ys) → LinksMet xs
-  links_before xs ys h d i =
-      h d (subst (In d) (sym (links-append m.path m.wires xs ys)) (In-left d (link_rows m.path m.wires xs) (link_rows m.path m.wires ys) i))
-
-  pub links_last : (xs : List Link) (l : Link) → LinksMet (xs ++ l ∷ []) → (d : Driven) → In d (joins (points m.path m.wires l.left) (points m.path m.wires l.right)) → IsMet d m.time m.has
-  links_last xs l h d i =
-      h d (subst (In d) (sym (links-append m.path m.wires xs (l ∷ []))) (In-right d (link_rows m.path m.wires xs) _ (In-left d (joins (points m.path m.wires l.left) (points m.path m.wires l.right)) [] i)))
-
-  pub body_before : (a b : Building) → Grows a b → BodyMet b → BodyMet a
-  body_before a b g h = record {
-    cells = met_before m a b g h.cells;
-    links = links_before a.body.links g.links (subst LinksMet (ap (λ (n : Module). n.links) g.body) h.links);
-  }
-
   -- a bit of a run that is connected to what stands for it
   record IsPlace (run : List WireBit) (signal : List SigBit) (value : WireBit → Bit) (b : WireBit) : Type 0 where
     at : ℕ
@@ -114,7 +88,7 @@ module _ (m : Moment) where
     unknown_stands (b ∷ run) = (tt, unknown_stands run)
 
     -- what the switches make of a run
-    run_stands : (run : List WireBit) → length run ≤ 4096 → (t : Trees) → BodyMet (run_step root run t).building → MadeStand m (switches_find root.switches) t.made
+    run_stands : (run : List WireBit) → length run ≤ 4096 → (t : Trees) → BodyMet m (run_step root run t).building → MadeStand m (switches_find root.switches) t.made
         → Stands m run (switches_value run [] 0 root.switches (start_value root run) t).0 (λ b. decided m (case_decision root b)) × MadeStand m (switches_find root.switches) (run_step root run t).made
     run_stands run few t met made =
         let value = switches_value run [] 0 root.switches (start_value root run) t in
@@ -122,16 +96,16 @@ module _ (m : Moment) where
         let first = assigns_stand m (switches_find root.switches) run few root.assigns run (map (λ b. Fixed X) run) (λ b. Leaf (Fixed X)) (unknown_stands run) in
         switches_stand m (switches_find root.switches) run few [] 0 root.switches (start_value root run) t (λ b. after_assigns root.assigns b (Leaf (Fixed X))) (tree_at root.switches) before made first
 
-    run_met : (run : List WireBit) → length run ≤ 4096 → (t : Trees) → BodyMet (run_step root run t).building → MadeStand m (switches_find root.switches) t.made → (b : WireBit) → In b run → Below (decided m (case_decision root b)) (seen m (OnWire b))
+    run_met : (run : List WireBit) → length run ≤ 4096 → (t : Trees) → BodyMet m (run_step root run t).building → MadeStand m (switches_find root.switches) t.made → (b : WireBit) → In b run → Below (decided m (case_decision root b)) (seen m (OnWire b))
     run_met run few t met made b i =
         let value = switches_value run [] 0 root.switches (start_value root run) t in
-        connected run value.0 (λ c. decided m (case_decision root c)) (links_last value.1.building.body.links (record { left = map OnWire run; right = value.0 }) met.links) (run_stands run few t met made).0 b i
+        connected run value.0 (λ c. decided m (case_decision root c)) (links_last m value.1.building.body.links (record { left = map OnWire run; right = value.0 }) met.links) (run_stands run few t met made).0 b i
 
-    runs_met : (runs : List (List WireBit)) → Each (λ run. length run ≤ 4096) runs → (t : Trees) → BodyMet (runs_step root runs t).building → MadeStand m (switches_find root.switches) t.made → (run : List WireBit) → In run runs → (b : WireBit) → In b run → Below (decided m (case_decision root b)) (seen m (OnWire b))
+    runs_met : (runs : List (List WireBit)) → Each (λ run. length run ≤ 4096) runs → (t : Trees) → BodyMet m (runs_step root runs t).building → MadeStand m (switches_find root.switches) t.made → (run : List WireBit) → In run runs → (b : WireBit) → In b run → Below (decided m (case_decision root b)) (seen m (OnWire b))
     runs_met [] few t met made run i b j = absurd i
     runs_met (r ∷ runs) few t met made run i b j =
         let next : Trees = run_step root r t in
-        let here : BodyMet next.building = body_before next.building _ (runs_grow root runs next) met in
+        let here : BodyMet m next.building = body_before m next.building _ (runs_grow root runs next) met in
         let short : length r ≤ 4096 = few r (inl refl) in
         ⊎_elim
         (λ e. run_met r short t here made b (subst (In b) e j))
@@ -139,16 +113,16 @@ module _ (m : Moment) where
         i
 
   -- each tree bit of one of the processes
-  processes_met : (b : Building) (ps : List Process) → BodyMet (processes_step b ps) → (p : Process) → In p ps → (x : WireBit) → In x (tree_bits p.root) → Below (decided m (case_decision p.root x)) (seen m (OnWire x))
+  processes_met : (b : Building) (ps : List Process) → BodyMet m (processes_step b ps) → (p : Process) → In p ps → (x : WireBit) → In x (tree_bits p.root) → Below (decided m (case_decision p.root x)) (seen m (OnWire x))
   processes_met b [] met p i x j = absurd i
   processes_met b (q ∷ ps) met p (inl e) x j =
-      let here : BodyMet (process_step b q) = body_before (process_step b q) _ (processes_grow (process_step b q) ps) met in
+      let here : BodyMet m (process_step b q) = body_before m (process_step b q) _ (processes_grow (process_step b q) ps) met in
       let k : In x (tree_bits q.root) = subst (λ (z : Process). In x (tree_bits z.root)) e j in
       let r = tree_run q.root x k in
       subst (λ (z : Process). Below (decided m (case_decision z.root x)) (seen m (OnWire x))) (sym e) (runs_met q.root (tree_runs q.root) (tree_runs_short q.root) (record { building = b; made = [] }) here (none_made m (switches_find q.root.switches)) r.run r.there x r.bit)
   processes_met b (q ∷ ps) met p (inr i) x j = processes_met (process_step b q) ps met p i x j
 
   -- and so what the flat netlist picks for it
-  pub picks_met : (b : Building) (ps : List Process) → BodyMet (processes_step b ps) → (p : Process) → In p ps → (x : WireBit) → In x (tree_bits p.root) → Below (picked m.has X (pick_of no_test m.path m.wires (case_decision p.root x))) (seen m (OnWire x))
+  pub picks_met : (b : Building) (ps : List Process) → BodyMet m (processes_step b ps) → (p : Process) → In p ps → (x : WireBit) → In x (tree_bits p.root) → Below (picked m.has X (pick_of no_test m.path m.wires (case_decision p.root x))) (seen m (OnWire x))
   picks_met b ps met p i x j =
       subst (λ z. Below z (seen m (OnWire x))) (sym (picked_is m (read m.has) X (case_decision p.root x))) (processes_met b ps met p i x j)

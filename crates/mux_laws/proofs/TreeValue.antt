@@ -12,10 +12,10 @@ use Rattle.rtl_sig.specs.declared.sig.WireBit.{WireBit}
 use Rattle.net_model.specs.Proc.Mux.{Trees, assigns_run, cases_value, run_value, switches_value, with_case}
 use Rattle.mux_laws.proofs.MatchMade.{MadeStand, with_case_grows, with_case_stands}
 use Rattle.mux_laws.proofs.TreeFree.{free_cases, run_free}
-use Rattle.mux_laws.proofs.TreeGrowing.{Grows, grows_both, grows_none, met_before}
+use Rattle.build_laws.proofs.Growing.{Grows, grows_both, grows_none, met_before}
 use Rattle.mux_laws.proofs.TreePlaces.{Asked, CasesAt, SwitchesAt}
 use Rattle.mux_laws.proofs.TreeRead.{branched, decided}
-use Rattle.mux_laws.proofs.ValueMoment.{AreMet, Moment, Stands, seen, stands_map}
+use Rattle.build_laws.proofs.Moments.{AreMet, Moment, Stands, seen, stands_map}
 
 -- what is added for the cases of a switch that assigns to the run
 abbrev switch_value : Bool → List WireBit → List ℕ → List SigBit → Cases → List SigBit → Trees → List SigBit × Trees

@@ -9,7 +9,8 @@ use Rattle.rtl_sig.specs.declared.sig.SigBit.{SigBit}
 use Rattle.rtl_sig.specs.declared.sig.SigBit.TheVariants as sig
 use Rattle.rtl_sig.specs.declared.sig.WireBit.{WireBit}
 use Rattle.rtl_ir.specs.declared.module.Link.{Link}
-use Rattle.rtl_ir.specs.Follow.{Join, all_joins, back, end_within, follow_joins, joins, source_at}
+use Rattle.rtl_ir.specs.Follow.{all_joins, back, end_within, follow_joins, joins, source_at}
+use Rattle.rtl_ir.specs.declared.follow.Join.{Join}
 use Rattle.rtl_ir.specs.Signals.{same_bit}
 use Rattle.net_index.specs.IndexWays.{RunsOn}
 use Rattle.net_index.proofs.IndexEnds.{ends_here, ends_not, ends_on}

@@ -3,7 +3,8 @@ use Rattle.std.proofs.Common.{◌≡◌, ℕ, suc, ◌+◌, ◌<◌, ◌≤◌, 
 use Rattle.rtl_sig.specs.declared.sig.SigBit.{SigBit}
 use Rattle.rtl_sig.specs.declared.sig.SigBit.TheVariants as sig
 use Rattle.rtl_sig.specs.declared.sig.WireBit.{WireBit}
-use Rattle.rtl_ir.specs.Follow.{Join, follow_joins}
+use Rattle.rtl_ir.specs.Follow.{follow_joins}
+use Rattle.rtl_ir.specs.declared.follow.Join.{Join}
 use Rattle.rtl_ir.specs.Signals.{same_bit}
 use Rattle.net_index.proofs.IndexTables.{same_bit-true}
 use Rattle.net_alias.specs.Aliases.{AreAliases, IsStep, Reaches}

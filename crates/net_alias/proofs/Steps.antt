@@ -1,7 +1,8 @@
 -- Steps back along connections, and where they end.
 use Rattle.std.proofs.Common.{◌≡◌, ℕ, zero, suc, ◌+◌, ◌<◌, List, length, Option, Some, None, unwrap_or, refl, sym, ◌∙◌, ap, subst, arith}
 use Rattle.rtl_sig.specs.declared.sig.SigBit.{SigBit}
-use Rattle.rtl_ir.specs.Follow.{Join, back, end_within, follow_joins}
+use Rattle.rtl_ir.specs.Follow.{back, end_within, follow_joins}
+use Rattle.rtl_ir.specs.declared.follow.Join.{Join}
 use Rattle.net_index.specs.IndexWays.{RunsOn}
 use Rattle.net_index.proofs.IndexEnds.{ends_all, ends_here, ends_later, ends_not, ends_on, end_follows}
 use Rattle.net_alias.specs.Aliases.{IsStep, Reaches}

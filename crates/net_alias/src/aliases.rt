@@ -2,7 +2,8 @@
 
 ghost use Rattle.std.specs.Prelude.{◌≡◌, ◌+◌, List, [], ◌∷◌, ◌++◌, IfOk, OnOk};
 ghost use Rattle.rtl_ir.specs.declared.module.Link.{Link};
-ghost use Rattle.rtl_ir.specs.Follow.{Join, follow, follow_joins, joins};
+ghost use Rattle.rtl_ir.specs.Follow.{follow, follow_joins, joins};
+ghost use Rattle.rtl_ir.specs.declared.follow.Join.{Join};
 ghost use Rattle.net_alias.specs.Aliases.{AreAliases, IsAliases, IsStep, step_to};
 
 use crate::step_table::{Step, StepTable};
@@ -44,14 +45,16 @@ impl Aliases {
     /// One connection more, behind the others: the right side drives the left. Of several connections that drive a bit
     /// the first counts, and of a connection the places that both sides have.
     pub fn connect(&mut self, left: &[SigBit], right: &[SigBit]) -> Result<(), Memory>
-        ensures ok { OnOk result ((links : List Link) → IsAliases self.old links → IsAliases self.new (links ++ record { left = left.now; right = right.now } ∷ [])) }
+        ensures ok { OnOk result ((links : List Link) → IsAliases self.old links →
+            IsAliases self.new (links ++ record { left = left.now; right = right.now } ∷ [])) }
     {
         self.connect_sides(left, right)
     }
 
     /// The connections, each behind those before it.
     fn connect_all(&mut self, links: &[Link]) -> Result<(), Memory>
-        ensures ok { OnOk result ((before : List Link) → IsAliases self.old before → IsAliases self.new (before ++ links.now)) }
+        ensures ok { OnOk result ((before : List Link) → IsAliases self.old before →
+            IsAliases self.new (before ++ links.now)) }
     {
         for link in links {
             self.connect(link.left.as_slice(), link.right.as_slice())?;
@@ -61,7 +64,8 @@ impl Aliases {
 
     /// The places that both sides have, in order.
     fn connect_sides(&mut self, left: &[SigBit], right: &[SigBit]) -> Result<(), Memory>
-        ensures ok { OnOk result ((all : List Join) → AreAliases self.old all → AreAliases self.new (all ++ joins left.now right.now)) }
+        ensures ok { OnOk result ((all : List Join) → AreAliases self.old all →
+            AreAliases self.new (all ++ joins left.now right.now)) }
     {
         for at in 0..left.len().min(right.len()) {
             self.connect_bit(left[at], right[at])?;
@@ -71,7 +75,8 @@ impl Aliases {
 
     /// One place of a connection, where the left is a bit of a wire.
     fn connect_bit(&mut self, left: SigBit, source: SigBit) -> Result<(), Memory>
-        ensures ok { OnOk result ((all : List Join) → AreAliases self.old all → AreAliases self.new (all ++ joins (left ∷ []) (source ∷ []))) }
+        ensures ok { OnOk result ((all : List Join) → AreAliases self.old all →
+            AreAliases self.new (all ++ joins (left ∷ []) (source ∷ []))) }
     {
         let SigBit::Wire(bit) = left else {
             return Ok(());
@@ -81,7 +86,8 @@ impl Aliases {
 
     /// The source drives the bit, where nothing drives it yet.
     fn join(&mut self, bit: WireBit, source: SigBit) -> Result<(), Memory>
-        ensures ok { OnOk result ((all : List Join) → AreAliases self.old all → AreAliases self.new (all ++ record { bit = bit; source = source } ∷ [])) }
+        ensures ok { OnOk result ((all : List Join) → AreAliases self.old all →
+            AreAliases self.new (all ++ record { bit = bit; source = source } ∷ [])) }
     {
         let end = self.end_of(source);
         self.steps = one_more(self.steps)?;

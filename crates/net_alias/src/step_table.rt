@@ -70,7 +70,8 @@ impl StepTable {
 
     /// Gives the bit this step.
     pub(crate) fn put(&mut self, bit: WireBit, step: Step) -> Result<(), Memory>
-        ensures ok { OnOk result ((b : WireBit) → at_bit self.new b ≡ (if same_bit bit b then Some step else at_bit self.old b)) }
+        ensures ok { OnOk result ((b : WireBit) →
+            at_bit self.new b ≡ (if same_bit bit b then Some step else at_bit self.old b)) }
     {
         match self.numbering.find(bit) {
             Some(number) => self.inside[number] = Some(step),
@@ -90,7 +91,7 @@ impl StepTable {
         }
     }
 
-    /// The same of a bit of a wire.
+    /// Gives the bit of a wire this step in place of its own, where that takes no memory.
     fn learn_wire(&mut self, bit: WireBit, step: Step)
         ensures learnt { IsLearnt self.old self.new (OnWire bit) step }
     {

@@ -7,7 +7,7 @@ use Rattle.std.proofs.Math.Seq.{drop-cons}
 use Rattle.std.proofs.lemmas.Bool.{and_parts}
 use Rattle.std.proofs.lemmas.List.{append-nil, map-append, reverse-append, reverse-reverse}
 use Rattle.std.proofs.lemmas.List.Concat.{flat_map-append}
-use Rattle.rtl_bits.proofs.Numbers.{number_of_bits_of}
+use Rattle.rtl_bits.proofs.NumberLemmas.{number_of_bits_of}
 use Rattle.rtl_bits.specs.Knowledge.{AreKnown, IsKnown}
 use Rattle.rtl_bits.specs.Numbers.{bits_of, low_bit_of, number_of}
 use Rattle.rtl_bits.specs.declared.bit.Bit.{Bit}

@@ -9,7 +9,8 @@ use Rattle.rtl_bits.specs.declared.bit.Bit.{Bit}
 use Rattle.rtl_sig.specs.declared.sig.SigBit.{SigBit}
 use Rattle.rtl_sig.specs.declared.sig.SigBit.TheVariants as sig
 use Rattle.rtl_sig.specs.declared.sig.WireBit.{WireBit}
-use Rattle.rtl_ir.specs.Follow.{Join, back, end_within, follow_joins, source_at}
+use Rattle.rtl_ir.specs.Follow.{back, end_within, follow_joins, source_at}
+use Rattle.rtl_ir.specs.declared.follow.Join.{Join}
 use Rattle.rtl_ir.specs.Signals.{same_bit}
 use Rattle.net_index.specs.IndexWays.{IsEnd}
 use Rattle.net_index.proofs.IndexTables.{same_bit-true}

@@ -4,7 +4,8 @@ use Rattle.std.proofs.lemmas.Bool.{eqb-true, eqb-false}
 use Rattle.rtl_sig.specs.declared.sig.SigBit.{SigBit}
 use Rattle.rtl_sig.specs.declared.sig.SigBit.TheVariants as sig
 use Rattle.rtl_sig.specs.declared.sig.WireBit.{WireBit}
-use Rattle.rtl_ir.specs.Follow.{Join, end_within, source_at}
+use Rattle.rtl_ir.specs.Follow.{end_within, source_at}
+use Rattle.rtl_ir.specs.declared.follow.Join.{Join}
 use Rattle.net_index.specs.IndexWays.{Leads, RunsOn}
 use Rattle.net_index.proofs.IndexEnds.{ends_all, ends_later, ends_not, ends_on}
 

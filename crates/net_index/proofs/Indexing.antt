@@ -1,16 +1,13 @@
 -- What an index holds, and what it answers.
-use Rattle.std.proofs.Common.{◌≡◌, List, [], ◌∷◌, ◌++◌, map, Option, Some, None, option_map, unwrap_or, refl, ◌∙◌, ap}
+use Rattle.std.proofs.Common.{◌≡◌, List, ◌++◌, Option, Some, None, option_map, unwrap_or, refl, ◌∙◌, ap}
 use Rattle.std.specs.Option.{option_or}
 use Rattle.rtl_sig.specs.declared.sig.WireBit.{WireBit}
-use Rattle.rtl_ir.specs.Drivers.{Drive, Source, FromLink, driver_in}
-use Rattle.rtl_ir.specs.Follow as follow
+use Rattle.rtl_ir.specs.Drivers.{Drive, Source, driver_in}
 use Rattle.net_index.specs.declared.driver.Driver.{Driver}
 use Rattle.net_index.specs.declared.driver.Driver.TheVariants.{Nothing}
-use Rattle.net_index.specs.declared.index_joins.Join.{Join}
 use Rattle.net_index.specs.declared.index_table.BitTable.{BitTable}
 use Rattle.net_index.specs.Driver.{driver_by, driver_answer}
-use Rattle.net_index.specs.DriverFill.{Adds, join_drive}
-use Rattle.net_index.specs.IndexJoins.{join_of}
+use Rattle.net_index.specs.DriverFill.{Adds}
 use Rattle.net_index.specs.IndexTable.{at_bit}
 use Rattle.net_index.proofs.IndexDrives.{adds_append}
 
@@ -18,11 +15,6 @@ use Rattle.net_index.proofs.IndexDrives.{adds_append}
 pub answer_is : (o : Option Source) → unwrap_or (option_map driver_by o) Nothing ≡ driver_answer o
 answer_is None = refl
 answer_is (Some s) = refl
-
--- what the places of connections drive
-pub drives_of_joins : (js : List Join) → map join_drive js ≡ map (λ (j : follow.Join). record { bit = j.bit; source = FromLink j.source }) (map join_of js)
-drives_of_joins [] = refl
-drives_of_joins (j ∷ js) = ap (λ ds. join_drive j ∷ ds) (drives_of_joins js)
 
 -- one list of drives behind another
 pub adds_both : (t mid new : BitTable Driver) (xs ys : List Drive) → Adds t xs mid → Adds mid ys new → Adds t (xs ++ ys) new

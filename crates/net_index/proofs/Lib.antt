@@ -1,16 +1,14 @@
 pub mod Numbers
 pub mod Tables
 pub mod Found
-pub mod Chars
-pub mod Shapes
 pub mod FreshNumbers
+pub mod Fits
 pub mod KindNames
 pub mod NewParams
 pub mod Rooms
 pub mod GivenParams
 pub mod IndexTables
 pub mod IndexDrives
-pub mod IndexPlaces
 pub mod IndexEnds
 pub mod IndexPassing
 pub mod IndexNotes

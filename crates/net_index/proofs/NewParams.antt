@@ -5,7 +5,7 @@ use Rattle.std.proofs.lemmas.List.{drop-drop}
 use Rattle.std.proofs.Math.Pow.{pow_mono}
 use Rattle.std.specs.Prelude.{◌&&◌, nat_lt, nat_le}
 use Rattle.rtl_bits.proofs.Lists.{all_known_true, true_all_known}
-use Rattle.rtl_bits.proofs.Numbers.{drop_here, number_of_small}
+use Rattle.rtl_bits.proofs.NumberLemmas.{drop_here, number_of_small}
 use Rattle.rtl_bits.specs.Knowledge.{all_known}
 use Rattle.rtl_bits.specs.Numbers.{HasNumber, digit_of, number_of}
 use Rattle.rtl_bits.specs.declared.bit.Bit.{Bit}

@@ -82,3 +82,9 @@ whole_step old new all wire at width e h i =
     let here : SigBit = OnWire (record { wire = wire; at = at }) in
     let next : bits_from wire at width ≡ here ∷ bits_from wire (at + 1) width = ap (λ places. map OnWire (map (λ at. record { wire = wire; at = at }) places)) (range_next at width h) in
     rw e (append_assoc old (here ∷ []) (bits_from wire (at + 1) width) ∙ ap (λ rest. old ++ rest) (sym next) ∙ i)
+
+-- for `fresh_wire_with`
+pub ruleset wire_rooms = (bit_count_last, wire_fits, wire_room)
+
+-- for `add_driver`
+pub ruleset driver_rooms = (bit_count_last, driver_fits, driver_room)

@@ -11,9 +11,14 @@ use Rattle.cell_types.specs.declared.param_name.ParamName.{ParamName}
 use Rattle.cell_types.specs.declared.param_name.ParamName.TheVariants.{ArstValue, SrstValue, InitValue, PriorityMask, TransparencyMask, CollisionXMask, Memid}
 use Rattle.rtl_ir.specs.Build.{Building}
 use Rattle.rtl_ir.specs.declared.cell.CellParam.{CellParam}
+use Rattle.rtl_ir.specs.declared.module.Module.{Module}
 use Rattle.rtl_ir.specs.declared.value.Value.{Value}
 use Rattle.rtl_ir.specs.declared.value.Value.TheVariants.{Bits, Int, Chars}
 use Rattle.net_index.specs.Numbering.{bit_count, widths_of}
+
+-- a module that is added to, whose fresh names go on from a number
+abbrev pub building_from : ℕ → Module → Building
+building_from next m = record { body = m; next = next }
 
 -- a module is within the limits on cells, on bits of wires and on the numbers of fresh names
 pub record IsInLimits (b : Building) : Type 0 where

@@ -5,11 +5,11 @@ use Rattle.rtl_sig.specs.declared.sig.WireBit.{WireBit}
 use Rattle.rtl_ir.specs.declared.cell.Pin.{Pin}
 use Rattle.rtl_ir.specs.declared.wire.Wire.{Wire}
 use Rattle.rtl_ir.specs.Drivers.{Drive, FromPort, FromCell, FromLink, all_by, driver_in, is_input, places_by}
+use Rattle.rtl_ir.specs.declared.follow.Join.{Join}
 use Rattle.rtl_ir.specs.Outputs.{drives_pin}
 use Rattle.rtl_ir.specs.Signals.{bits_of_wire, has_bit}
 use Rattle.rtl_ir.specs.Types.{CellType}
 use Rattle.net_index.specs.declared.driver.Driver.{Driver}
-use Rattle.net_index.specs.declared.index_joins.Join.{Join}
 use Rattle.net_index.specs.declared.index_table.BitTable.{BitTable}
 use Rattle.net_index.specs.Driver.{driver_by}
 use Rattle.net_index.specs.IndexTable.{at_bit}

@@ -4,7 +4,8 @@ use Rattle.std.specs.Option.{option_map, option_or}
 use Rattle.rtl_sig.specs.declared.sig.SigBit.{SigBit}
 use Rattle.rtl_sig.specs.declared.sig.SigBit.TheVariants as sig
 use Rattle.rtl_sig.specs.declared.sig.WireBit.{WireBit}
-use Rattle.rtl_ir.specs.Follow.{Join, end_within, source_at}
+use Rattle.rtl_ir.specs.Follow.{end_within, source_at}
+use Rattle.rtl_ir.specs.declared.follow.Join.{Join}
 use Rattle.net_index.specs.declared.index_table.BitTable.{BitTable}
 use Rattle.net_index.specs.declared.index_ways.Way.{Way}
 use Rattle.net_index.specs.declared.index_ways.Way.TheVariants.{To, End, Loop}

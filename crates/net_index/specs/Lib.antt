@@ -3,7 +3,6 @@ pub mod DriverFill
 pub mod DriverRules
 pub mod DriverTree
 pub mod Index
-pub mod IndexJoins
 pub mod IndexTable
 pub mod IndexWays
 pub mod Numbering

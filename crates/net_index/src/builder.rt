@@ -2,28 +2,20 @@
 
 ghost use Rattle.std.specs.Prelude.{◌≡◌, ◌≤◌, ◌<◌, ◌^◌, [], Err, IfOk, OnErr, OnOk, length};
 ghost use Rattle.rtl_ir.specs.Build.{building_of, fresh_wire, new_cell, new_driver, new_link, whole};
-ghost use Rattle.net_index.specs.Builder.{HasRoom, IsInLimits, PassesLimit, new_params};
+ghost use Rattle.net_index.specs.Builder.{HasRoom, IsInLimits, PassesLimit, building_from, new_params};
 ghost use Rattle.net_index.specs.BuilderNames.{name_of};
-ghost use Rattle.net_index.specs.Numbering.{bit_count, widths_of};
 
 use crate::builder_fault::PassFault;
 use crate::builder_items::{copied_pins, new_cell, new_wire, put_driver, with_output};
 use crate::fresh::first_number;
+use crate::limits::count_bits;
 use cell_types::{CellKind, Param};
 use rtl_bits::{Copied, Memory, Seq};
-use rtl_ir::{Attribute, Link, Module, Pin, Wire};
+use rtl_ir::limits::{MAX_BITS, MAX_CELLS, MAX_FRESH};
+use rtl_ir::{Attribute, Link, Module, Pin};
 use rtl_sig::SigSpec;
 use std::alloc::Global;
 use std::marker::Model;
-
-/// The most cells of a module.
-const MAX_CELLS: usize = 1_048_576;
-
-/// The most bits of the wires of a module.
-const MAX_BITS: u128 = 4_194_304;
-
-/// One more than the greatest number of a fresh name.
-const MAX_NEXT: u32 = 1_000_000_000;
 
 /// A module that is added to. Fresh names go on from the greatest number that a name of the module has.
 #[derive(Drop)]
@@ -48,7 +40,8 @@ impl Model for Builder {
 
     ghost view = { λ b. record { body = b.body; next = b.next } };
 
-    ghost invariant = { λ b. (b.next ≤ 1000000000) × (b.bits < 2 ^ 127) × (b.bits ≡ bit_count (widths_of b.body.wires)) };
+    ghost invariant = { λ b. (b.next ≤ 1000000000) × (b.bits < 2 ^ 127)
+        × (b.bits ≡ bit_count (widths_of b.body.wires)) };
 }
 
 impl Builder {
@@ -57,13 +50,30 @@ impl Builder {
         ensures value { IfOk result (λ builder. builder ≡ building_of «module») }
     {
         let next = first_number(&module);
+        Ok(Builder::numbered_from(alloc, next, module))
+    }
+
+    /// The module, to which nothing is added yet, where fresh names go on from this number: that of a module of which this
+    /// one is a part, say. It takes no memory.
+    pub fn numbered_from(alloc: Global, next: u32, module: Module) -> Builder
+        requires in_range { next ≤ 1000000000 }
+        ensures value { result ≡ building_from next «module» }
+    {
         let bits = count_bits(module.wires.as_slice());
-        Ok(Builder {
+        Builder {
             alloc,
             body: module,
             next,
             bits,
-        })
+        }
+    }
+
+    /// `Over` where the module is past a limit on cells, on bits of wires or on fresh names as it is.
+    pub fn check_limits(&self) -> Result<(), PassFault>
+        ensures over { result ≡ Err PassFault.Over → PassesLimit self.now }
+        ensures ok { OnOk result (IsInLimits self.now) }
+    {
+        self.room(0, 0, 0)
     }
 
     /// `Over` where so many new cells, bits of wires and fresh names would together pass a limit.
@@ -74,8 +84,8 @@ impl Builder {
     {
         let cells_left = MAX_CELLS.checked_sub(self.body.cells.as_slice().len());
         if cells_left.is_none_or(|left| left < cells)
-            || self.bits + u128::from(bits) > MAX_BITS
-            || self.next + names > MAX_NEXT
+            || self.bits + u128::from(bits) > MAX_BITS as u128
+            || self.next + names > MAX_FRESH + 1
         {
             return Err(PassFault::Over);
         }
@@ -96,7 +106,7 @@ impl Builder {
     }
 
     /// A fresh wire with attributes, as `fresh_wire` puts one without.
-    #[tactic(auto, using(crate::proofs::Rooms::bit_count_last, crate::proofs::Rooms::wire_fits, crate::proofs::Rooms::wire_room))]
+    #[tactic(auto, using(crate::proofs::Rooms::wire_rooms))]
     pub fn fresh_wire_with(
         &mut self,
         width: u32,
@@ -145,7 +155,7 @@ impl Builder {
     /// A cell of this kind goes last, and a fresh wire at its output, which is its last pin. The cell takes
     /// the next fresh name, and the wire the one behind it. The answer is the wire's place in the list of
     /// wires.
-    #[tactic(auto, using(crate::proofs::Rooms::bit_count_last, crate::proofs::Rooms::driver_fits, crate::proofs::Rooms::driver_room))]
+    #[tactic(auto, using(crate::proofs::Rooms::driver_rooms))]
     pub fn add_driver(
         &mut self,
         kind: CellKind,
@@ -155,7 +165,8 @@ impl Builder {
         width: u32,
     ) -> Result<u32, PassFault>
         ensures exact { IfOk result (λ wire.
-            (whole wire width, self.new) ≡ new_driver (name_of kind) (new_params params.now) pins.now output.now width self.old) }
+            (whole wire width, self.new) ≡
+            new_driver (name_of kind) (new_params params.now) pins.now output.now width self.old) }
         ensures place { IfOk result (λ wire. wire ≡ length self.old.body.wires) }
         ensures over { result ≡ Err PassFault.Over →
             PassesLimit (new_driver (name_of kind) (new_params params.now) pins.now output.now width self.old).1 }
@@ -198,20 +209,6 @@ impl Builder {
     {
         self.body
     }
-}
-
-/// How many bits the wires have.
-fn count_bits(wires: &[Wire]) -> u128
-    ensures value { result ≡ bit_count (widths_of wires.now) }
-    ensures small { result < 2 ^ 127 }
-{
-    // Fewer than 2^63 wires are there, so the sum fits.
-    let _wires = wires.len();
-    let mut bits = 0;
-    for wire in wires {
-        bits += u128::from(wire.width);
-    }
-    bits
 }
 
 /// The place behind so many items. More than 2^32 of them are taken for want of memory.

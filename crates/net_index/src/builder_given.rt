@@ -25,6 +25,18 @@ pub fn number_param(alloc: Global, name: ParamName, number: u32) -> Result<Param
     })
 }
 
+/// A parameter that is written as this length. A signal has at most 4,194,304 bits, so of its length memory alone can
+/// be missing; one of 2^31 or more is answered with `Memory` too.
+pub fn length_param(alloc: Global, name: ParamName, length: usize) -> Result<Param, Memory>
+    requires number { is_number_param name ≡ true }
+    ensures value { IfOk result (λ param. new_param param ≡ integer_param (param_text name) «length») }
+{
+    match u32::try_from(length) {
+        Ok(number) if number < 1 << 31 => number_param(alloc, name, number),
+        _ => Err(Memory),
+    }
+}
+
 /// A parameter that is written as these bits.
 #[tactic(auto, using(crate::proofs::GivenParams::written_bits))]
 pub fn value_param(alloc: Global, name: ParamName, bits: &[Bit]) -> Result<Param, Memory>

@@ -1,11 +1,11 @@
 //! How the parameters of new cells are written.
 
 ghost use Rattle.std.specs.Prelude.{◌≡◌, ◌≤◌, IfOk, length, map};
-ghost use Rattle.rtl_bits.specs.Numbers.{digit_of, number_of};
+ghost use Rattle.rtl_bits.specs.Numbers.{number_of};
 ghost use Rattle.net_index.specs.Builder.{chars_of, new_param, new_params, is_value, new_value, number_value};
 
 use cell_types::{Param, ParamName};
-use rtl_bits::{Bit, Bits, Copied, Memory, Seq, Text};
+use rtl_bits::{Bit, Bits, Copied, Memory, Seq, Text, digit_of};
 use rtl_ir::{CellParam, Value};
 use std::alloc::Global;
 
@@ -93,14 +93,4 @@ fn char_of(bits: &[Bit]) -> u8
         number = 2 * number + digit_of(bits[at]);
     }
     number
-}
-
-/// What a bit adds at its place.
-fn digit_of(bit: Bit) -> u8
-    ensures value { result ≡ digit_of bit }
-{
-    match bit {
-        Bit::S1 => 1,
-        _ => 0,
-    }
 }

@@ -2,23 +2,32 @@
 
 ghost use Rattle.std.specs.Prelude.{◌≡◌, IfOk, OnOk, map};
 ghost use Rattle.rtl_sig.specs.declared.sig.WireBit.{WireBit};
-ghost use Rattle.rtl_ir.specs.Drivers.{FromCell, FromPort, all_by, cell_drives, drives_of, pin_drives, places_by, port_drives, rule_drives, tree_drives};
+ghost use Rattle.rtl_ir.specs.Drivers.{
+  FromCell,
+  FromPort,
+  all_by,
+  cell_drives,
+  drives_of,
+  pin_drives,
+  places_by,
+  port_drives,
+  rule_drives,
+  tree_drives,
+};
 ghost use Rattle.rtl_ir.specs.Follow.{all_joins};
 ghost use Rattle.rtl_ir.specs.Signals.{bits_of_wire};
 ghost use Rattle.rtl_ir.specs.Types as rtl;
 ghost use Rattle.net_index.specs.DriverFill.{Adds, HasDrivers, join_drive, drives_of_pin, drives_of_port, marked_at};
-ghost use Rattle.net_index.specs.IndexJoins.{join_of};
 ghost use Rattle.net_index.specs.IndexTable.{at_bit};
 ghost use Rattle.net_index.specs.Types.{AreTypes, IsType};
 
 use crate::driver::{CellPin, Driver};
 use crate::driver_tree::{assigned_bits, ruled_bits};
-use crate::index_joins::Join;
 use crate::index_table::BitTable;
 use crate::outputs::drives_pin;
 use crate::types::{CellType, Types};
 use rtl_bits::Memory;
-use rtl_ir::{Cell, Module, Pin, Process, Role, Wire};
+use rtl_ir::{Cell, Join, Module, Pin, Process, Role, Wire};
 use rtl_sig::{SigBit, WireBit};
 use std::alloc::Global;
 
@@ -30,8 +39,9 @@ pub(crate) fn drivers_of(
     types: &Types,
     joins: &[Join],
 ) -> Result<BitTable<Driver>, Memory>
-    requires joins { map join_of joins.now ≡ all_joins «module».now.links }
-    ensures value { IfOk result (λ table. (ports : rtl.Ports) → AreTypes types.now ports → HasDrivers table (drives_of ports «module».now)) }
+    requires joins { joins.now ≡ all_joins «module».now.links }
+    ensures value { IfOk result (λ table. (ports : rtl.Ports) → AreTypes types.now ports →
+        HasDrivers table (drives_of ports «module».now)) }
 {
     let wires = module.wires.as_slice();
     let mut drivers = BitTable::of(alloc, wires)?;
@@ -82,7 +92,8 @@ fn add_wire(drivers: &mut BitTable<Driver>, wire: u32, width: u32) -> Result<(),
 
 /// What the cells drive.
 fn add_cells(drivers: &mut BitTable<Driver>, types: &Types, cells: &[Cell]) -> Result<(), Memory>
-    ensures ok { OnOk result ((ports : rtl.Ports) → AreTypes types.now ports → Adds drivers.old (cell_drives ports 0 cells.now) drivers.new) }
+    ensures ok { OnOk result ((ports : rtl.Ports) → AreTypes types.now ports →
+        Adds drivers.old (cell_drives ports 0 cells.now) drivers.new) }
 {
     for (place, cell) in cells.iter().enumerate() {
         let cell_type = types.find(cell.kind_name.as_slice());
@@ -98,7 +109,8 @@ fn add_pins(
     cell: u32,
     pins: &[Pin],
 ) -> Result<(), Memory>
-    ensures ok { OnOk result ((type : rtl.CellType) → IsType cell_type.now type → Adds drivers.old (pin_drives type cell 0 pins.now) drivers.new) }
+    ensures ok { OnOk result ((type : rtl.CellType) → IsType cell_type.now type →
+        Adds drivers.old (pin_drives type cell 0 pins.now) drivers.new) }
 {
     for (place, pin) in pins.iter().enumerate() {
         add_pin(drivers, cell_type, cell, place as u64, pin)?;
@@ -114,7 +126,8 @@ fn add_pin(
     place: u64,
     pin: &Pin,
 ) -> Result<(), Memory>
-    ensures ok { OnOk result ((type : rtl.CellType) → IsType cell_type.now type → Adds drivers.old (drives_of_pin type cell place pin.now) drivers.new) }
+    ensures ok { OnOk result ((type : rtl.CellType) → IsType cell_type.now type →
+        Adds drivers.old (drives_of_pin type cell place pin.now) drivers.new) }
 {
     if drives_pin(cell_type, pin.name.as_slice()) {
         return add_places(drivers, cell, place, pin.sig.as_slice());

@@ -44,18 +44,6 @@ pub fn always_matches(signal: &[SigBit], pattern: &[SigBit]) -> bool
     true
 }
 
-/// Whether the signal is constants alone.
-pub fn is_all_constant(bits: &[SigBit]) -> bool
-    ensures value { result ≡ signals.is_all_constant bits.now }
-{
-    for bit in bits {
-        if let SigBit::Wire(_) = bit {
-            return false;
-        }
-    }
-    true
-}
-
 /// Whether the pattern of constants matches the value.
 pub(crate) fn matches_value(pattern: &[SigBit], value: &[Bit]) -> bool
     ensures value { result ≡ list_all rules.matches_bit (zip pattern.now value.now) }

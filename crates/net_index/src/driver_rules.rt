@@ -5,10 +5,9 @@ ghost use Rattle.std.specs.List.{list_any};
 ghost use Rattle.rtl_ir.specs.SwitchRules as rules;
 ghost use Rattle.net_index.specs.DriverRules.{constants_after, left_after, left_of, pattern_kept, reading_of};
 
-use crate::driver_patterns::{
-    always_matches, is_all_constant, is_covered_by, matches_value, never_matches,
-};
+use crate::driver_patterns::{always_matches, is_covered_by, matches_value, never_matches};
 use rtl_bits::{Bits, Copied, Memory};
+use rtl_ir::is_all_constant;
 use rtl_sig::{SigBit, SigSpec};
 use std::alloc::Global;
 
@@ -62,7 +61,8 @@ fn read_patterns(
     earlier: &mut Vec<SigSpec>,
     patterns: &[SigSpec],
 ) -> Result<Left, Memory>
-    ensures value { IfOk result (λ left. left ≡ left_of signal.now (rules.patterns_left signal.now earlier.old.items patterns.now)) }
+    ensures value { IfOk result (λ left. left ≡
+        left_of signal.now (rules.patterns_left signal.now earlier.old.items patterns.now)) }
     ensures earlier { OnOk result (earlier.new.items ≡ constants_after signal.now earlier.old.items patterns.now) }
 {
     let mut left = Left {
@@ -75,7 +75,7 @@ fn read_patterns(
     Ok(left)
 }
 
-/// The same with one more pattern.
+/// What is left of the patterns so far and this one behind those of constants, to which its own are added.
 fn read_pattern(
     signal: &[SigBit],
     earlier: &mut Vec<SigSpec>,

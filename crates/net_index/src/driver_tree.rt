@@ -1,5 +1,5 @@
-//! The bits that the trees and the rules of processes name. In the Yosys manual, "The RTL Intermediate Language (RTLIL)",
-//! the section "RTLIL::Process".
+//! The bits that the trees and the rules of processes name. In the Yosys manual, "The RTL Intermediate Language
+//! (RTLIL)", the section "RTLIL::Process".
 
 ghost use Rattle.std.specs.Prelude.{◌≡◌, [], ◌++◌, ◌&&◌, not, IfOk, OnOk, flat_map};
 ghost use Rattle.rtl_ir.specs.Assigns.{case_assigns, cases_assigns, left_bits, switches_assigns};
@@ -10,8 +10,8 @@ ghost use Rattle.net_index.specs.DriverTree.{rule_lefts};
 
 use crate::driver_rules::{Reading, read_case};
 use rtl_bits::Memory;
-use rtl_ir::{Case, Event, Link, Switch, SyncRule};
-use rtl_sig::{SigBit, WireBit};
+use rtl_ir::{Case, Switch, SyncRule, acts, add_left_bits};
+use rtl_sig::WireBit;
 use std::alloc::Global;
 
 /// The bits that the assigns of a tree name, those of cases that never act left out.
@@ -26,9 +26,10 @@ pub fn assigned_bits(alloc: Global, root: &Case) -> Result<Vec<WireBit>, Memory>
 /// Puts the bits last that the assigns in the case and below it name.
 #[cycle(tree)]
 fn put_case(alloc: Global, bits: &mut Vec<WireBit>, case: &Case) -> Result<(), Memory>
-    ensures ok { OnOk result (bits.new.items ≡ bits.old.items ++ left_bits (case.now.assigns ++ switches_assigns (switches_by_rules case.now.switches))) }
+    ensures ok { OnOk result (bits.new.items ≡ bits.old.items
+        ++ left_bits (case.now.assigns ++ switches_assigns (switches_by_rules case.now.switches))) }
 {
-    put_left_bits(bits, case.assigns.as_slice())?;
+    add_left_bits(bits, case.assigns.as_slice())?;
     for switch in &case.switches {
         put_switch(alloc, bits, switch)?;
     }
@@ -38,7 +39,8 @@ fn put_case(alloc: Global, bits: &mut Vec<WireBit>, case: &Case) -> Result<(), M
 /// Puts the bits last that the assigns below the switch name.
 #[cycle(tree)]
 fn put_switch(alloc: Global, bits: &mut Vec<WireBit>, switch: &Switch) -> Result<(), Memory>
-    ensures ok { OnOk result (bits.new.items ≡ bits.old.items ++ left_bits (cases_assigns (cases_by_rules switch.now.signal [] switch.now.cases))) }
+    ensures ok { OnOk result (bits.new.items ≡ bits.old.items
+        ++ left_bits (cases_assigns (cases_by_rules switch.now.signal [] switch.now.cases))) }
 {
     let mut earlier = Vec::new(alloc);
     for case in &switch.cases {
@@ -66,38 +68,8 @@ pub(crate) fn ruled_bits(alloc: Global, rules: &[SyncRule]) -> Result<Vec<WireBi
     let mut bits = Vec::new(alloc);
     for rule in rules {
         if acts(rule) {
-            put_left_bits(&mut bits, rule.updates.as_slice())?;
+            add_left_bits(&mut bits, rule.updates.as_slice())?;
         }
     }
     Ok(bits)
-}
-
-/// Whether the rule has a line, and gives no start values.
-fn acts(rule: &SyncRule) -> bool
-    ensures value { result ≡ (has_line rule.now && not (is_init rule.now.event)) }
-{
-    let has_line = !rule.updates.as_slice().is_empty() || !rule.writes.as_slice().is_empty();
-    has_line && !matches!(rule.event, Event::Init)
-}
-
-/// Puts the bits last that stand on the left of these lines.
-fn put_left_bits(bits: &mut Vec<WireBit>, lines: &[Link]) -> Result<(), Memory>
-    ensures ok { OnOk result (bits.new.items ≡ bits.old.items ++ left_bits lines.now) }
-{
-    for line in lines {
-        put_wire_bits(bits, line.left.as_slice())?;
-    }
-    Ok(())
-}
-
-/// Puts the bits of wires in the signal last.
-fn put_wire_bits(bits: &mut Vec<WireBit>, signal: &[SigBit]) -> Result<(), Memory>
-    ensures ok { OnOk result (bits.new.items ≡ bits.old.items ++ wire_bits signal.now) }
-{
-    for bit in signal {
-        if let SigBit::Wire(bit) = bit {
-            bits.push(*bit)?;
-        }
-    }
-    Ok(())
 }

@@ -10,12 +10,11 @@ ghost use Rattle.net_index.specs.Index.{IsIndex};
 
 use crate::driver::Driver;
 use crate::driver_fill::drivers_of;
-use crate::index_joins::joins_of;
 use crate::index_table::BitTable;
 use crate::index_ways::Ways;
 use crate::types::Types;
 use rtl_bits::Memory;
-use rtl_ir::{Module, PortTable};
+use rtl_ir::{Module, PortTable, all_joins};
 use rtl_sig::{SigBit, WireBit};
 use std::alloc::Global;
 
@@ -33,7 +32,7 @@ impl Index {
         ensures value { IfOk result (λ index. IsIndex index (table_ports ports.now.modules) «module».now) }
     {
         let types = Types::of_table(alloc, ports)?;
-        let joins = joins_of(alloc, module.links.as_slice())?;
+        let joins = all_joins(alloc, module.links.as_slice())?;
         Ok(Index {
             drivers: drivers_of(alloc, module, &types, joins.as_slice())?,
             ways: Ways::of(alloc, module.wires.as_slice(), joins.as_slice())?,
@@ -42,7 +41,8 @@ impl Index {
 
     /// What drives the bit. It takes no memory.
     pub fn driver(&self, bit: WireBit) -> Driver
-        ensures value { (ports : Ports) (m : Module) → IsIndex self.now ports m → result ≡ driver_answer (driver_in (drives_of ports m) bit) }
+        ensures value { (ports : Ports) (m : Module) → IsIndex self.now ports m →
+            result ≡ driver_answer (driver_in (drives_of ports m) bit) }
     {
         self.drivers.get(bit).unwrap_or(Driver::Nothing)
     }

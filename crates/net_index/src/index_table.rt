@@ -51,7 +51,8 @@ impl<T: Copy + Drop> BitTable<T> {
 
     /// Gives the bit this value.
     pub fn put(&mut self, bit: WireBit, value: T) -> Result<(), Memory>
-        ensures ok { OnOk result ((b : WireBit) → at_bit self.new b ≡ (if same_bit bit b then Some value else at_bit self.old b)) }
+        ensures ok { OnOk result ((b : WireBit) →
+            at_bit self.new b ≡ (if same_bit bit b then Some value else at_bit self.old b)) }
     {
         match self.numbering.find(bit) {
             Some(number) => self.inside[number] = Some(value),
@@ -64,7 +65,8 @@ impl<T: Copy + Drop> BitTable<T> {
 
     /// Gives the bit this value, where it has none.
     pub fn put_first(&mut self, bit: WireBit, value: T) -> Result<(), Memory>
-        ensures ok { OnOk result ((b : WireBit) → at_bit self.new b ≡ option_or (at_bit self.old b) (if same_bit bit b then Some value else None)) }
+        ensures ok { OnOk result ((b : WireBit) →
+            at_bit self.new b ≡ option_or (at_bit self.old b) (if same_bit bit b then Some value else None)) }
     {
         match self.get(bit) {
             Some(_) => Ok(()),

@@ -1,17 +1,15 @@
 //! Where the connections of a module lead from a bit.
 
-ghost use Rattle.std.specs.Prelude.{◌≡◌, List, IfOk, OnOk, map};
+ghost use Rattle.std.specs.Prelude.{◌≡◌, List, IfOk, OnOk};
 ghost use Rattle.rtl_sig.specs.declared.sig.SigBit.TheVariants as sig;
 ghost use Rattle.rtl_sig.specs.declared.sig.WireBit.{WireBit};
-ghost use Rattle.rtl_ir.specs.Follow as rtl;
-ghost use Rattle.net_index.specs.IndexJoins.{join_of};
+ghost use Rattle.rtl_ir.specs.declared.follow.Join.{Join};
 ghost use Rattle.net_index.specs.IndexTable.{at_bit};
 ghost use Rattle.net_index.specs.IndexWays.{AreWays, IsEnd, IsFound, IsWay, found_by, first_way, way_by};
 
-use crate::index_joins::Join;
 use crate::index_table::BitTable;
 use rtl_bits::Memory;
-use rtl_ir::Wire;
+use rtl_ir::{Join, Wire};
 use rtl_sig::{SigBit, WireBit};
 use std::alloc::Global;
 
@@ -36,7 +34,7 @@ pub(crate) struct Ways {
 impl Ways {
     /// The ways along these connections.
     pub(crate) fn of(alloc: Global, wires: &[Wire], joins: &[Join]) -> Result<Ways, Memory>
-        ensures ways { IfOk result (λ ways. AreWays ways (map join_of joins.now)) }
+        ensures ways { IfOk result (λ ways. AreWays ways joins.now) }
     {
         let mut table = BitTable::of(alloc, wires)?;
         put_joins(&mut table, joins)?;
@@ -50,7 +48,7 @@ impl Ways {
 
     /// Where the way from the bit ends, or `None` where it runs into a loop. It takes no memory.
     pub(crate) fn end_of(&self, start: WireBit) -> Option<SigBit>
-        ensures value { (joins : List rtl.Join) → AreWays self.now joins → IsEnd joins (sig.Wire start) result }
+        ensures value { (joins : List Join) → AreWays self.now joins → IsEnd joins (sig.Wire start) result }
     {
         let mut bit = start;
         // The mark moves up at each power of two, so a loop is met within three times its length.
@@ -74,14 +72,14 @@ impl Ways {
 
     /// What is known of the way from the bit.
     fn way(&self, bit: WireBit) -> Way
-        ensures value { (joins : List rtl.Join) → AreWays self.now joins → IsWay joins bit result }
+        ensures value { (joins : List Join) → AreWays self.now joins → IsWay joins bit result }
     {
         self.table.get(bit).unwrap_or(Way::End(SigBit::Wire(bit)))
     }
 
     /// Finds the ends of the ways from these bits.
     fn settle_all(&mut self, joins: &[Join]) -> Result<(), Memory>
-        ensures ways { OnOk result ((all : List rtl.Join) → AreWays self.old all → AreWays self.new all) }
+        ensures ways { OnOk result ((all : List Join) → AreWays self.old all → AreWays self.new all) }
     {
         for join in joins {
             self.settle(join.bit)?;
@@ -91,7 +89,7 @@ impl Ways {
 
     /// Finds where the way from the bit ends, and notes it for each bit on the way.
     fn settle(&mut self, start: WireBit) -> Result<(), Memory>
-        ensures ways { OnOk result ((joins : List rtl.Join) → AreWays self.old joins → AreWays self.new joins) }
+        ensures ways { OnOk result ((joins : List Join) → AreWays self.old joins → AreWays self.new joins) }
     {
         let found = found_way(self.end_of(start));
         self.note(start, found)
@@ -99,7 +97,8 @@ impl Ways {
 
     /// Notes what was found for each bit on the way from this one of which less is known.
     fn note(&mut self, start: WireBit, found: Way) -> Result<(), Memory>
-        ensures ways { OnOk result ((joins : List rtl.Join) → AreWays self.old joins → IsFound joins start found → AreWays self.new joins) }
+        ensures ways { OnOk result ((joins : List Join) → AreWays self.old joins → IsFound joins start found →
+            AreWays self.new joins) }
     {
         let mut bit = start;
         for _ in 0..self.steps {
@@ -115,7 +114,7 @@ impl Ways {
 
 /// The first connection of each bit leads on from it.
 fn put_joins(table: &mut BitTable<Way>, joins: &[Join]) -> Result<(), Memory>
-    ensures ok { OnOk result ((b : WireBit) → at_bit table.new b ≡ first_way table.old (map join_of joins.now) b) }
+    ensures ok { OnOk result ((b : WireBit) → at_bit table.new b ≡ first_way table.old joins.now b) }
 {
     for join in joins {
         table.put_first(join.bit, first_step(join.source))?;

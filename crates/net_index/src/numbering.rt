@@ -32,7 +32,8 @@ impl Model for Numbering {
 
     ghost view = { λ n. map (λ (row : Row). row.width) n.rows.items };
 
-    ghost invariant = { λ n. (n.rows.items ≡ rows_from 0 (map (λ (row : Row). row.width) n.rows.items)) × (n.count ≡ bit_count (map (λ (row : Row). row.width) n.rows.items)) };
+    ghost invariant = { λ n. (n.rows.items ≡ rows_from 0 (map (λ (row : Row). row.width) n.rows.items))
+        × (n.count ≡ bit_count (map (λ (row : Row). row.width) n.rows.items)) };
 }
 
 impl Numbering {

@@ -1,25 +1,12 @@
 //! Which pins a cell drives.
 
 ghost use Rattle.std.specs.Prelude.{◌≡◌, option_map};
-ghost use Rattle.rtl_ir.specs.Outputs.{drives_pin, is_output, memory_output, output_pin};
+ghost use Rattle.rtl_ir.specs.Outputs.{drives_pin, is_output, output_pin};
 ghost use Rattle.rtl_ir.specs.Types as rtl;
 ghost use Rattle.net_index.specs.Types.{IsType};
 
 use crate::types::CellType;
-use cell_types::{CellKind, MemoryKind, PinName};
-use rtl_ir::Role;
-
-/// The pin of a cell of the library that it drives.
-pub fn output_pin(kind: CellKind) -> Option<PinName>
-    ensures value { result ≡ output_pin kind }
-{
-    match kind {
-        CellKind::Word(_) | CellKind::Gate(_) => Some(PinName::Y),
-        CellKind::Storage(_) | CellKind::StorageGate(_) => Some(PinName::Q),
-        CellKind::Memory(MemoryKind::Memrd | MemoryKind::MemrdV2) => Some(PinName::Data),
-        CellKind::Memory(_) => None,
-    }
-}
+use rtl_ir::{is_output, output_pin};
 
 /// Whether a cell of this type drives its pin of this name. A port of both directions drives nothing.
 pub fn drives_pin(cell_type: &CellType, name: &[u8]) -> bool
@@ -31,7 +18,7 @@ pub fn drives_pin(cell_type: &CellType, name: &[u8]) -> bool
             None => false,
         },
         CellType::Instance(ports) => match ports.get(name) {
-            Some(port) => matches!(port.role, Role::Output),
+            Some(port) => is_output(port.role),
             None => false,
         },
         CellType::Unsupported | CellType::Unknown => false,

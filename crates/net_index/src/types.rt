@@ -8,7 +8,7 @@ ghost use Rattle.net_index.specs.Types.{AreTypes, IsTable, IsType};
 
 use cell_types::{CellKind, is_unsupported, kind_of};
 use rtl_bits::Memory;
-use rtl_ir::{Module, PortLine, PortTable, Role, Wire};
+use rtl_ir::{Module, PortLine, PortTable, Role, Wire, is_port};
 use std::alloc::Global;
 use std::collections::HashMap;
 
@@ -117,14 +117,4 @@ fn wire_names<'a>(alloc: Global, wires: &'a [Wire]) -> Result<PortNames<'a>, Mem
         }
     }
     Ok(names)
-}
-
-/// Whether other modules see a wire of this role.
-pub fn is_port(role: Role) -> bool
-    ensures value { result ≡ is_port role }
-{
-    match role {
-        Role::Inner => false,
-        Role::Input | Role::Output | Role::Inout => true,
-    }
 }

@@ -36,7 +36,8 @@ use Rattle.rtl_ir.specs.Flat.Point.{At as AtPlace, bit_place, point_at}
 use Rattle.rtl_ir.specs.Flat.Process.{no_modules, rule_shape, no_pins, level_after, Trigger, edge_trigger, level_trigger, may_hold, event_point, edge_row, level_row, loaded_row, loaded_rows, always_row, raced_row, raced_rows, one_rule_rows, two_rules_rows, rules_rows, process_rows, processes_rows}
 use Rattle.rtl_ir.specs.Flat.Rows.{rows_of}
 use Rattle.rtl_ir.specs.Flat.Start.{start_of}
-use Rattle.rtl_ir.specs.Follow.{Join, all_joins, source_at}
+use Rattle.rtl_ir.specs.Follow.{all_joins, source_at}
+use Rattle.rtl_ir.specs.declared.follow.Join.{Join}
 use Rattle.rtl_ir.specs.Parameters.{signal_at}
 use Rattle.rtl_ir.specs.Rules.{acting_rules}
 use Rattle.rtl_ir.specs.SwitchRules.{root_by_rules}

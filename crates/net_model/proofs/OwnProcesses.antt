@@ -22,7 +22,8 @@ use Rattle.rtl_ir.specs.Flat.Place.{Path}
 use Rattle.rtl_ir.specs.Flat.Point.{point, points, bit_place}
 use Rattle.rtl_ir.specs.Flat.Process.{no_modules, Trigger, edge_trigger, level_trigger, may_hold, event_point, global_rows, edge_row, level_row, loaded_row, loaded_rows, always_row, raced_row, raced_rows, one_rule_rows, two_rules_rows, rules_rows, process_rows, processes_rows}
 use Rattle.rtl_ir.specs.Flat.Reads.{read_points}
-use Rattle.rtl_ir.specs.Follow.{Join, all_joins, source_at}
+use Rattle.rtl_ir.specs.Follow.{all_joins, source_at}
+use Rattle.rtl_ir.specs.declared.follow.Join.{Join}
 use Rattle.rtl_ir.specs.Rules.{acting_rules}
 use Rattle.rtl_ir.specs.SwitchRules.{root_by_rules}
 use Rattle.rtl_ir.specs.Tree.{CaseView}

@@ -11,7 +11,8 @@ use Rattle.rtl_ir.specs.declared.cell.Pin.{Pin}
 use Rattle.rtl_ir.specs.declared.module.Link.{Link}
 use Rattle.rtl_ir.specs.Assigns.{switches_assigns, cases_assigns, case_assigns, each_once, tree_bits, last_source, assigned}
 use Rattle.rtl_ir.specs.Decisions.{Decision, Leaf, Choice, Branches, NoBranch, OneBranch, after_assigns, after_switches, branches_of, case_decision, with_leaves, branches_with_leaves, expanded_within, expanded}
-use Rattle.rtl_ir.specs.Follow.{Join, joins, all_joins, source_at}
+use Rattle.rtl_ir.specs.Follow.{joins, all_joins, source_at}
+use Rattle.rtl_ir.specs.declared.follow.Join.{Join}
 use Rattle.rtl_ir.specs.Parameters.{signal_at}
 use Rattle.rtl_ir.specs.Signals.{is_all_constant, same_bit, has_bit, wire_bits}
 use Rattle.rtl_ir.specs.SwitchRules.{is_dropped, with_pattern, patterns_left, takes_the_rest, kept_case, switches_by_rules, cases_by_rules, root_by_rules}

@@ -5,7 +5,8 @@ use Rattle.std.specs.Option.{option_map_or}
 use Rattle.rtl_sig.specs.declared.sig.SigBit.{SigBit}
 use Rattle.rtl_sig.specs.declared.sig.SigBit.TheVariants.{Fixed, Wire as OnWire}
 use Rattle.rtl_sig.specs.declared.sig.WireBit.{WireBit}
-use Rattle.rtl_ir.specs.Follow.{Join, all_joins, back, end_within, follow, follow_joins}
+use Rattle.rtl_ir.specs.Follow.{all_joins, back, end_within, follow, follow_joins}
+use Rattle.rtl_ir.specs.declared.follow.Join.{Join}
 use Rattle.rtl_ir.specs.Outputs.{drives_pin}
 use Rattle.rtl_ir.specs.Signals.{wire_bits}
 use Rattle.rtl_ir.specs.Types.{CellType, Ports, cell_type}

@@ -32,7 +32,8 @@ use Rattle.rtl_ir.specs.Flat.Reads.{read_points, reads}
 use Rattle.rtl_ir.specs.Flat.Rows.{plain_rows, rows_of}
 use Rattle.rtl_ir.specs.Flat.Tree.{design_ports}
 use Rattle.rtl_ir.specs.Flat.Start.{start_of}
-use Rattle.rtl_ir.specs.Follow.{Join, all_joins, source_at}
+use Rattle.rtl_ir.specs.Follow.{all_joins, source_at}
+use Rattle.rtl_ir.specs.declared.follow.Join.{Join}
 use Rattle.rtl_ir.specs.Outputs.{is_output, output_pin}
 use Rattle.rtl_ir.specs.Ports.{is_port, line_of, ports_of}
 use Rattle.rtl_ir.specs.Signals.{wire_bits}
@@ -60,19 +61,22 @@ use Rattle.net_model.proofs.Relating.{reached_solved}
 use Rattle.net_model.specs.Within.{Each}
 use Rattle.pass_laws.specs.Bits.{cells_bits, links_bits, pin_bits}
 use Rattle.pass_laws.specs.Replaces.{IsOutside}
-use Rattle.opt_clean.specs.Keep.{has_keep, is_root, is_shown, is_shown_bit, output_bits, stays_by}
+use Rattle.opt_clean.specs.Keep.{is_root, is_shown, is_shown_bit, output_bits, stays_by}
+use Rattle.rtl_ir.specs.Attributes.{is_kept}
 use Rattle.opt_clean.specs.Kept.{bits_read, input_bits, marked, read_bits, right_bits}
 use Rattle.opt_clean.specs.Runs.{is_connected, links_of, shown_links, source_of}
 use Rattle.opt_clean.specs.Wires.{cell_bits, link_bits, named_bits}
 use Rattle.opt_clean.proofs.Bits.{flat_in, in_flat, none_any}
-use Rattle.opt_clean.proofs.Cells.{IsPinOf, cell_reads, driven_bits, drives_output, in_places, kind_row, pins_of, point_bit, signal_bits}
+use Rattle.pass_laws.proofs.CellReads.{IsPinOf, cell_reads, driven_bits, drives_output, in_places, kind_row, pins_of, point_bit, signal_bits}
 use Rattle.opt_clean.proofs.Joins.{join_row, joins_rows, lefts_in, only_source, rights_in, source_in}
 use Rattle.opt_clean.proofs.Marks.{mark_cases, marked_give, marked_in, others, others_in}
 use Rattle.opt_clean.proofs.Memories.{IsWord, memories_stay, memory_row}
-use Rattle.opt_clean.proofs.Ports.{in_wires, line_port, port_line, same_item, same_place, some_at}
+use Rattle.opt_clean.proofs.Ports.{same_place, some_at}
 use Rattle.opt_clean.proofs.Rounds.{IsClosed}
 use Rattle.opt_clean.proofs.Showing.{in_sources, row_from, shown_bits, shown_has, shown_rights, shown_rows}
 use Rattle.opt_clean.proofs.Ways.{origin, origin_here, origin_on, origin_or, origin_wire}
+use Rattle.pass_laws.proofs.Finding.{in_place}
+use Rattle.pass_laws.proofs.Ports.{line_port, port_line, same_item}
 
 -- the wire that has a bit
 pub record Home (wires : List Wire) (b : WireBit) : Type 0 where
@@ -328,7 +332,7 @@ module _ (tports : types.Ports) (m : Module) (marks : List Bool) (fine : MayRedu
   -- a cell that goes is no instance, and none of a memory
   gone_by : (c : Cell) → In c (others marks m.cells) → stays_by (cell_kind c) ≡ false
   gone_by c i =
-      (or_parts (stays_by (cell_kind c)) (has_keep c.attributes || list_any (is_shown_bit m.wires) (output_bits tports c)) (fine.closed.root c i)).0
+      (or_parts (stays_by (cell_kind c)) (is_kept c.attributes || list_any (is_shown_bit m.wires) (output_bits tports c)) (fine.closed.root c i)).0
 
   pub gone_outside : Each IsOutside (others marks m.cells)
   gone_outside c i kind own = sym (ap stays_by own) ∙ gone_by c i
@@ -361,8 +365,8 @@ module _ (tports : types.Ports) (m : Module) (marks : List Bool) (fine : MayRedu
       (λ e. subst (λ r. Below a (read z (point p m.wires r))) e.0 (says.other (λ n of. none n (subst (OfPort n) spot of)) b (record { within = in_length b home; is = refl }) (subst IsLive (sym e.0) e.1)))
       (λ e. below_x a (z (bit_place p m.wires b)) (subst (λ r. Below a (read z (point p m.wires r))) e (says.other (λ n of. none n (subst (OfPort n) spot of)) b (record { within = in_length b home; is = refl }) (subst IsLive (sym e) tt))))
       (pin_from c i b j))
-      (λ e. says.port (line_of home.of) (port_line m.wires home.of (in_wires m.wires b.wire home.of home.there) e, (b.at, spot)))
-      (port_or home.of (in_wires m.wires b.wire home.of home.there) b.at)
+      (λ e. says.port (line_of home.of) (port_line m.wires home.of (in_place m.wires b.wire home.of home.there) e, (b.at, spot)))
+      (port_or home.of (in_place m.wires b.wire home.of home.there) b.at)
 
   pin_below : (p : Path) (z : Valuation) (c : Cell) → In c (marked marks m.cells) → (q : Place) → IsPinOf p m.wires c q → (a : Bit) → KeptSays p z q.spot a → Below a (z q)
   pin_below p z c i q pin a says =
@@ -380,7 +384,7 @@ module _ (tports : types.Ports) (m : Module) (marks : List Bool) (fine : MayRedu
       ⊎_elim
       (λ none. absurd (none n (subst (OfPort n) spot of)))
       (λ e. e)
-      (port_or home.of (in_wires m.wires b.wire home.of home.there) b.at)
+      (port_or home.of (in_place m.wires b.wire home.of home.there) b.at)
 
   -- what a connected bit comes from that the outside sees is live
   shown_live : (b : WireBit) (r : SigBit) (home : Home m.wires b) → source_at js b ≡ Some r → is_shown home.of ≡ true → IsLive (from b)
@@ -447,7 +451,7 @@ module _ (tports : types.Ports) (m : Module) (marks : List Bool) (fine : MayRedu
     dry : (x : Driven) (b : WireBit) (w : Wire) → In x before → x.place ≡ bit_place p m.wires b → slice_get m.wires b.wire ≡ Some w → w.role ≡ Input → ⊥
     dry x b w i at e role =
         let port : is_port w.role ≡ true = ap is_port role in
-        driven.apart p x i (ap (λ (q : Place). q.path) at) (line_of w) (port_line m.wires w (in_wires m.wires b.wire w e) port) role (b.at, ap (λ (q : Place). q.spot) at ∙ ap (λ o. OfWire (name_or_empty o) b.at) e)
+        driven.apart p x i (ap (λ (q : Place). q.path) at) (line_of w) (port_line m.wires w (in_place m.wires b.wire w e) port) role (b.at, ap (λ (q : Place). q.spot) at ∙ ap (λ o. OfWire (name_or_empty o) b.at) e)
 
     -- a bit of a port that a row has is one that the outside sees
     seen : (x : Driven) (b : WireBit) (w : Wire) → In x before → x.place ≡ bit_place p m.wires b → slice_get m.wires b.wire ≡ Some w → is_port w.role ≡ true → is_shown w ≡ true
@@ -456,8 +460,8 @@ module _ (tports : types.Ports) (m : Module) (marks : List Bool) (fine : MayRedu
         by : (r : Role) → w.role ≡ r → is_port r ≡ true → is_shown w ≡ true
         by Inner f g = absurd (cc)
         by Input f g = absurd (dry x b w i at e f)
-        by Output f g = ap (λ r. is_output r || has_keep w.attributes) f
-        by Inout f g = let no : true ≡ false = sym (ap is_inout f) ∙ fine.single w (in_wires m.wires b.wire w e) in absurd (cc)
+        by Output f g = ap (λ r. is_output r || is_kept w.attributes) f
+        by Inout f g = let no : true ≡ false = sym (ap is_inout f) ∙ fine.single w (in_place m.wires b.wire w e) in absurd (cc)
 
     -- a connected bit that the outside sees has its row
     x_row : (b : WireBit) (r : SigBit) (home : Home m.wires b) → source_at js b ≡ Some r → is_shown home.of ≡ true → In (row_from p m.wires from b) after
@@ -471,7 +475,7 @@ module _ (tports : types.Ports) (m : Module) (marks : List Bool) (fine : MayRedu
       bit_below : (b : WireBit) → Home m.wires b → IsLive (from b) → Below (v (bit_place p m.wires b)) (read w (point p m.wires (from b)))
       bit_below b home live =
           let spot : OfWire (name_or_empty (slice_get m.wires b.wire)) b.at ≡ OfWire home.of.name b.at = ap (λ o. OfWire (name_or_empty o) b.at) home.there in
-          let here : In home.of m.wires = in_wires m.wires b.wire home.of home.there in
+          let here : In home.of m.wires = in_place m.wires b.wire home.of home.there in
           let says : KeptSays p w (OfWire (name_or_empty (slice_get m.wires b.wire)) b.at) (v (bit_place p m.wires b)) = h.own (OfWire (name_or_empty (slice_get m.wires b.wire)) b.at) in
           ⊎_elim
           (λ none. says.other (λ n of. none n (subst (OfPort n) spot of)) b (record { within = in_length b home; is = refl }) live)
@@ -527,8 +531,8 @@ module _ (tports : types.Ports) (m : Module) (marks : List Bool) (fine : MayRedu
     unseen : (c : Cell) → In c (others marks m.cells) → (b : WireBit) → In b (output_bits tports c) → (w : Wire) → slice_get m.wires b.wire ≡ Some w → is_shown w ≡ true → ⊥
     unseen c i b out w e shown =
         let root : is_root tports m.wires c ≡ false = fine.closed.root c i in
-        let rest : (has_keep c.attributes || list_any (is_shown_bit m.wires) (output_bits tports c)) ≡ false = (or_parts (stays_by (cell_kind c)) (has_keep c.attributes || list_any (is_shown_bit m.wires) (output_bits tports c)) root).1 in
-        let none : is_shown_bit m.wires b ≡ false = none_any (is_shown_bit m.wires) (output_bits tports c) (or_parts (has_keep c.attributes) (list_any (is_shown_bit m.wires) (output_bits tports c)) rest).1 b out in
+        let rest : (is_kept c.attributes || list_any (is_shown_bit m.wires) (output_bits tports c)) ≡ false = (or_parts (stays_by (cell_kind c)) (is_kept c.attributes || list_any (is_shown_bit m.wires) (output_bits tports c)) root).1 in
+        let none : is_shown_bit m.wires b ≡ false = none_any (is_shown_bit m.wires) (output_bits tports c) (or_parts (is_kept c.attributes) (list_any (is_shown_bit m.wires) (output_bits tports c)) rest).1 b out in
         let no : true ≡ false = sym shown ∙ sym (ap (λ o. option_map_or is_shown o false) e) ∙ none in
         differ no
       where

@@ -6,7 +6,6 @@ pub mod Rounds
 pub mod Reasons
 pub mod Joins
 pub mod Ports
-pub mod Cells
 pub mod Memories
 pub mod Keeping
 pub mod Once
@@ -25,4 +24,3 @@ pub mod Tables
 pub mod MarkSteps
 pub mod MarkEnds
 pub mod MarksKept
-pub mod Chars

@@ -9,11 +9,12 @@ use Rattle.rtl_ir.specs.declared.cell.Pin.{Pin}
 use Rattle.rtl_ir.specs.declared.module.Module.{Module}
 use Rattle.rtl_ir.specs.declared.wire.Wire.{Wire}
 use Rattle.rtl_ir.specs.Drivers.{Drive, Source, FromPort, FromCell, FromLink, FromTree, FromRules, all_by, cell_drives, driver_in, drives_of, is_input, link_drives, pin_drives, places_by, port_drives, rule_drives, tree_drives}
-use Rattle.rtl_ir.specs.Follow.{Join, all_joins, source_at}
+use Rattle.rtl_ir.specs.Follow.{all_joins, source_at}
+use Rattle.rtl_ir.specs.declared.follow.Join.{Join}
 use Rattle.rtl_ir.specs.Outputs.{drives_pin}
 use Rattle.rtl_ir.specs.Signals.{bits_of_wire, same_bit, wire_bits}
 use Rattle.rtl_ir.specs.Types.{CellType, Ports, cell_type}
-use Rattle.net_index.proofs.IndexTables.{same_bit-refl, same_bit-true}
+use Rattle.net_index.proofs.IndexTables.{same_bit-refl}
 use Rattle.net_model.specs.Lists.{In}
 use Rattle.net_model.proofs.Members.{In-cases, In-left, In-map, In-mapped, In-right}
 use Rattle.follow_laws.specs.Inputs.{followed, followed_cell}
@@ -31,10 +32,11 @@ use Rattle.opt_clean.proofs.Bits.{in_flat}
 use Rattle.opt_clean.proofs.Cleaning.{homes_of}
 use Rattle.opt_clean.proofs.Joins.{source_in}
 use Rattle.opt_clean.proofs.Keeping.{Home}
-use Rattle.opt_clean.proofs.Once.{count_in, driven_once}
-use Rattle.opt_clean.proofs.Ports.{in_wires}
+use Rattle.opt_clean.proofs.Once.{driven_once}
+use Rattle.pass_laws.proofs.Once.{count_in, driver_found}
 use Rattle.opt_clean.proofs.Reducing.{pins_have}
 use Rattle.opt_clean.proofs.Showing.{wire_in}
+use Rattle.pass_laws.proofs.Finding.{in_place}
 
 -- the only drive of a bit is found
 find_only : (ds : List Drive) (d : Drive) → In d ds → count d.bit (bits_of ds) ≤ 1 → find (λ (e : Drive). same_bit e.bit d.bit) ds ≡ Some d
@@ -51,26 +53,6 @@ find_only (e ∷ ds) d (inr i) few = by (find_only ds d i) (same_bit e.bit d.bit
     by later false f =
         let none : ◌≡◌ {A = ℕ} (cond (same_bit e.bit d.bit) 1 0) 0 = ap {B = ℕ} (λ t. cond t 1 0) f in
         later (omega (arith, few, none))
-
-find_in : (test : Drive → Bool) (ds : List Drive) (d : Drive) → find test ds ≡ Some d → In d ds × (test d ≡ true)
-find_in test [] d e = absurd (cc)
-find_in test (x ∷ ds) d e = by (find_in test ds d) (test x) refl e
-  where
-    by : (find test ds ≡ Some d → In d ds × (test d ≡ true)) → (t : Bool) → test x ≡ t → cond t (Some x) (find test ds) ≡ Some d → In d (x ∷ ds) × (test d ≡ true)
-    by later true f g = let same : d ≡ x = cc in (inl same, ap test same ∙ f)
-    by later false f g = let k = later g in (inr k.0, k.1)
-
--- what drives a bit first is one of the drives
-driver_found : (ds : List Drive) (b : WireBit) (s : Source) → driver_in ds b ≡ Some s → In (record { bit = b; source = s }) ds
-driver_found ds b s e = by (find (λ (d : Drive). same_bit d.bit b) ds) refl e
-  where
-    by : (o : Option Drive) → find (λ (d : Drive). same_bit d.bit b) ds ≡ o → option_map (λ (d : Drive). d.source) o ≡ Some s → In (record { bit = b; source = s }) ds
-    by None f g = absurd (cc)
-    by (Some d) f g =
-        let k = find_in (λ (d : Drive). same_bit d.bit b) ds d f in
-        let source : d.source ≡ s = cc in
-        let bit : d.bit ≡ b = same_bit-true d.bit b k.1 in
-        subst (λ (z : Drive). In z ds) (λ i. record { bit = bit i; source = source i }) k.0
 
 -- of ports
 port_source : (first : ℕ) (ws : List Wire) (d : Drive) → In d (port_drives first ws) → d.source ≡ FromPort
@@ -273,7 +255,7 @@ module _ (ports : Ports) (m : Module) (ready : IsReady ports m) where
       forth = λ i d at b j.
           let k = slice_map (followed_cell ports m.links) m.cells i d at in
           let out : In b (output_bits ports k.0) = subst (In b) (ap (output_bits ports) k.2 ∙ same_outputs k.0) j in
-          let home : Home m.wires b = homes b (In-left b (flat_map cell_bits m.cells) (flat_map link_bits m.links) (in_flat cell_bits m.cells k.0 b (in_wires m.cells i k.0 k.1) (pins_have (cell_type ports k.0.kind_name) k.0.pins b out))) in
+          let home : Home m.wires b = homes b (In-left b (flat_map cell_bits m.cells) (flat_map link_bits m.links) (in_flat cell_bits m.cells k.0 b (in_place m.cells i k.0 k.1) (pins_have (cell_type ports k.0.kind_name) k.0.pins b out))) in
           let h = cell_has ports 0 m.cells i k.0 b k.1 out in
           let z : 0 + i ≡ i = omega arith in
           ap cell_place (only (record { bit = b; source = FromCell (0 + i) h.0 h.1 }) home (in_cells (record { bit = b; source = FromCell (0 + i) h.0 h.1 }) h.2)) ∙ ap (λ n. n ∷ []) z;

@@ -28,9 +28,9 @@ use Rattle.pass_laws.specs.Replaces.{IsOutside}
 use Rattle.pass_laws.proofs.Accesses.{no_write, writes_to}
 use Rattle.opt_clean.specs.Kept.{marked}
 use Rattle.opt_clean.proofs.Bits.{flat_in}
-use Rattle.opt_clean.proofs.Cells.{AllAt, all_append, all_first, all_none, at_point}
+use Rattle.pass_laws.proofs.CellReads.{AllAt, all_append, all_first, all_none, at_point}
 use Rattle.opt_clean.proofs.Marks.{filter_marked, others}
-use Rattle.opt_clean.proofs.Ports.{by_kept}
+use Rattle.pass_laws.proofs.Finding.{filtered_in}
 
 -- the cells that give start words of a memory, and those that read it
 abbrev pub is_starter : List ℕ → Cell → Bool
@@ -120,7 +120,7 @@ module _ (P : Place → Type 0) (p : Path) (wires : List Wire) (cells : List Cel
   access_reads name a i =
       let own : In a (cell_accesses name cells) = subst (In a) (append-nil (cell_accesses name cells)) i in
       let k = In-mapped cell_access a (filter (writes_to name) cells) (ordered_from (map cell_access (filter (writes_to name) cells)) a own) in
-      let c = by_kept (writes_to name) cells k.0 k.1 in
+      let c = filtered_in (writes_to name) cells k.0 k.1 in
       subst ReadsSo (sym k.2) (record { clock = each k.0 c.0 Clk; address = each k.0 c.0 Addr; new = each k.0 c.0 Data; enable = each k.0 c.0 En })
 
   ports_read : (at : ℕ) (before accesses : List Access) → ((a : Access) → In a accesses → ReadsSo a) → AllAt P (flat_map port_list (port_points p wires at before accesses))
@@ -176,7 +176,7 @@ module _ (P : Place → Type 0) (p : Path) (wires : List Wire) (cells : List Cel
       let at = In-mapped (word_row p wires s.0 accesses inits address.0) x (range_with_len 0 s.0.width) address.2 in
       subst (IsMemoryRow P p wires cells) (sym at.2) (word_is s.0 accesses (access_reads s.0.name) inits address.0 at.0))
       (λ r. let c = flat_in (read_rows p wires s.0) (reading_cells s.0.name cells) x r in
-      let k = by_kept (is_reader s.0.name) cells c.0 c.1 in
+      let k = filtered_in (is_reader s.0.name) cells c.0 c.1 in
       let row = fetched_are s.0 (pin_points p wires c.0.pins Addr) (each c.0 k.0 Addr) (pin_points p wires c.0.pins Data) 0 x c.2 in
       record { place = inr (c.0, k.0, (and_parts (is_read_kind (cell_kind c.0)) (is_of_memory s.0.name c.0) k.1).0, row.0); read = row.1 })
       (In-cases x (word_rows p wires s.0 accesses inits) (flat_map (read_rows p wires s.0) (reading_cells s.0.name cells)) s.2)

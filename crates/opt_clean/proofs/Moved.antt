@@ -39,7 +39,7 @@ use Rattle.pass_laws.specs.Bits.{cells_bits, links_bits, pin_bits}
 use Rattle.pass_laws.specs.Replaces.{IsEven}
 use Rattle.pass_laws.proofs.Alone.{IsSound, IsSoundBy}
 use Rattle.opt_clean.specs.Wires.{cell_bits, moved_bit, moved_cell, moved_link, moved_pin, new_place}
-use Rattle.opt_clean.proofs.Cells.{signal_bits}
+use Rattle.pass_laws.proofs.CellReads.{signal_bits}
 use Rattle.opt_clean.proofs.Ends.{has_signal}
 
 module _ (marks : List Bool) where

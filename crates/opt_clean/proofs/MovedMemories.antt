@@ -24,7 +24,7 @@ use Rattle.rtl_ir.specs.declared.cell.Cell.{Cell}
 use Rattle.rtl_ir.specs.declared.store.Store.{Store}
 use Rattle.rtl_ir.specs.declared.wire.Wire.{Wire}
 use Rattle.rtl_ir.specs.declared.module.Module.{Module}
-use Rattle.rtl_ir.specs.Faults.MemoryCells.{are_enables, are_words, constant_of, first_address, is_address, is_bad_access, is_unlike, number_at, store_named}
+use Rattle.rtl_ir.specs.Faults.MemoryCells.{are_enables, are_words, first_address, is_address, is_bad_access, is_unlike, number_at, store_named}
 use Rattle.rtl_ir.specs.Flat.Access.{Access, accesses_of, cell_access, cell_accesses, first_trigger, in_access_order, place_access}
 use Rattle.rtl_ir.specs.Flat.Cell.{cell_kind}
 use Rattle.rtl_ir.specs.Flat.Driver.{Remembered}
@@ -32,7 +32,7 @@ use Rattle.rtl_ir.specs.Flat.Memory.{addresses_of, fetched_rows, in_priority_ord
 use Rattle.rtl_ir.specs.Flat.Place.{Path, word_place}
 use Rattle.rtl_ir.specs.Flat.Point.{point, point_at, points}
 use Rattle.rtl_ir.specs.Parameters.{memory_name, signal_at}
-use Rattle.rtl_ir.specs.Signals.{is_all_constant}
+use Rattle.rtl_ir.specs.Signals.{is_all_constant, constant_of}
 use Rattle.rtl_ir.specs.Types.{CellType, Library, Ports, cell_type}
 use Rattle.rtl_ir.specs.WritePorts.{cell_ports}
 use Rattle.net_model.specs.Lists.{In}
@@ -41,7 +41,7 @@ use Rattle.pass_laws.proofs.Accesses.{AreAccesses, IsAccess, SameNumbers, access
 use Rattle.opt_clean.specs.Wires.{moved_cell}
 use Rattle.opt_clean.proofs.Memories.{is_reader, is_starter, ordered_from}
 use Rattle.opt_clean.proofs.Moved.{Keeps, move, points_stay, signal_moves}
-use Rattle.opt_clean.proofs.Ports.{by_kept}
+use Rattle.pass_laws.proofs.Finding.{filtered_in}
 
 -- those of a mapped list that pass a test are those that pass it before
 filter_map : {A B : Type 0} (f : A → B) (test : B → Bool) (xs : List A) → filter test (map f xs) ≡ map f (filter (λ x. test (f x)) xs)
@@ -239,7 +239,7 @@ module _ (marks : List Bool) where
       access_keeps name a i =
           let own : In a (cell_accesses name cells) = subst (In a) (append-nil (cell_accesses name cells)) i in
           let k = In-mapped cell_access a (filter (writes_to name) cells) (ordered_from (map cell_access (filter (writes_to name) cells)) a own) in
-          let c = by_kept (writes_to name) cells k.0 k.1 in
+          let c = filtered_in (writes_to name) cells k.0 k.1 in
           subst AccessKeeps (sym k.2) (record { clock = keeps k.0 c.0 Clk; address = keeps k.0 c.0 Addr; new_word = keeps k.0 c.0 Data; enable = keeps k.0 c.0 En })
 
       ports_stay : (at : ℕ) (before accesses : List Access) → ((a : Access) → In a accesses → AccessKeeps a) → port_points p new at (map moved_access before) (map moved_access accesses) ≡ port_points p old at before accesses
@@ -290,7 +290,7 @@ module _ (marks : List Bool) where
           let accesses = accesses_of s.name cells [] in
           let inits = init_cells s.name cells in
           let words : word_rows p new s (map moved_access accesses) (map moved inits) ≡ word_rows p old s accesses inits = λ i. flat_map (λ address. map (λ at. word_stays s accesses (access_keeps s.name) inits address at i) (range_with_len 0 s.width)) (addresses_of s) in
-          let reads = ap (flat_map (read_rows p new s)) (readers_move s.name) ∙ reads_stay s (reading_cells s.name cells) (λ c j. (by_kept (is_reader s.name) cells c j).0) in
+          let reads = ap (flat_map (read_rows p new s)) (readers_move s.name) ∙ reads_stay s (reading_cells s.name cells) (λ c j. (filtered_in (is_reader s.name) cells c j).0) in
           λ i. ((λ j. word_rows p new s (accesses_move s.name cells j) (starters_move s.name cells j)) ∙ words) i ++ reads i
 
       pub memories_move : (stores : List Store) → memories_rows p new (map moved cells) [] stores ≡ memories_rows p old cells [] stores

@@ -1,8 +1,7 @@
 -- The kept cells with the connections to what the outside sees are a pass.
 use Rattle.std.proofs.Common.{◌≡◌, ℕ, zero, suc, ◌+◌, ◌<◌, ◌≤◌, Bool, true, false, if◌then◌else◌, List, [], ◌∷◌, ◌++◌, length, Option, Some, None, inl, inr, ⊎_elim, refl, sym, ◌∙◌, ap, subst, arith}
-use Rattle.std.specs.Prelude.{ℤ, pos, int_lt, not, ◌&&◌, ◌||◌, map, flat_map, slice_get, slice_index, is_some, ◌==◌}
-use Rattle.std.specs.List.{list_all, list_any}
-use Rattle.std.specs.Ordering.{int_eq}
+use Rattle.std.specs.Prelude.{not, map, flat_map, slice_get, slice_index, is_some, ◌==◌}
+use Rattle.std.specs.List.{list_all}
 use Rattle.std.proofs.lemmas.Bool.{and_parts, eq-eqb, ltb-true}
 use Rattle.std.proofs.lemmas.List.{append-nil, length-map}
 use Rattle.rtl_bits.specs.declared.bit.Bit.{Bit}
@@ -15,8 +14,6 @@ use Rattle.rtl_ir.specs.declared.module.Link.{Link}
 use Rattle.rtl_ir.specs.declared.module.Module.{Module}
 use Rattle.rtl_ir.specs.declared.ports.PortTable.{PortTable}
 use Rattle.rtl_ir.specs.declared.wire.Wire.{Wire}
-use Rattle.rtl_ir.specs.Fault.{BadPort, fault_if, spot}
-use Rattle.rtl_ir.specs.Faults.Wires.{is_bad_port, is_inout, wire_faults, with_number}
 use Rattle.rtl_ir.specs.Flat.Cell as flat
 use Rattle.rtl_ir.specs.Flat.Cell.{cell_kind, cell_rows, cells_rows, instances}
 use Rattle.rtl_ir.specs.Flat.Driver.{Driven}
@@ -26,8 +23,8 @@ use Rattle.rtl_ir.specs.Flat.Point.{bit_place, point}
 use Rattle.rtl_ir.specs.Flat.Rows.{plain_rows, rows_of}
 use Rattle.rtl_ir.specs.Flat.Start.{start_of}
 use Rattle.rtl_ir.specs.Flat.Tree as tree
-use Rattle.rtl_ir.specs.Follow.{Join, all_joins, source_at}
-use Rattle.rtl_ir.specs.Ports.{is_port}
+use Rattle.rtl_ir.specs.Follow.{all_joins, source_at}
+use Rattle.rtl_ir.specs.declared.follow.Join.{Join}
 use Rattle.rtl_ir.specs.Scope.{without_processes}
 use Rattle.rtl_ir.specs.Signals.{bits_of_wire, has_constant, wire_bits}
 use Rattle.rtl_ir.specs.Types as types
@@ -49,7 +46,7 @@ use Rattle.pass_laws.specs.Ready.{IsReady}
 use Rattle.pass_laws.specs.Replaces.{IsEven, IsOutside}
 use Rattle.pass_laws.proofs.Accesses.{AreAccesses, SameNumbers, access_moved, numbers_outside, same_more}
 use Rattle.pass_laws.proofs.Counting.{count, count_more}
-use Rattle.pass_laws.proofs.Faultless.{no_faults, none_left, none_right, plain}
+use Rattle.pass_laws.proofs.Faultless.{no_faults, plain}
 use Rattle.pass_laws.proofs.Forming.{own_accesses, own_cells, ready_with}
 use Rattle.pass_laws.proofs.Passes.{IsPass_trans}
 use Rattle.opt_clean.specs.Clean.{is_inside, reduced}
@@ -61,10 +58,12 @@ use Rattle.opt_clean.proofs.Bits.{flat_in, in_flat}
 use Rattle.opt_clean.proofs.Joins.{join_row, lefts_in, source_in}
 use Rattle.opt_clean.proofs.Keeping.{Home, MayReduce, cells_row, children_stay, from, gone_outside, in_length, join_in, kept_stored, left_named, left_part, one_spot, parts_apart, plain_links, reduced_x_refines, right_part, row_cells, row_in, stored, with_marked}
 use Rattle.opt_clean.proofs.Marks.{marked_in, others}
-use Rattle.opt_clean.proofs.Once.{body_once, count_distinct, count_in, count_or, twice}
+use Rattle.opt_clean.proofs.Once.{body_once}
+use Rattle.pass_laws.proofs.Once.{count_distinct, count_in, count_or, twice}
 use Rattle.opt_clean.proofs.Rounds.{closed}
 use Rattle.opt_clean.proofs.Showing.{row_from, runs_fit, shown_bits, shown_distinct, shown_in, shown_lefts, shown_rows}
 use Rattle.opt_clean.proofs.Ways.{origin_or}
+use Rattle.pass_laws.proofs.Ports.{single}
 
 -- what all of a list pass, each does
 pub all_pass : {A : Type 0} (test : A → Bool) (xs : List A) → list_all test xs ≡ true → (x : A) → In x xs → test x ≡ true
@@ -80,18 +79,6 @@ home_of ws b e = let h = by ws b.wire (ltb-true b.at (slice_index (widths_of ws)
     by [] k h = absurd (omega arith)
     by (w ∷ ws) zero h = (w, refl, h)
     by (w ∷ ws) (suc k) h = by ws k h
-
--- no wire without faults is a port of both directions
-single : (id : List ℕ) (numbers : List ℤ) (ws : List Wire) → wire_faults id numbers ws ≡ [] → (w : Wire) → In w ws → is_inout w.role ≡ false
-single id numbers [] e w i = absurd i
-single id numbers (v ∷ ws) e w (inl f) =
-    ap (λ (z : Wire). is_inout z.role) f ∙ by (is_inout v.role) (none_left (fault_if (is_bad_port numbers v) (BadPort (spot id v.name))) (wire_faults id (with_number numbers v) ws) e)
-  where
-    by : (t : Bool) → fault_if (t || (is_port v.role && (int_lt v.number (pos 1) || list_any (int_eq v.number) numbers))) (BadPort (spot id v.name)) ≡ [] → t ≡ false
-    by false g = refl
-    by true g = absurd (cc)
-single id numbers (v ∷ ws) e w (inr i) =
-    single id (with_number numbers v) ws (none_right (fault_if (is_bad_port numbers v) (BadPort (spot id v.name))) (wire_faults id (with_number numbers v) ws) e) w i
 
 -- the cells that are kept and the others drive what all drive
 parts_count : (ports : types.Ports) (ts : List Bool) (cs : List Cell) (b : WireBit) → count b (cells_bits ports cs) ≡ count b (cells_bits ports (marked ts cs)) + count b (cells_bits ports (others ts cs))

@@ -7,7 +7,7 @@ use Rattle.std.proofs.lemmas.List.{get_or-set_other, get_or-set_same, get_or-rep
 use Rattle.rtl_sig.specs.declared.sig.WireBit.{WireBit}
 use Rattle.rtl_ir.specs.Ports.{is_port}
 use Rattle.rtl_ir.specs.declared.wire.Wire.{Wire}
-use Rattle.opt_clean.specs.Keep.{has_keep}
+use Rattle.rtl_ir.specs.Attributes.{is_kept}
 use Rattle.opt_clean.specs.Moving.{marks_by, noted, places_from, stays_if}
 use Rattle.opt_clean.proofs.Steps.{here}
 use Rattle.opt_clean.specs.Wires.{mark_count, names_wire, new_place, stays, wire_marks}
@@ -57,7 +57,7 @@ noted_at (b ∷ bits) ts k h =
         ap (λ t. t || names_wire bits k) (get_or-set_other ts b.wire k true false apart) ∙ other (get_or ts k false) (names_wire bits k) ∙ ap (λ t. get_or ts k false || (t || names_wire bits k)) (sym e)
 
 stays_same : (t : Bool) (bits : List WireBit) (wire : ℕ) (w : Wire) → t ≡ names_wire bits wire → stays_if t w ≡ stays bits wire w
-stays_same t bits wire w e = ap (λ z. (z || is_port w.role) || has_keep w.attributes) e ∙ turn (names_wire bits wire) (is_port w.role) (has_keep w.attributes)
+stays_same t bits wire w e = ap (λ z. (z || is_port w.role) || is_kept w.attributes) e ∙ turn (names_wire bits wire) (is_port w.role) (is_kept w.attributes)
   where
     turn : (a b c : Bool) → ((a || b) || c) ≡ (b || (c || a))
     turn true true c = refl
@@ -110,3 +110,6 @@ place_past marks places k count e m h =
     let long : length places ≡ length marks = ap length e ∙ places_length marks 0 in
     let le : length marks ≤ k = omega (arith, h, long) in
     m ∙ ap mark_count (sym (take_all k marks le))
+
+-- how wires are noted
+pub ruleset notes = (noted_more, noted_length, noted_marks)

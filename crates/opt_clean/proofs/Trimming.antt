@@ -16,11 +16,11 @@ use Rattle.net_model.specs.Lists.{In}
 use Rattle.net_model.proofs.Members.{map-map}
 use Rattle.pass_laws.proofs.Counting.{bits_more, bits_of, count, count_more}
 use Rattle.pass_laws.proofs.Faultless.{none_left, none_right}
-use Rattle.opt_clean.specs.Keep.{has_keep}
+use Rattle.rtl_ir.specs.Attributes.{is_kept}
 use Rattle.opt_clean.specs.Kept.{marked}
 use Rattle.opt_clean.specs.Wires.{mark_count, names_wire, new_place, stays, wire_marks}
 use Rattle.opt_clean.proofs.Marks.{filter_marked, others}
-use Rattle.opt_clean.proofs.Once.{count_distinct, count_in, count_or}
+use Rattle.pass_laws.proofs.Once.{count_distinct, count_in, count_or}
 use Rattle.opt_clean.proofs.Showing.{in_wire, wire_distinct, wire_in}
 
 -- the place of an item among those that are marked
@@ -74,7 +74,7 @@ gone_inner bits first (v ∷ ws) w i = by (λ j. gone_inner bits (first + 1) ws 
   where
     by : (In w (others (wire_marks bits (first + 1) ws) ws) → is_port w.role ≡ false) → (t : Bool) → stays bits first v ≡ t → In w (if t then others (wire_marks bits (first + 1) ws) ws else v ∷ others (wire_marks bits (first + 1) ws) ws) → is_port w.role ≡ false
     by later true e j = later j
-    by later false e (inl f) = ap (λ (z : Wire). is_port z.role) f ∙ (or_parts (is_port v.role) (has_keep v.attributes || names_wire bits first) e).0
+    by later false e (inl f) = ap (λ (z : Wire). is_port z.role) f ∙ (or_parts (is_port v.role) (is_kept v.attributes || names_wire bits first) e).0
     by later false e (inr j) = later j
 
 -- the ports are the same

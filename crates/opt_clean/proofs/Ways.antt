@@ -4,7 +4,8 @@ use Rattle.rtl_bits.specs.declared.bit.Bit.TheVariants.{X}
 use Rattle.rtl_sig.specs.declared.sig.SigBit.{SigBit}
 use Rattle.rtl_sig.specs.declared.sig.SigBit.TheVariants.{Fixed, Wire as OnWire}
 use Rattle.rtl_sig.specs.declared.sig.WireBit.{WireBit}
-use Rattle.rtl_ir.specs.Follow.{Join, back, end_within, follow_joins}
+use Rattle.rtl_ir.specs.Follow.{back, end_within, follow_joins}
+use Rattle.rtl_ir.specs.declared.follow.Join.{Join}
 use Rattle.net_index.proofs.IndexEnds.{ends_all, ends_here, ends_later, ends_on}
 
 -- the end of the way from a bit, and x where the way runs into a loop

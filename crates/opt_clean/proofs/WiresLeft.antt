@@ -45,7 +45,7 @@ use Rattle.pass_laws.proofs.Alone.{IsSound, no_link_faults}
 use Rattle.pass_laws.proofs.Counting.{bits_of, count, driven_count}
 use Rattle.pass_laws.proofs.Faultless.{HasNoFaults, IsPlain, no_faults, plain}
 use Rattle.pass_laws.proofs.Forming.{all_none, own_accesses, own_cells, own_links}
-use Rattle.opt_clean.specs.Keep.{has_keep}
+use Rattle.rtl_ir.specs.Attributes.{is_kept}
 use Rattle.opt_clean.specs.Wires.{cell_bits, link_bits, moved_bit, moved_cell, moved_link, moved_pin, named_bits, names_wire, new_place, stays, trimmed, wire_marks}
 use Rattle.opt_clean.proofs.Bits.{any_in, flat_in, in_flat}
 use Rattle.opt_clean.proofs.Ends.{has_signal, signal_has}
@@ -104,7 +104,7 @@ module _ (ports : types.Ports) (m : Module) (ready : IsReady ports m) where
   named_stays b i =
       let w = some_at m.wires b.wire (bit_length b i) in
       let named : names_wire bits b.wire ≡ true = any_in (λ (c : WireBit). c.wire == b.wire) bits b i (eq-eqb b.wire b.wire refl) in
-      record { of = w.0; there = w.1; mark = stays_at b.wire w.0 w.1 (or_third (is_port w.0.role) (has_keep w.0.attributes) (names_wire bits b.wire) named) }
+      record { of = w.0; there = w.1; mark = stays_at b.wire w.0 w.1 (or_third (is_port w.0.role) (is_kept w.0.attributes) (names_wire bits b.wire) named) }
     where
       or_third : (x y z : Bool) → z ≡ true → (x || (y || z)) ≡ true
       or_third true y z e = refl

@@ -1,14 +1,20 @@
 -- Cells that are marked one by one, each once.
 use Rattle.std.specs.Prelude.{◌≡◌, ℕ, ◌+◌, ◌<◌, Bool, true, false, List, [], ◌∷◌, ◌++◌, length, set, Option, Some, None, slice_get, slice_index, slice_index_or, if◌then◌else◌}
 use Rattle.rtl_sig.specs.declared.sig.WireBit.{WireBit}
+use Rattle.rtl_ir.specs.Types as rtl
 use Rattle.rtl_ir.specs.Types.{Ports}
 use Rattle.rtl_ir.specs.declared.cell.Cell.{Cell}
+use Rattle.rtl_ir.specs.declared.cell.Pin.{Pin}
 use Rattle.rtl_ir.specs.declared.module.Module.{Module}
 use Rattle.rtl_ir.specs.declared.wire.Wire.{Wire}
+use Rattle.net_index.specs.declared.index.Index.{Index}
+use Rattle.net_index.specs.declared.types.CellType.{CellType}
+use Rattle.net_index.specs.Index.{IsIndex}
+use Rattle.net_index.specs.Types.{IsType}
 use Rattle.net_model.specs.Lists.{In}
 use Rattle.opt_clean.specs.declared.kept.Marks.{Marks}
 use Rattle.opt_clean.specs.Keep.{is_root}
-use Rattle.opt_clean.specs.Kept.{input_bits}
+use Rattle.opt_clean.specs.Kept.{input_bits, read_bits}
 use Rattle.opt_clean.specs.Linked.{cell_places}
 use Rattle.opt_clean.specs.Wires.{mark_count}
 
@@ -17,7 +23,7 @@ pub record Marking : Type 0 where
   pub marks : List Bool
   pub order : List ℕ
 
--- the same of what the code holds
+-- what the code holds of them
 abbrev pub marking_of : Marks → Marking
 marking_of m = record { marks = m.marks.items; order = m.order.items }
 
@@ -31,6 +37,18 @@ mark_place s place =
 abbrev pub mark_places : Marking → List ℕ → Marking
 mark_places s [] = s
 mark_places s (place ∷ places) = mark_places (mark_place s place) places
+
+-- the cells that drive these bits are marked, by the index of whatever module
+abbrev pub MarksDrivers : Index → Marks → Marks → List WireBit → Type 0
+MarksDrivers index old new bits =
+    (ports : Ports) (m : Module) → IsIndex index ports m →
+    marking_of new ≡ mark_places (marking_of old) (cell_places ports m bits)
+
+-- .. the bits that these pins of a cell of a type read
+abbrev pub MarksRead : CellType → Index → Marks → Marks → List Pin → Type 0
+MarksRead cell_type index old new pins =
+    (type : rtl.CellType) (ports : Ports) (m : Module) → IsType cell_type type → IsIndex index ports m →
+    marking_of new ≡ mark_places (marking_of old) (cell_places ports m (read_bits type pins))
 
 -- the bit is of a wire that the outside sees
 abbrev pub is_seen : List Bool → WireBit → Bool
@@ -53,7 +71,7 @@ abbrev pub after_cell : Ports → Module → Marking → Option Cell → Marking
 after_cell ports m s (Some c) = mark_places s (cell_places ports m (input_bits ports c))
 after_cell ports m s None = s
 
--- the same of the cell that was marked at a place of the order, where one was
+-- what the cell reads that was marked at a place of the order, where one was, is marked
 abbrev pub after_place : Ports → Module → List Cell → Marking → Option ℕ → Marking
 after_place ports m cells s (Some place) = after_cell ports m s (slice_get cells place)
 after_place ports m cells s None = s

@@ -4,7 +4,7 @@ use Rattle.rtl_sig.specs.declared.sig.WireBit.{WireBit}
 use Rattle.rtl_ir.specs.Ports.{is_port}
 use Rattle.rtl_ir.specs.declared.wire.Wire.{Wire}
 use Rattle.opt_clean.specs.declared.wires.Moves.{Moves}
-use Rattle.opt_clean.specs.Keep.{has_keep}
+use Rattle.rtl_ir.specs.Attributes.{is_kept}
 use Rattle.opt_clean.specs.Wires.{mark_count}
 
 -- the wires of these bits are noted
@@ -14,7 +14,7 @@ noted named (b ∷ bits) = noted (set named b.wire true) bits
 
 -- a wire stays that is named, is a port or has `\keep`
 abbrev pub stays_if : Bool → Wire → Bool
-stays_if named w = (named || is_port w.role) || has_keep w.attributes
+stays_if named w = (named || is_port w.role) || is_kept w.attributes
 
 -- which of the wires stay, of which these are named
 abbrev pub marks_by : List Bool → List Wire → List Bool

@@ -11,7 +11,7 @@ use Rattle.rtl_ir.specs.declared.cell.Pin.{Pin}
 use Rattle.rtl_ir.specs.declared.module.Link.{Link}
 use Rattle.rtl_ir.specs.declared.module.Module.{Module}
 use Rattle.rtl_ir.specs.declared.wire.Wire.{Wire}
-use Rattle.opt_clean.specs.Keep.{has_keep}
+use Rattle.rtl_ir.specs.Attributes.{is_kept}
 use Rattle.opt_clean.specs.Kept.{marked}
 
 -- the bits of the pins of a cell
@@ -32,7 +32,7 @@ names_wire bits wire = list_any (λ (b : WireBit). b.wire == wire) bits
 
 -- the wire at this place stays: it is a port, has `\keep`, or has one of the bits
 abbrev pub stays : List WireBit → ℕ → Wire → Bool
-stays bits wire w = is_port w.role || (has_keep w.attributes || names_wire bits wire)
+stays bits wire w = is_port w.role || (is_kept w.attributes || names_wire bits wire)
 
 -- which of the wires from a place on stay
 abbrev pub wire_marks : List WireBit → ℕ → List Wire → List Bool

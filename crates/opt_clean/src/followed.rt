@@ -21,7 +21,8 @@ pub(crate) fn followed_cells(
     types: &Types,
     index: &Index,
 ) -> Result<Vec<Cell>, Memory>
-    ensures value { IfOk result (λ found. (ports : rtl.Ports) (m : Module) → AreTypes types.now ports → IsIndex index.now ports m → found.items ≡ map (followed_cell ports m.links) cells.now) }
+    ensures value { IfOk result (λ found. (ports : rtl.Ports) (m : Module) → AreTypes types.now ports →
+        IsIndex index.now ports m → found.items ≡ map (followed_cell ports m.links) cells.now) }
 {
     let mut found = Vec::with_capacity(alloc, cells.len())?;
     for cell in cells {
@@ -32,7 +33,8 @@ pub(crate) fn followed_cells(
 
 /// The cell with its inputs followed.
 fn followed_cell(alloc: Global, cell: &Cell, types: &Types, index: &Index) -> Result<Cell, Memory>
-    ensures value { IfOk result (λ found. (ports : rtl.Ports) (m : Module) → AreTypes types.now ports → IsIndex index.now ports m → found ≡ followed_cell ports m.links cell.now) }
+    ensures value { IfOk result (λ found. (ports : rtl.Ports) (m : Module) → AreTypes types.now ports →
+        IsIndex index.now ports m → found ≡ followed_cell ports m.links cell.now) }
 {
     let cell_type = types.find(cell.kind_name.as_slice());
     Ok(Cell {
@@ -51,7 +53,8 @@ fn followed_pins(
     cell_type: &CellType,
     index: &Index,
 ) -> Result<Seq<Pin>, Memory>
-    ensures value { IfOk result (λ found. (type : rtl.CellType) (ports : rtl.Ports) (m : Module) → IsType cell_type.now type → IsIndex index.now ports m → found ≡ map (followed_pin type m.links) pins.now) }
+    ensures value { IfOk result (λ found. (type : rtl.CellType) (ports : rtl.Ports) (m : Module) →
+        IsType cell_type.now type → IsIndex index.now ports m → found ≡ map (followed_pin type m.links) pins.now) }
 {
     let mut found = Vec::with_capacity(alloc, pins.len())?;
     for pin in pins {
@@ -67,7 +70,8 @@ fn followed_pin(
     cell_type: &CellType,
     index: &Index,
 ) -> Result<Pin, Memory>
-    ensures value { IfOk result (λ found. (type : rtl.CellType) (ports : rtl.Ports) (m : Module) → IsType cell_type.now type → IsIndex index.now ports m → found ≡ followed_pin type m.links pin.now) }
+    ensures value { IfOk result (λ found. (type : rtl.CellType) (ports : rtl.Ports) (m : Module) →
+        IsType cell_type.now type → IsIndex index.now ports m → found ≡ followed_pin type m.links pin.now) }
 {
     let sig = if drives_pin(cell_type, pin.name.as_slice()) {
         pin.sig.copy()?
@@ -86,7 +90,8 @@ pub(crate) fn followed_signal(
     signal: &[SigBit],
     index: &Index,
 ) -> Result<SigSpec, Memory>
-    ensures value { IfOk result (λ found. (ports : rtl.Ports) (m : Module) → IsIndex index.now ports m → found ≡ map (follow m.links) signal.now) }
+    ensures value { IfOk result (λ found. (ports : rtl.Ports) (m : Module) → IsIndex index.now ports m →
+        found ≡ map (follow m.links) signal.now) }
 {
     let mut found = Vec::with_capacity(alloc, signal.len())?;
     for bit in signal {

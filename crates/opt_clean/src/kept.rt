@@ -1,6 +1,7 @@
 //! The cells that are kept.
 
-ghost use Rattle.std.specs.Prelude.{◌≡◌, ℕ, Bool, false, List, [], ◌∷◌, IfOk, OnOk, length, map, replicate, if◌then◌else◌};
+ghost use Rattle.std.specs.Prelude.{◌≡◌, ℕ, Bool, false, List, [], ◌∷◌, IfOk, OnOk, length, map, replicate};
+ghost use Rattle.std.specs.Prelude.{if◌then◌else◌};
 ghost use Rattle.std.specs.List.{list_any};
 ghost use Rattle.rtl_ir.specs.declared.module.Module.{Module};
 ghost use Rattle.rtl_ir.specs.declared.wire.Wire.{Wire};
@@ -11,15 +12,15 @@ ghost use Rattle.net_index.specs.Index.{IsIndex};
 ghost use Rattle.net_index.specs.Types.{AreTypes, IsType};
 ghost use Rattle.pass_laws.specs.Bits.{pin_bits};
 ghost use Rattle.opt_clean.specs.Keep.{is_root, is_shown, stays_by};
-ghost use Rattle.opt_clean.specs.Kept.{input_bits, kept_marks, read_bits, right_bits};
+ghost use Rattle.opt_clean.specs.Kept.{input_bits, kept_marks, right_bits};
 ghost use Rattle.opt_clean.specs.Linked.{Drives, cell_places};
-ghost use Rattle.opt_clean.specs.Marking.{IsMarking, KeepsReads, after_next, is_seen, mark_place, mark_places, marking_of, root_places};
+ghost use Rattle.opt_clean.specs.Marking.{IsMarking, KeepsReads, MarksDrivers, MarksRead, after_next, is_seen};
+ghost use Rattle.opt_clean.specs.Marking.{mark_place, mark_places, marking_of, root_places};
 
-use crate::keep::has_keep;
 use cell_types::{CellKind, kind_of};
 use net_index::{CellType, Driver, Index, Types, drives_pin};
 use rtl_bits::Memory;
-use rtl_ir::{Cell, Link, Pin};
+use rtl_ir::{Cell, Link, Pin, is_kept};
 use rtl_sig::{SigBit, WireBit};
 use std::alloc::Global;
 
@@ -55,7 +56,7 @@ impl Marks {
 
     /// Marks the cell that drives the bit, where one does.
     fn mark_driver(&mut self, bit: SigBit, index: &Index) -> Result<(), Memory>
-        ensures value { OnOk result ((ports : rtl.Ports) (m : Module) → IsIndex index.now ports m → marking_of self.new ≡ mark_places (marking_of self.old) (cell_places ports m (wire_bits (bit ∷ [])))) }
+        ensures value { OnOk result (MarksDrivers index.now self.old self.new (wire_bits (bit ∷ []))) }
     {
         if let SigBit::Wire(bit) = bit {
             if let Driver::Cell(place) = index.driver(bit) {
@@ -67,7 +68,7 @@ impl Marks {
 
     /// Marks the cells that drive bits of the signal.
     fn mark_signal(&mut self, signal: &[SigBit], index: &Index) -> Result<(), Memory>
-        ensures value { OnOk result ((ports : rtl.Ports) (m : Module) → IsIndex index.now ports m → marking_of self.new ≡ mark_places (marking_of self.old) (cell_places ports m (wire_bits signal.now))) }
+        ensures value { OnOk result (MarksDrivers index.now self.old self.new (wire_bits signal.now)) }
     {
         for bit in signal {
             self.mark_driver(*bit, index)?;
@@ -77,7 +78,7 @@ impl Marks {
 
     /// Marks the cells that drive what the connections read.
     fn mark_links(&mut self, links: &[Link], index: &Index) -> Result<(), Memory>
-        ensures value { OnOk result ((ports : rtl.Ports) (m : Module) → IsIndex index.now ports m → marking_of self.new ≡ mark_places (marking_of self.old) (cell_places ports m (right_bits links.now))) }
+        ensures value { OnOk result (MarksDrivers index.now self.old self.new (right_bits links.now)) }
     {
         for link in links {
             self.mark_signal(link.right.as_slice(), index)?;
@@ -87,7 +88,9 @@ impl Marks {
 
     /// Marks the cells that drive what the cell reads.
     fn mark_read(&mut self, cell: &Cell, types: &Types, index: &Index) -> Result<(), Memory>
-        ensures value { OnOk result ((ports : rtl.Ports) (m : Module) → AreTypes types.now ports → IsIndex index.now ports m → marking_of self.new ≡ mark_places (marking_of self.old) (cell_places ports m (input_bits ports cell.now))) }
+        ensures value { OnOk result ((ports : rtl.Ports) (m : Module) → AreTypes types.now ports →
+            IsIndex index.now ports m →
+            marking_of self.new ≡ mark_places (marking_of self.old) (cell_places ports m (input_bits ports cell.now))) }
     {
         let cell_type = types.find(cell.kind_name.as_slice());
         self.mark_pins(cell.pins.as_slice(), &cell_type, index)
@@ -95,7 +98,7 @@ impl Marks {
 
     /// Marks the cells that drive what the pins of a cell of this type read.
     fn mark_pins(&mut self, pins: &[Pin], cell_type: &CellType, index: &Index) -> Result<(), Memory>
-        ensures value { OnOk result ((type : rtl.CellType) (ports : rtl.Ports) (m : Module) → IsType cell_type.now type → IsIndex index.now ports m → marking_of self.new ≡ mark_places (marking_of self.old) (cell_places ports m (read_bits type pins.now))) }
+        ensures value { OnOk result (MarksRead cell_type.now index.now self.old self.new pins.now) }
     {
         for pin in pins {
             self.mark_pin(pin, cell_type, index)?;
@@ -111,7 +114,9 @@ impl Marks {
         cells: &[Cell],
         types: &Types,
     ) -> Result<(), Memory>
-        ensures value { OnOk result ((ports : rtl.Ports) (wires : List Wire) → AreTypes types.now ports → shown.now ≡ map is_shown wires → marking_of self.new ≡ mark_places (marking_of self.old) (root_places ports wires 0 cells.now)) }
+        ensures value { OnOk result ((ports : rtl.Ports) (wires : List Wire) → AreTypes types.now ports →
+            shown.now ≡ map is_shown wires →
+            marking_of self.new ≡ mark_places (marking_of self.old) (root_places ports wires 0 cells.now)) }
     {
         for (place, cell) in cells.iter().enumerate() {
             self.mark_if_root(alloc, place, shown, cell, types)?;
@@ -128,7 +133,10 @@ impl Marks {
         cell: &Cell,
         types: &Types,
     ) -> Result<(), Memory>
-        ensures value { OnOk result ((ports : rtl.Ports) (wires : List Wire) → AreTypes types.now ports → shown.now ≡ map is_shown wires → marking_of self.new ≡ mark_places (marking_of self.old) (if is_root ports wires cell.now then place ∷ [] else [])) }
+        ensures value { OnOk result ((ports : rtl.Ports) (wires : List Wire) → AreTypes types.now ports →
+            shown.now ≡ map is_shown wires →
+            marking_of self.new ≡ mark_places (marking_of self.old)
+            (if is_root ports wires cell.now then place ∷ [] else [])) }
     {
         if is_root(alloc, shown, cell, types)? {
             self.mark(place)?;
@@ -138,7 +146,10 @@ impl Marks {
 
     /// Marks what drives the bits that marked cells read, until nothing new is marked.
     fn mark_rest(&mut self, cells: &[Cell], types: &Types, index: &Index) -> Result<(), Memory>
-        ensures value { OnOk result ((ports : rtl.Ports) (m : Module) (kept : List Bool) (initial : List ℕ) → AreTypes types.now ports → IsIndex index.now ports m → KeepsReads ports m cells.now kept → IsMarking ports m cells.now kept initial (marking_of self.old) 0 → IsMarking ports m cells.now kept initial (marking_of self.new) (length cells.now)) }
+        ensures value { OnOk result ((ports : rtl.Ports) (m : Module) (kept : List Bool) (initial : List ℕ) →
+            AreTypes types.now ports → IsIndex index.now ports m → KeepsReads ports m cells.now kept →
+            IsMarking ports m cells.now kept initial (marking_of self.old) 0 →
+            IsMarking ports m cells.now kept initial (marking_of self.new) (length cells.now)) }
     {
         for next in 0..cells.len() {
             self.mark_next(next, cells, types, index)?;
@@ -154,7 +165,8 @@ impl Marks {
         types: &Types,
         index: &Index,
     ) -> Result<(), Memory>
-        ensures value { OnOk result ((ports : rtl.Ports) (m : Module) → AreTypes types.now ports → IsIndex index.now ports m → marking_of self.new ≡ after_next ports m cells.now (marking_of self.old) next) }
+        ensures value { OnOk result ((ports : rtl.Ports) (m : Module) → AreTypes types.now ports →
+            IsIndex index.now ports m → marking_of self.new ≡ after_next ports m cells.now (marking_of self.old) next) }
     {
         if next < self.order.len() {
             let place = self.order[next];
@@ -167,7 +179,7 @@ impl Marks {
 
     /// Marks the cells that drive what the pin of a cell of this type reads.
     fn mark_pin(&mut self, pin: &Pin, cell_type: &CellType, index: &Index) -> Result<(), Memory>
-        ensures value { OnOk result ((type : rtl.CellType) (ports : rtl.Ports) (m : Module) → IsType cell_type.now type → IsIndex index.now ports m → marking_of self.new ≡ mark_places (marking_of self.old) (cell_places ports m (read_bits type (pin.now ∷ [])))) }
+        ensures value { OnOk result (MarksRead cell_type.now index.now self.old self.new (pin.now ∷ [])) }
     {
         if !drives_pin(cell_type, pin.name.as_slice()) {
             self.mark_signal(pin.sig.as_slice(), index)?;
@@ -185,7 +197,9 @@ pub(crate) fn kept_marks(
     types: &Types,
     index: &Index,
 ) -> Result<Vec<bool>, Memory>
-    ensures value { IfOk result (λ marks. (ports : rtl.Ports) (m : Module) (wires : List Wire) → AreTypes types.now ports → IsIndex index.now ports m → shown.now ≡ map is_shown wires → Drives ports m cells.now → marks.items ≡ kept_marks ports wires links.now cells.now) }
+    ensures value { IfOk result (λ marks. (ports : rtl.Ports) (m : Module) (wires : List Wire) →
+        AreTypes types.now ports → IsIndex index.now ports m → shown.now ≡ map is_shown wires →
+        Drives ports m cells.now → marks.items ≡ kept_marks ports wires links.now cells.now) }
 {
     let mut marks = Marks::none(alloc, cells.len())?;
     marks.mark_roots(alloc, shown, cells, types)?;
@@ -197,12 +211,13 @@ pub(crate) fn kept_marks(
 
 /// Whether the cell is kept whatever reads it.
 fn is_root(alloc: Global, shown: &[bool], cell: &Cell, types: &Types) -> Result<bool, Memory>
-    ensures value { IfOk result (λ root. (ports : rtl.Ports) (wires : List Wire) → AreTypes types.now ports → shown.now ≡ map is_shown wires → root ≡ is_root ports wires cell.now) }
+    ensures value { IfOk result (λ root. (ports : rtl.Ports) (wires : List Wire) → AreTypes types.now ports →
+        shown.now ≡ map is_shown wires → root ≡ is_root ports wires cell.now) }
 {
     if stays(cell) {
         return Ok(true);
     }
-    if has_keep(alloc, cell.attributes.as_slice())? {
+    if is_kept(alloc, cell.attributes.as_slice())? {
         return Ok(true);
     }
     let cell_type = types.find(cell.kind_name.as_slice());
@@ -222,7 +237,8 @@ fn stays(cell: &Cell) -> bool
 
 /// Whether a cell of this type drives by its pins a bit that the outside sees.
 fn drives_shown(shown: &[bool], pins: &[Pin], cell_type: &CellType) -> bool
-    ensures value { (type : rtl.CellType) → IsType cell_type.now type → result ≡ list_any (is_seen shown.now) (pin_bits type pins.now) }
+    ensures value { (type : rtl.CellType) → IsType cell_type.now type →
+        result ≡ list_any (is_seen shown.now) (pin_bits type pins.now) }
 {
     for pin in pins {
         if drives_pin(cell_type, pin.name.as_slice()) && has_shown(shown, pin.sig.as_slice()) {

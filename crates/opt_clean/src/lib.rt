@@ -7,19 +7,15 @@ mod keep;
 mod kept;
 pub mod laws;
 mod links;
-mod values;
 mod wires;
 
 ghost use Rattle.std.specs.Prelude.{◌≡◌, [], ◌∷◌, ◌++◌, IfOk, OnOk, if◌then◌else◌};
-ghost use Rattle.rtl_ir.specs.Flat.Cell.{Ports, instances};
-ghost use Rattle.rtl_ir.specs.Flat.Tree as tree;
-ghost use Rattle.rtl_ir.specs.Ports.{ports_of};
 ghost use Rattle.rtl_ir.specs.Types as rtl;
 ghost use Rattle.rtl_ir.specs.Types.{table_ports};
 ghost use Rattle.net_index.specs.Index.{IsIndex};
 ghost use Rattle.net_index.specs.Types.{AreTypes};
-ghost use Rattle.net_model.specs.Refine.{AgreeOn, IsWellDriven, RefinesIn};
 ghost use Rattle.follow_laws.specs.Inputs.{followed};
+ghost use Rattle.pass_laws.specs.Pass.{IsPass};
 ghost use Rattle.pass_laws.specs.Ready.{IsReady};
 ghost use Rattle.opt_clean.specs.Clean.{clean_of, reduced};
 ghost use Rattle.opt_clean.specs.Kept.{marked};
@@ -37,18 +33,13 @@ use rtl_bits::{Copied, Memory, Seq};
 use rtl_ir::{Cell, Link, Module, PortTable};
 use std::alloc::Global;
 
-/// The module with what the outside needs: the cells that are kept, with followed inputs, one connection for each run of
-/// connected bits of an output port or a wire with `\keep`, and the wires that are left. Instances, memories and their cells
-/// are kept whatever reads them. In the Yosys manual, the command `opt_clean`.
+/// The module with what the outside needs: the cells that are kept, with followed inputs, one connection for each run
+/// of connected bits of an output port or a wire with `\keep`, and the wires that are left. Instances, memories and
+/// their cells are kept whatever reads them. In the Yosys manual, the command `opt_clean`.
 pub fn apply(alloc: Global, module: &Module, ports: &PortTable) -> Result<Module, Memory>
     requires ready { IsReady (table_ports ports.now.modules) «module».now }
     ensures exact { IfOk result (λ after. after ≡ clean_of (table_ports ports.now.modules) «module».now) }
-    ensures refines { IfOk result (λ after. RefinesIn «module».now after ports.now) }
-    ensures well_driven { IfOk result (λ after. (over : Ports) → AgreeOn (tree.table_ports ports.now) over (instances «module».now.cells) → IsWellDriven over «module».now → IsWellDriven over after) }
-    ensures well_formed { IfOk result (λ after. IsReady (table_ports ports.now.modules) after) }
-    ensures same_id { IfOk result (λ after. after.id ≡ «module».now.id) }
-    ensures same_ports { IfOk result (λ after. ports_of after.wires ≡ ports_of «module».now.wires) }
-    ensures same_instances { IfOk result (λ after. instances after.cells ≡ instances «module».now.cells) }
+    ensures pass { IfOk result (IsPass ports.now «module».now) }
 {
     cleaned(alloc, module, ports)
 }
@@ -69,7 +60,9 @@ fn cleaned(alloc: Global, module: &Module, ports: &PortTable) -> Result<Module, 
 
 /// The module with what the outside needs, by the types of its cells and its index.
 fn with_kept(alloc: Global, module: &Module, types: &Types, index: &Index) -> Result<Module, Memory>
-    ensures exact { IfOk result (λ after. (ports : rtl.Ports) → AreTypes types.now ports → IsIndex index.now ports «module».now → IsOnce ports «module».now → after ≡ trimmed (reduced ports (followed ports «module».now))) }
+    ensures exact { IfOk result (λ after. (ports : rtl.Ports) → AreTypes types.now ports →
+        IsIndex index.now ports «module».now → IsOnce ports «module».now →
+        after ≡ trimmed (reduced ports (followed ports «module».now))) }
 {
     let wires = module.wires.as_slice();
     let shown = shown_wires(alloc, wires)?;
@@ -120,7 +113,8 @@ fn with_wires_left(
     cells: Vec<Cell>,
     links: &[Link],
 ) -> Result<Module, Memory>
-    ensures exact { IfOk result (λ after. after ≡ trimmed (record «module».now { cells = cells.items; links = links.now })) }
+    ensures exact { IfOk result (λ after.
+        after ≡ trimmed (record «module».now { cells = cells.items; links = links.now })) }
 {
     let wires = module.wires.as_slice();
     let marks = wire_marks(alloc, wires, cells.as_slice(), links)?;

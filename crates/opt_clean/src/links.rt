@@ -25,7 +25,8 @@ pub(crate) fn links_of(
     index: &Index,
 ) -> Result<Vec<Link>, Memory>
     requires shown { shown.now ≡ map is_shown wires.now }
-    ensures value { IfOk result (λ links. (ports : rtl.Ports) (m : Module) → IsIndex index.now ports m → links.items ≡ shown_links (is_linked ports m) (source_of m.links) 0 wires.now) }
+    ensures value { IfOk result (λ links. (ports : rtl.Ports) (m : Module) → IsIndex index.now ports m →
+        links.items ≡ shown_links (is_linked ports m) (source_of m.links) 0 wires.now) }
 {
     let mut links = Vec::new(alloc);
     for (place, wire) in wires.iter().enumerate() {
@@ -57,7 +58,9 @@ fn add_if_shown(
     shown: bool,
     index: &Index,
 ) -> Result<(), Memory>
-    ensures value { OnOk result ((ports : rtl.Ports) (m : Module) → IsIndex index.now ports m → links.new.items ≡ links.old.items ++ (if shown then wire_links (is_linked ports m) (source_of m.links) wire width else [])) }
+    ensures value { OnOk result ((ports : rtl.Ports) (m : Module) → IsIndex index.now ports m →
+        links.new.items ≡ links.old.items ++
+        (if shown then wire_links (is_linked ports m) (source_of m.links) wire width else [])) }
 {
     if shown {
         add_links(alloc, links, wire, width, index)?;
@@ -73,7 +76,8 @@ fn add_links(
     width: u32,
     index: &Index,
 ) -> Result<(), Memory>
-    ensures value { OnOk result ((ports : rtl.Ports) (m : Module) → IsIndex index.now ports m → links.new.items ≡ links.old.items ++ wire_links (is_linked ports m) (source_of m.links) wire width) }
+    ensures value { OnOk result ((ports : rtl.Ports) (m : Module) → IsIndex index.now ports m →
+        links.new.items ≡ links.old.items ++ wire_links (is_linked ports m) (source_of m.links) wire width) }
 {
     let mut run = Vec::new(alloc);
     for at in 0..width {
@@ -91,8 +95,11 @@ fn add_bit(
     bit: WireBit,
     index: &Index,
 ) -> Result<(), Memory>
-    ensures links { OnOk result ((ports : rtl.Ports) (m : Module) → IsIndex index.now ports m → links.new.items ≡ links.old.items ++ (if is_linked ports m bit then [] else map (run_link (source_of m.links)) (ended run.old.items))) }
-    ensures run { OnOk result ((ports : rtl.Ports) (m : Module) → IsIndex index.now ports m → run.new.items ≡ (if is_linked ports m bit then run.old.items ++ bit ∷ [] else [])) }
+    ensures links { OnOk result ((ports : rtl.Ports) (m : Module) → IsIndex index.now ports m →
+        links.new.items ≡ links.old.items ++
+        (if is_linked ports m bit then [] else map (run_link (source_of m.links)) (ended run.old.items))) }
+    ensures run { OnOk result ((ports : rtl.Ports) (m : Module) → IsIndex index.now ports m →
+        run.new.items ≡ (if is_linked ports m bit then run.old.items ++ bit ∷ [] else [])) }
 {
     if is_linked(index, bit) {
         run.push(bit)?;
@@ -116,7 +123,8 @@ fn end_run(
     run: &mut Vec<WireBit>,
     index: &Index,
 ) -> Result<(), Memory>
-    ensures links { OnOk result ((ports : rtl.Ports) (m : Module) → IsIndex index.now ports m → links.new.items ≡ links.old.items ++ map (run_link (source_of m.links)) (ended run.old.items)) }
+    ensures links { OnOk result ((ports : rtl.Ports) (m : Module) → IsIndex index.now ports m →
+        links.new.items ≡ links.old.items ++ map (run_link (source_of m.links)) (ended run.old.items)) }
     ensures run { OnOk result (run.new.items ≡ []) }
 {
     if !run.is_empty() {
@@ -128,7 +136,8 @@ fn end_run(
 
 /// The connection of what the bits are followed to, to the bits.
 fn run_link(alloc: Global, run: &[WireBit], index: &Index) -> Result<Link, Memory>
-    ensures value { IfOk result (λ link. (ports : rtl.Ports) (m : Module) → IsIndex index.now ports m → link ≡ run_link (source_of m.links) run.now) }
+    ensures value { IfOk result (λ link. (ports : rtl.Ports) (m : Module) → IsIndex index.now ports m →
+        link ≡ run_link (source_of m.links) run.now) }
 {
     let left = signal_of(alloc, run)?;
     let right = followed_signal(alloc, left.as_slice(), index)?;

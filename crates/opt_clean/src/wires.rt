@@ -5,24 +5,24 @@ ghost use Rattle.rtl_ir.specs.Signals.{wire_bits};
 ghost use Rattle.rtl_ir.specs.declared.cell.Pin.{Pin};
 ghost use Rattle.opt_clean.specs.Kept.{marked};
 ghost use Rattle.opt_clean.specs.Moving.{AreMoves, marks_by, noted, stays_if};
-ghost use Rattle.opt_clean.specs.Wires.{cell_bits, link_bits, moved_bit, moved_cell, moved_link, moved_pin, new_place, wire_marks};
+ghost use Rattle.opt_clean.specs.Wires.{cell_bits, link_bits, moved_bit, moved_cell, moved_link, moved_pin};
+ghost use Rattle.opt_clean.specs.Wires.{new_place, wire_marks};
 
-use crate::keep::has_keep;
-use net_index::is_port;
 use rtl_bits::{Copied, Memory, Seq};
-use rtl_ir::{Cell, Link, Pin, Wire};
+use rtl_ir::{Cell, Link, Pin, Wire, is_kept, is_port};
 use rtl_sig::{SigBit, SigSpec, WireBit};
 use std::alloc::Global;
 
 /// Which of the wires stay: ports, wires with `\keep`, and those of which a cell or a connection names a bit.
-#[tactic(auto, using(crate::proofs::Tables::noted_more, crate::proofs::Tables::noted_length, crate::proofs::Tables::noted_marks))]
+#[tactic(auto, using(crate::proofs::Tables::notes))]
 pub(crate) fn wire_marks(
     alloc: Global,
     wires: &[Wire],
     cells: &[Cell],
     links: &[Link],
 ) -> Result<Vec<bool>, Memory>
-    ensures value { IfOk result (λ marks. marks.items ≡ wire_marks (flat_map cell_bits cells.now ++ flat_map link_bits links.now) 0 wires.now) }
+    ensures value { IfOk result (λ marks.
+        marks.items ≡ wire_marks (flat_map cell_bits cells.now ++ flat_map link_bits links.now) 0 wires.now) }
 {
     let mut named = vec![in alloc; false; wires.len()]?;
     note_cells(&mut named, cells);
@@ -99,7 +99,7 @@ fn stays(alloc: Global, wire: &Wire, named: bool) -> Result<bool, Memory>
     if named || is_port(wire.role) {
         return Ok(true);
     }
-    has_keep(alloc, wire.attributes.as_slice())
+    is_kept(alloc, wire.attributes.as_slice())
 }
 
 /// The marked wires.
@@ -170,7 +170,8 @@ impl Moves {
 
     /// The signal with such bits.
     fn signal(&self, alloc: Global, signal: &[SigBit]) -> Result<SigSpec, Memory>
-        ensures value { IfOk result (λ moved. (marks : List Bool) → AreMoves self.now marks → moved ≡ map (moved_bit marks) signal.now) }
+        ensures value { IfOk result (λ moved. (marks : List Bool) → AreMoves self.now marks →
+            moved ≡ map (moved_bit marks) signal.now) }
     {
         let mut moved = Vec::with_capacity(alloc, signal.len())?;
         for bit in signal {
@@ -181,7 +182,8 @@ impl Moves {
 
     /// The pins with such bits.
     fn pins(&self, alloc: Global, pins: Vec<Pin>) -> Result<Seq<Pin>, Memory>
-        ensures value { IfOk result (λ moved. (marks : List Bool) → AreMoves self.now marks → moved ≡ map (moved_pin marks) pins.items) }
+        ensures value { IfOk result (λ moved. (marks : List Bool) → AreMoves self.now marks →
+            moved ≡ map (moved_pin marks) pins.items) }
     {
         let mut moved = Vec::with_capacity(alloc, pins.len())?;
         for pin in pins {
@@ -196,7 +198,8 @@ impl Moves {
 
     /// The cells with such bits.
     pub(crate) fn cells(&self, alloc: Global, cells: Vec<Cell>) -> Result<Vec<Cell>, Memory>
-        ensures value { IfOk result (λ moved. (marks : List Bool) → AreMoves self.now marks → moved.items ≡ map (moved_cell marks) cells.items) }
+        ensures value { IfOk result (λ moved. (marks : List Bool) → AreMoves self.now marks →
+            moved.items ≡ map (moved_cell marks) cells.items) }
     {
         let mut moved = Vec::with_capacity(alloc, cells.len())?;
         for cell in cells {
@@ -207,7 +210,8 @@ impl Moves {
 
     /// The cell with such bits.
     fn cell(&self, alloc: Global, cell: Cell) -> Result<Cell, Memory>
-        ensures value { IfOk result (λ moved. (marks : List Bool) → AreMoves self.now marks → moved ≡ moved_cell marks cell) }
+        ensures value { IfOk result (λ moved. (marks : List Bool) → AreMoves self.now marks →
+            moved ≡ moved_cell marks cell) }
     {
         let Cell {
             kind_name,
@@ -227,7 +231,8 @@ impl Moves {
 
     /// The connections with such bits.
     pub(crate) fn links(&self, alloc: Global, links: &[Link]) -> Result<Vec<Link>, Memory>
-        ensures value { IfOk result (λ moved. (marks : List Bool) → AreMoves self.now marks → moved.items ≡ map (moved_link marks) links.now) }
+        ensures value { IfOk result (λ moved. (marks : List Bool) → AreMoves self.now marks →
+            moved.items ≡ map (moved_link marks) links.now) }
     {
         let mut moved = Vec::with_capacity(alloc, links.len())?;
         for link in links {

@@ -22,7 +22,7 @@ use Rattle.cell_types.specs.Bounds.{AreWordWidths}
 use Rattle.cell_types.specs.declared.shape.Widths.{Widths}
 use Rattle.cell_types.specs.Fault.{is_wide_pin, limit_of}
 use Rattle.cell_types.specs.PinName.{pin_text}
-use Rattle.cell_types.specs.Pins.{gate_pins, word_pins}
+use Rattle.cell_types.specs.Pins.{word_pins}
 use Rattle.cell_types.specs.Shape.{small}
 use Rattle.cell_types.specs.Widths.{pin_width}
 use Rattle.rtl_sig.specs.Signal.{extended, fill_of}
@@ -43,22 +43,7 @@ use Rattle.opt_expr.proofs.Forming.{IsFormed, gate_chooser, gate_inverter, word_
 use Rattle.opt_expr.proofs.Known.{shape_kind}
 use Rattle.opt_expr.proofs.Making.{AreWide, AreWideAs, Chooser, Inverter, IsShaped}
 use Rattle.opt_expr.proofs.Widths.{computed, not_wide, pin_fits}
-
-word_output : (kind : WordKind) → In Y (word_pins kind)
-word_output (Words.Unary _) = inr (inl refl)
-word_output (Words.Fold _) = inr (inl refl)
-word_output Words.Mux = inr (inr (inr (inl refl)))
-word_output Words.Pmux = inr (inr (inr (inl refl)))
-word_output Words.Slice = inr (inl refl)
-word_output Words.Concat = inr (inr (inl refl))
-word_output _ = inr (inr (inl refl))
-
-gate_output : (kind : GateKind) → In Y (gate_pins kind)
-gate_output Gates.Buf = inr (inl refl)
-gate_output Gates.Not = inr (inl refl)
-gate_output Gates.Mux = inr (inr (inr (inl refl)))
-gate_output Gates.Nmux = inr (inr (inr (inl refl)))
-gate_output _ = inr (inr (inl refl))
+use Rattle.pass_laws.proofs.Outputs.{gate_output, word_output}
 
 any_in : {T : Type 0} (test : T → Bool) (x : T) (xs : List T) → In x xs → list_any test xs ≡ false → test x ≡ false
 any_in test x [] i e = absurd i

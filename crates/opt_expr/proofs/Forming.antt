@@ -1,5 +1,5 @@
 -- The cells that rules form fit their kinds.
-use Rattle.std.proofs.Common.{◌≡◌, ℕ, ◌%◌, ◌^◌, ◌<◌, ◌≤◌, Bool, true, false, List, [], ◌∷◌, length, Some, None, ◌⊎◌, inl, inr, refl, sym, ◌∙◌, ap, subst, arith}
+use Rattle.std.proofs.Common.{◌≡◌, ℕ, ◌<◌, ◌≤◌, Bool, true, false, List, [], ◌∷◌, length, Some, None, ◌⊎◌, inl, inr, refl, sym, ◌∙◌, ap, subst, arith}
 use Rattle.std.specs.Prelude.{◌==◌, ◌||◌, nat_lt}
 use Rattle.std.proofs.lemmas.Bool.{eq-eqb, lt-ltb}
 use Rattle.cell_types.specs.declared.gate.GateKind.TheVariants as gate
@@ -12,11 +12,9 @@ use Rattle.cell_types.specs.Fault.{fault_of}
 use Rattle.cell_types.specs.ParamName.{param_text}
 use Rattle.cell_types.specs.PinName.{pin_text}
 use Rattle.cell_types.specs.Shape.{small}
-use Rattle.rtl_bits.proofs.Numbers.{bits_of_known, number_of_bits_of}
-use Rattle.rtl_bits.specs.Knowledge.{AreKnown, all_known}
-use Rattle.rtl_bits.specs.Numbers.{bits_of, number_of}
+use Rattle.rtl_bits.specs.Knowledge.{all_known}
+use Rattle.rtl_bits.specs.Numbers.{number_of}
 use Rattle.rtl_bits.specs.declared.bit.Bit.{Bit}
-use Rattle.rtl_bits.specs.declared.bit.Bit.TheVariants.{S0, S1, X, Z, M, Dash}
 use Rattle.rtl_ir.specs.Constants.{low_bits}
 use Rattle.rtl_ir.specs.Faults.Cells.{has_constant_output, misfit}
 use Rattle.rtl_ir.specs.Flat.Cell.{cell_kind, cell_shape}
@@ -30,6 +28,7 @@ use Rattle.net_model.specs.Within.{CellIn, SigIn}
 use Rattle.expr_rules.specs.declared.change.NewCell.{NewCell}
 use Rattle.opt_expr.specs.Formed.{formed}
 use Rattle.opt_expr.specs.Places.{combinational}
+use Rattle.pass_laws.proofs.CellNumbers.{number_known, number_is}
 
 -- a new cell in the place of another is one of its kind, has its signals, and the other's output
 pub record IsFormed (c : Cell) (new : NewCell) : Type 0 where
@@ -43,24 +42,6 @@ pub record IsFormed (c : Cell) (new : NewCell) : Type 0 where
   pub at_s : signal_at (formed new c).pins (pin_text S) ≡ new.s
   pub width : (cell_shape new.kind (formed new c).params).widths.y ≡ length (signal_at c.pins (pin_text Y))
   pub within : (n : ℕ) → SigIn n new.a → SigIn n new.b → SigIn n new.s → SigIn n (signal_at c.pins (pin_text Y)) → CellIn n (formed new c)
-
--- known bits pass the test of that
-known_test : (bits : List Bit) → AreKnown bits → all_known bits ≡ true
-known_test [] k = refl
-known_test (S0 ∷ bits) k = known_test bits k.1
-known_test (S1 ∷ bits) k = known_test bits k.1
-known_test (X ∷ bits) k = absurd k.0
-known_test (Z ∷ bits) k = absurd k.0
-known_test (M ∷ bits) k = absurd k.0
-known_test (Dash ∷ bits) k = absurd k.0
-
-number_known : (n : ℕ) → all_known (low_bits n 32) ≡ true
-unfolding low_bits
-number_known n = known_test (bits_of n 32) (bits_of_known n 32)
-
-number_is : (n : ℕ) → n ≤ 4096 → number_of (low_bits n 32) ≡ n
-unfolding low_bits
-number_is n few = let low : n % 2 ^ 32 ≡ n = omega arith in number_of_bits_of n 32 ∙ low
 
 -- an inverter of words, with its three parameters
 not_fits : (z va vy : List Bit) (la ly n : ℕ) → all_known z ≡ true → all_known va ≡ true → all_known vy ≡ true → number_of va ≡ n → number_of vy ≡ n → la ≡ n → ly ≡ n → 0 < n → n ≤ 4096

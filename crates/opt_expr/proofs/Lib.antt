@@ -1,4 +1,3 @@
-pub mod Chars
 pub mod Widths
 pub mod Rows
 pub mod Inverting

@@ -19,7 +19,7 @@ use Rattle.rtl_ir.specs.Types as types
 use Rattle.rtl_ir.specs.declared.cell.Cell.{Cell}
 use Rattle.rtl_ir.specs.declared.module.Module.{Module}
 use Rattle.rtl_ir.specs.declared.ports.PortTable.{PortTable}
-use Rattle.net_model.specs.Fsm.Find.{is_kept}
+use Rattle.rtl_ir.specs.Attributes.{is_kept}
 use Rattle.net_model.specs.Lists.{In}
 use Rattle.net_model.specs.Within.{BitIn, SigIn}
 use Rattle.pass_laws.proofs.Giving.{signal_in}

@@ -1,7 +1,7 @@
 -- The widths of the pins of a cell that fits its kind.
-use Rattle.std.proofs.Common.{◌≡◌, ℕ, ◌≤◌, Bool, true, false, not, ◌||◌, List, [], ◌∷◌, length, Some, None, inl, inr, refl, sym, ◌∙◌, ap, subst, arith}
-use Rattle.std.specs.Prelude.{if◌then◌else◌, ◌==◌, ◌&&◌, ◌+◌, cond, find}
-use Rattle.std.specs.List.{count_by, fold, list_all, list_any}
+use Rattle.std.proofs.Common.{◌≡◌, ℕ, ◌≤◌, Bool, true, false, not, ◌||◌, List, [], ◌∷◌, length, Some, None, refl, sym, subst, arith}
+use Rattle.std.specs.Prelude.{if◌then◌else◌, ◌==◌, find}
+use Rattle.std.specs.List.{list_all, list_any}
 use Rattle.std.specs.Option.{option_map_or}
 use Rattle.std.specs.Str.{bytes_eq}
 use Rattle.std.proofs.lemmas.Bool.{true≢false, and_parts, eqb-true, ltb-false}
@@ -14,8 +14,7 @@ use Rattle.cell_types.specs.declared.pin_name.PinName.TheVariants.{A, B, S, Y}
 use Rattle.cell_types.specs.declared.word.UnaryKind.TheVariants.{Not, Pos, Neg}
 use Rattle.cell_types.specs.declared.word.WordKind.{WordKind}
 use Rattle.cell_types.specs.declared.word.WordKind.TheVariants.{Unary, Fold, Bitwise, Logic, Equal, Order, Arith, Division, Shift, Mux, Pmux, Slice, Concat}
-use Rattle.cell_types.specs.declared.fault.CellFault.TheVariants.{Bad, Wide, Width}
-use Rattle.cell_types.specs.Fault.{are_params_good, are_pins_good, fault_of, fits, has_no_meaning, has_other_width, has_pin, has_width, is_bad, is_joined, is_wide, is_wide_pin, limit_of, may_lack}
+use Rattle.cell_types.specs.Fault.{fault_of, fits, has_other_width, has_width, is_bad, is_wide, is_wide_pin, limit_of, may_lack}
 use Rattle.cell_types.specs.Shape.{small}
 use Rattle.cell_word.specs.Values.{IsWithin}
 use Rattle.rtl_bits.specs.declared.bit.Bit.{Bit}
@@ -29,6 +28,7 @@ use Rattle.rtl_ir.specs.Flat.Cell.{cell_shape}
 use Rattle.rtl_ir.specs.Parameters.{given_params, signal_at}
 use Rattle.net_model.specs.Lists.{In}
 use Rattle.opt_expr.specs.Places.{combinational}
+use Rattle.pass_laws.proofs.PinWidths as widths
 
 not_false : (a : Bool) → not a ≡ false → a ≡ true
 not_false true e = refl
@@ -69,32 +69,6 @@ widths_fit kind c e = (faultless kind (given_params c.params) (pin_widths c.pins
 pub not_wide : (kind : CellKind) (c : Cell) → misfit kind c ≡ None → is_wide kind (given_params c.params) ≡ false
 unfolding misfit
 not_wide kind c e = (faultless kind (given_params c.params) (pin_widths c.pins) e).0
-
--- how many pins have this name
-abbrev named_so : List ℕ → List Pin → ℕ
-named_so name [] = 0
-named_so name (p ∷ ps) = cond (bytes_eq p.name name) 1 0 + named_so name ps
-
-counted : (name : List ℕ) (n : ℕ) (ps : List Pin) → fold (λ k (p : PinWidth). k + cond (bytes_eq p.name name) 1 0) n (pin_widths ps) ≡ n + named_so name ps
-counted name n [] = omega arith
-counted name n (p ∷ ps) = omega (arith, counted name (n + cond (bytes_eq p.name name) 1 0) ps)
-
--- the signal at a pin that is there has its width
-pub signal_fits : (kind : CellKind) (params : List Param) (pins : List Pin) (name : PinName) → has_width kind params (pin_widths pins) name ≡ true → named_so (pin_text name) pins ≡ 1 → length (signal_at pins (pin_text name)) ≡ pin_width kind params name
-signal_fits kind params [] name e one = absurd (omega arith)
-signal_fits kind params (p ∷ pins) name e one =
-    let both = and_parts (fits kind params name (record { name = p.name; width = length p.sig })) (has_width kind params (pin_widths pins) name) e in
-    by (signal_fits kind params pins name both.1) both.0 one (bytes_eq p.name (pin_text name)) refl
-  where
-    by : (named_so (pin_text name) pins ≡ 1 → length (signal_at pins (pin_text name)) ≡ pin_width kind params name) → fits kind params name (record { name = p.name; width = length p.sig }) ≡ true → named_so (pin_text name) (p ∷ pins) ≡ 1 → (t : Bool) → bytes_eq p.name (pin_text name) ≡ t → length (signal_at (p ∷ pins) (pin_text name)) ≡ pin_width kind params name
-    by rest h once true f =
-        let here : (length p.sig == pin_width kind params name) ≡ true = subst (λ z. (not z || (length p.sig == pin_width kind params name)) ≡ true) f h in
-        let same : length p.sig ≡ pin_width kind params name = eqb-true (length p.sig) (pin_width kind params name) here in
-        subst (λ z. length (option_map_or (λ (q : Pin). q.sig) (if z then Some p else find (λ (q : Pin). bytes_eq q.name (pin_text name)) pins) []) ≡ pin_width kind params name) (sym f) same
-    by rest h once false f =
-        let later : cond false 1 0 + named_so (pin_text name) pins ≡ 1 = subst (λ z. cond z 1 0 + named_so (pin_text name) pins ≡ 1) f once in
-        let there : named_so (pin_text name) pins ≡ 1 = omega (arith, later) in
-        subst (λ z. length (option_map_or (λ (q : Pin). q.sig) (if z then Some p else find (λ (q : Pin). bytes_eq q.name (pin_text name)) pins) []) ≡ pin_width kind params name) (sym f) (rest there)
 
 -- a width within a limit is not cut off
 pub not_cut : (n : ℕ) → n ≤ 4096 → small n ≡ n
@@ -168,34 +142,6 @@ module _ (c : Cell) (a b s : List Bit) (wide : length a ≡ length (signal_at c.
   computed Slice fit = tt
   computed Concat fit = tt
 
--- each pin of a combinational cell that fits its kind stands there once
-pins_good : (kind : CellKind) (c : Cell) → misfit kind c ≡ None → are_pins_good kind (pin_widths c.pins) ≡ true
-unfolding misfit
-pins_good kind c e =
-    by (are_params_good kind (given_params c.params)) (are_pins_good kind (pin_widths c.pins)) (has_no_meaning kind (given_params c.params)) (is_wide kind (given_params c.params)) (has_other_width kind (given_params c.params) (pin_widths c.pins)) e
-  where
-    by : (a b d f g : Bool) → (if ((not a || not b) || d) then Some Bad else if f then Some Wide else if g then Some Width else None) ≡ None → b ≡ true
-    by a true d f g h = refl
-    by true false d f g h = absurd (cc)
-    by false false d f g h = absurd (cc)
-
-joined_in : (kind : CellKind) (pins : List PinWidth) (name : PinName) (names : List PinName) → In name names → list_all (is_joined kind pins) names ≡ true → is_joined kind pins name ≡ true
-joined_in kind pins name [] i e = absurd i
-joined_in kind pins name (n ∷ ns) (inl here) e =
-    ap (is_joined kind pins) here ∙ (and_parts (is_joined kind pins n) (list_all (is_joined kind pins) ns) e).0
-joined_in kind pins name (n ∷ ns) (inr i) e =
-    joined_in kind pins name ns i (and_parts (is_joined kind pins n) (list_all (is_joined kind pins) ns) e).1
-
-joined_once : (t u : Bool) → (t || (u && false)) ≡ true → t ≡ true
-joined_once true u e = refl
-joined_once false true e = absurd (cc)
-joined_once false false e = absurd (cc)
-
-all_in : {A : Type 0} (test : A → Bool) (x : A) (xs : List A) → In x xs → list_all test xs ≡ true → test x ≡ true
-all_in test x [] i e = absurd i
-all_in test x (y ∷ ys) (inl here) e = ap test here ∙ (and_parts (test y) (list_all test ys) e).0
-all_in test x (y ∷ ys) (inr i) e = all_in test x ys i (and_parts (test y) (list_all test ys) e).1
-
 lacks_none : (kind : CellKind) → combinational (Some kind) ≡ Some kind → (name : PinName) → may_lack kind name ≡ false
 lacks_none (Cells.Word kind) word name = refl
 lacks_none (Cells.Gate kind) word name = refl
@@ -205,11 +151,4 @@ lacks_none (Cells.Memory kind) word name = absurd (cc)
 
 -- and has its width
 pub pin_fits : (kind : CellKind) (c : Cell) (name : PinName) → combinational (Some kind) ≡ Some kind → misfit kind c ≡ None → In name (pins_of kind) → length (signal_at c.pins (pin_text name)) ≡ pin_width kind (given_params c.params) name
-pin_fits kind c name word fit i =
-    let pins : List PinWidth = pin_widths c.pins in
-    let number : ℕ = count_by (λ (pin : PinWidth). bytes_eq pin.name (pin_text name)) pins in
-    let good : list_all (is_joined kind pins) (pins_of kind) ≡ true = (and_parts (list_all (is_joined kind pins) (pins_of kind)) (list_all (has_pin kind) pins) (pins_good kind c fit)).0 in
-    let joined : ((number == 1) || ((number == 0) && may_lack kind name)) ≡ true = joined_in kind pins name (pins_of kind) i good in
-    let once : number ≡ 1 = eqb-true number 1 (joined_once (number == 1) (number == 0) (ap (λ t. (number == 1) || ((number == 0) && t)) (sym (lacks_none kind word name)) ∙ joined)) in
-    let one : named_so (pin_text name) c.pins ≡ 1 = omega (arith, once, counted (pin_text name) 0 c.pins) in
-    signal_fits kind (given_params c.params) c.pins name (all_in (has_width kind (given_params c.params) (pin_widths c.pins)) name (pins_of kind) i (widths_fit kind c fit)) one
+pin_fits kind c name word fit i = widths.pin_fits kind c name fit (lacks_none kind word name) i

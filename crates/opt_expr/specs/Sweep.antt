@@ -11,7 +11,7 @@ use Rattle.rtl_ir.specs.declared.module.Module.{Module}
 use Rattle.rtl_ir.specs.Flat.Cell.{cell_kind, cell_shape, listed}
 use Rattle.rtl_ir.specs.Parameters.{signal_at}
 use Rattle.rtl_ir.specs.Types.{Ports}
-use Rattle.net_model.specs.Fsm.Find.{is_kept}
+use Rattle.rtl_ir.specs.Attributes.{is_kept}
 use Rattle.follow_laws.specs.Inputs.{followed_cell}
 use Rattle.expr_rules.specs.declared.change.Change.{Change}
 use Rattle.expr_rules.specs.declared.change.Change.TheVariants.{Gives, Becomes}

@@ -4,11 +4,10 @@ ghost use Rattle.std.specs.Prelude.{◌≡◌, ◌<◌, ◌^◌, [], IfOk};
 ghost use Rattle.net_index.specs.BuilderNames.{name_of};
 ghost use Rattle.opt_expr.specs.Formed.{formed, number, params_for, pin, pins_for};
 
-use crate::places::signal_at;
 use cell_types::{CellKind, GateKind, ParamName, PinName, WordKind};
 use expr_rules::NewCell;
 use rtl_bits::{Memory, Seq, Text};
-use rtl_ir::{Cell, CellParam, Pin, Value};
+use rtl_ir::{Cell, CellParam, Pin, Value, signal_at};
 use rtl_sig::{SigBit, SigSpec};
 use std::alloc::Global;
 

@@ -12,8 +12,7 @@ ghost use Rattle.follow_laws.specs.Inputs.{followed_at, followed_cell, followed_
 use net_alias::Aliases;
 use net_index::{CellType, Types, drives_pin};
 use rtl_bits::{Copied, Memory, Seq};
-use rtl_ir::{Cell, Pin};
-use rtl_same::Same;
+use rtl_ir::{Cell, Pin, Same};
 use rtl_sig::{SigBit, SigSpec};
 use std::alloc::Global;
 
@@ -31,7 +30,8 @@ pub(crate) fn followed_cell(
     aliases: &mut Aliases,
     cell: Cell,
 ) -> Result<Followed, Memory>
-    ensures value { IfOk result (λ after. (ports : rtl.Ports) (links : List Link) → AreTypes types.now ports → IsAliases aliases.old links → after.cell ≡ followed_cell ports links cell) }
+    ensures value { IfOk result (λ after. (ports : rtl.Ports) (links : List Link) → AreTypes types.now ports →
+        IsAliases aliases.old links → after.cell ≡ followed_cell ports links cell) }
     ensures same { IfOk result (λ after. after.is_same ≡ true → after.cell ≡ cell) }
     ensures keeps { (links : List Link) → IsAliases aliases.old links → IsAliases aliases.new links }
 {
@@ -51,7 +51,8 @@ fn followed_pins(
     aliases: &mut Aliases,
     pins: &[Pin],
 ) -> Result<Seq<Pin>, Memory>
-    ensures value { IfOk result (λ after. (type : rtl.CellType) (links : List Link) → IsType cell_type.now type → IsAliases aliases.old links → after ≡ map (followed_pin type links) pins.now) }
+    ensures value { IfOk result (λ after. (type : rtl.CellType) (links : List Link) → IsType cell_type.now type →
+        IsAliases aliases.old links → after ≡ map (followed_pin type links) pins.now) }
     ensures keeps { (links : List Link) → IsAliases aliases.old links → IsAliases aliases.new links }
 {
     let mut after = Vec::with_capacity(alloc, pins.len())?;
@@ -67,7 +68,8 @@ fn followed_pin(
     aliases: &mut Aliases,
     pin: &Pin,
 ) -> Result<Pin, Memory>
-    ensures value { IfOk result (λ after. (type : rtl.CellType) (links : List Link) → IsType cell_type.now type → IsAliases aliases.old links → after ≡ followed_pin type links pin.now) }
+    ensures value { IfOk result (λ after. (type : rtl.CellType) (links : List Link) → IsType cell_type.now type →
+        IsAliases aliases.old links → after ≡ followed_pin type links pin.now) }
     ensures keeps { (links : List Link) → IsAliases aliases.old links → IsAliases aliases.new links }
 {
     let name = pin.name.as_slice();
@@ -88,7 +90,8 @@ fn followed_signal(
     aliases: &mut Aliases,
     signal: &[SigBit],
 ) -> Result<SigSpec, Memory>
-    ensures value { IfOk result (λ after. (links : List Link) → IsAliases aliases.old links → after ≡ map (follow links) signal.now) }
+    ensures value { IfOk result (λ after. (links : List Link) → IsAliases aliases.old links →
+        after ≡ map (follow links) signal.now) }
     ensures keeps { (links : List Link) → IsAliases aliases.old links → IsAliases aliases.new links }
 {
     let mut after = Vec::with_capacity(alloc, signal.len())?;

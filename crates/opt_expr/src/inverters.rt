@@ -9,10 +9,10 @@ ghost use Rattle.rtl_ir.specs.declared.cell.Cell.{Cell};
 ghost use Rattle.opt_expr.specs.Inverters.{input_at, input_of, inverted, inverted_bit, inverts};
 ghost use Rattle.opt_expr.specs.Places.{ArePlaces, other_at};
 
-use crate::places::{Places, place_of, signal_at};
+use crate::places::{Places, place_of};
 use cell_types::{CellKind, FoldKind, GateKind, PinName, UnaryKind, WordKind, kind_of};
 use rtl_bits::{Bit, Memory};
-use rtl_ir::Cell;
+use rtl_ir::{Cell, signal_at};
 use rtl_sig::{SigBit, SigSpec};
 use std::alloc::Global;
 use std::collections::VecDeque;
@@ -25,7 +25,8 @@ pub(crate) fn inverted(
     rest: &VecDeque<Cell>,
     word: &[SigBit],
 ) -> Result<Option<SigSpec>, Memory>
-    ensures value { IfOk result (λ input. (cells : List Cell) → ArePlaces places.now cells → input ≡ inverted cells done.now rest.now.items word.now) }
+    ensures value { IfOk result (λ input. (cells : List Cell) → ArePlaces places.now cells →
+        input ≡ inverted cells done.now rest.now.items word.now) }
 {
     match place_of(places, word) {
         Some(place) => input_at(alloc, place, done, rest, false, word),
@@ -41,7 +42,8 @@ pub(crate) fn inverted_bit(
     rest: &VecDeque<Cell>,
     word: &[SigBit],
 ) -> Result<Option<SigBit>, Memory>
-    ensures value { IfOk result (λ bit. (cells : List Cell) → ArePlaces places.now cells → bit ≡ inverted_bit cells done.now rest.now.items word.now) }
+    ensures value { IfOk result (λ bit. (cells : List Cell) → ArePlaces places.now cells →
+        bit ≡ inverted_bit cells done.now rest.now.items word.now) }
 {
     if word.len() != 1 {
         return Ok(None);
@@ -74,7 +76,8 @@ fn input_at(
     logic: bool,
     word: &[SigBit],
 ) -> Result<Option<SigSpec>, Memory>
-    ensures value { IfOk result (λ input. input ≡ input_at logic (other_at done.now rest.now.items (Some place)) word.now) }
+    ensures value { IfOk result (λ input.
+        input ≡ input_at logic (other_at done.now rest.now.items (Some place)) word.now) }
 {
     let count = done.len();
     if place < count {

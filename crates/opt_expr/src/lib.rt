@@ -4,18 +4,13 @@
 mod formed;
 mod inputs;
 mod inverters;
-mod kept;
 mod places;
 mod sweep;
-mod values;
 mod visit;
 
 ghost use Rattle.std.specs.Prelude.{◌≡◌, true, IfOk};
-ghost use Rattle.rtl_ir.specs.Flat.Cell.{Ports, instances};
-ghost use Rattle.rtl_ir.specs.Flat.Tree as flat;
-ghost use Rattle.rtl_ir.specs.Ports.{ports_of};
 ghost use Rattle.rtl_ir.specs.Types.{table_ports};
-ghost use Rattle.net_model.specs.Refine.{AgreeOn, IsWellDriven, RefinesIn};
+ghost use Rattle.pass_laws.specs.Pass.{IsPass};
 ghost use Rattle.pass_laws.specs.Ready.{IsReady};
 ghost use Rattle.opt_expr.specs.Sweep.{expr_of};
 
@@ -37,29 +32,19 @@ pub struct Turn {
 pub fn apply(alloc: Global, module: &Module, ports: &PortTable) -> Result<Module, Memory>
     requires ready { IsReady (table_ports ports.now.modules) «module».now }
     ensures exact { IfOk result (λ after. after ≡ expr_of (table_ports ports.now.modules) «module».now) }
-    ensures refines { IfOk result (λ after. RefinesIn «module».now after ports.now) }
-    ensures well_driven { IfOk result (λ after. (over : Ports) → AgreeOn (flat.table_ports ports.now) over (instances «module».now.cells) → IsWellDriven over «module».now → IsWellDriven over after) }
-    ensures well_formed { IfOk result (λ after. IsReady (table_ports ports.now.modules) after) }
-    ensures same_id { IfOk result (λ after. after.id ≡ «module».now.id) }
-    ensures same_ports { IfOk result (λ after. ports_of after.wires ≡ ports_of «module».now.wires) }
-    ensures same_instances { IfOk result (λ after. instances after.cells ≡ instances «module».now.cells) }
+    ensures pass { IfOk result (IsPass ports.now «module».now) }
 {
     let turn = apply_owned(alloc, module.copy()?, ports)?;
     Ok(turn.after)
 }
 
-/// As `apply`, of a module that is given away: when a cell's turn comes, what stays of it moves and the rest is freed, so
-/// that the cells before the pass and after it do not stand beside each other.
+/// As `apply`, of a module that is given away: when a cell's turn comes, what stays of it moves and the rest is freed,
+/// so that the cells before the pass and after it do not stand beside each other.
 pub fn apply_owned(alloc: Global, module: Module, ports: &PortTable) -> Result<Turn, Memory>
     requires ready { IsReady (table_ports ports.now.modules) «module» }
     ensures exact { IfOk result (λ turn. turn.after ≡ expr_of (table_ports ports.now.modules) «module») }
     ensures same { IfOk result (λ turn. turn.is_same ≡ true → turn.after ≡ «module») }
-    ensures refines { IfOk result (λ turn. RefinesIn «module» turn.after ports.now) }
-    ensures well_driven { IfOk result (λ turn. (over : Ports) → AgreeOn (flat.table_ports ports.now) over (instances «module».cells) → IsWellDriven over «module» → IsWellDriven over turn.after) }
-    ensures well_formed { IfOk result (λ turn. IsReady (table_ports ports.now.modules) turn.after) }
-    ensures same_id { IfOk result (λ turn. turn.after.id ≡ «module».id) }
-    ensures same_ports { IfOk result (λ turn. ports_of turn.after.wires ≡ ports_of «module».wires) }
-    ensures same_instances { IfOk result (λ turn. instances turn.after.cells ≡ instances «module».cells) }
+    ensures pass { IfOk result (λ turn. IsPass ports.now «module» turn.after) }
 {
     let turn = sweep(alloc, module, ports)?;
     Ok(turn)

@@ -11,7 +11,7 @@ ghost use Rattle.opt_expr.specs.Places.{ArePlaces, begins_with, combinational, p
 
 use cell_types::{CellKind, PinName, kind_of};
 use rtl_bits::Memory;
-use rtl_ir::{Cell, Pin};
+use rtl_ir::{Cell, signal_at};
 use rtl_sig::{SigBit, WireBit};
 use std::alloc::Global;
 use std::collections::HashMap;
@@ -69,16 +69,4 @@ pub(crate) fn combinational_kind(cell: &Cell) -> Option<CellKind>
         Some(kind @ (CellKind::Word(_) | CellKind::Gate(_))) => Some(kind),
         _ => None,
     }
-}
-
-/// The signal at the pin of this name, no bits where there is none.
-pub(crate) fn signal_at<'a>(pins: &'a [Pin], name: &[u8]) -> &'a [SigBit]
-    ensures value { result.now ≡ signal_at pins.now name.now }
-{
-    for pin in pins {
-        if pin.name.as_slice() == name {
-            return pin.sig.as_slice();
-        }
-    }
-    &[]
 }

@@ -54,8 +54,11 @@ fn sweep_cells(
     links: Seq<Link>,
 ) -> Result<Swept, Memory>
     requires aliases { IsAliases aliases links }
-    ensures swept { IfOk result (λ after. record { cells = after.slots.items; links = after.links } ≡ swept (table_ports ports.now.modules) cells.items [] cells.items links) }
-    ensures same { IfOk result (λ after. after.is_same ≡ true → (after.slots.items ≡ map Some cells.items) × (after.links ≡ links)) }
+    ensures swept { IfOk result (λ after.
+        record { cells = after.slots.items; links = after.links } ≡
+        swept (table_ports ports.now.modules) cells.items [] cells.items links) }
+    ensures same { IfOk result (λ after. after.is_same ≡ true →
+        (after.slots.items ≡ map Some cells.items) × (after.links ≡ links)) }
 {
     let types = Types::of_table(alloc, ports)?;
     let places = places_of(alloc, cells.as_slice())?;
@@ -94,7 +97,8 @@ fn visit_all(
     requires aliases { IsAliases aliases.old links.old }
     ensures swept { OnOk result ((ports : rtl.Ports) → AreTypes types.now ports →
         record { cells = done.new.items; links = links.new } ≡ swept ports cells.items [] cells.items links.old) }
-    ensures same { IfOk result (λ is_same. is_same ≡ true → (done.new.items ≡ map Some cells.items) × (links.new ≡ links.old)) }
+    ensures same { IfOk result (λ is_same. is_same ≡ true →
+        (done.new.items ≡ map Some cells.items) × (links.new ≡ links.old)) }
 {
     let mut is_same = true;
     let mut rest = VecDeque::from_vec(cells);

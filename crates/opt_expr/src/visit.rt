@@ -10,7 +10,7 @@ ghost use Rattle.rtl_ir.specs.Types as rtl;
 ghost use Rattle.rtl_ir.specs.declared.cell.Cell.{Cell};
 ghost use Rattle.rtl_ir.specs.declared.module.Link.{Link};
 ghost use Rattle.net_index.specs.Types.{AreTypes};
-ghost use Rattle.net_model.specs.Fsm.Find.{is_kept};
+ghost use Rattle.rtl_ir.specs.Attributes.{is_kept};
 ghost use Rattle.net_alias.specs.Aliases.{IsAliases};
 ghost use Rattle.opt_expr.specs.Places.{ArePlaces};
 ghost use Rattle.opt_expr.specs.Sweep.{change_by, changed, kind_change, operands_in, ruled_kind, visit_of};
@@ -18,15 +18,13 @@ ghost use Rattle.opt_expr.specs.Sweep.{change_by, changed, kind_change, operands
 use crate::formed::formed;
 use crate::inputs::{Followed, followed_cell};
 use crate::inverters::{inverted, inverted_bit};
-use crate::kept::is_kept;
-use crate::places::{Places, combinational_kind, signal_at};
+use crate::places::{Places, combinational_kind};
 use cell_types::{CellKind, PinName, Shape};
 use expr_rules::{Change, Operands, first_fit};
 use net_alias::Aliases;
-use net_index::{Types, cell_shape};
+use net_index::Types;
 use rtl_bits::{Copied, Memory, Seq};
-use rtl_ir::{Cell, Link, Pin};
-use rtl_same::Same;
+use rtl_ir::{Cell, Link, Pin, Same, cell_shape, is_kept, signal_at};
 use rtl_sig::SigSpec;
 use std::alloc::Global;
 use std::collections::VecDeque;
@@ -38,8 +36,8 @@ pub(crate) struct Visited {
     pub(crate) is_same: bool,
 }
 
-/// Visits a cell between those that are done and the rest. Connections that come of it go last. After an error its visit is
-/// not whole.
+/// Visits a cell between those that are done and the rest. Connections that come of it go last. After an error its
+/// visit is not whole.
 pub(crate) fn visit(
     alloc: Global,
     types: &Types,
@@ -50,12 +48,15 @@ pub(crate) fn visit(
     rest: &VecDeque<Cell>,
     links: &mut Seq<Link>,
 ) -> Result<Visited, Memory>
-    ensures cell { IfOk result (λ visited. (ports : rtl.Ports) (cells : List Cell) → AreTypes types.now ports → ArePlaces places.now cells → IsAliases aliases.old links.old →
+    ensures cell { IfOk result (λ visited. (ports : rtl.Ports) (cells : List Cell) → AreTypes types.now ports →
+        ArePlaces places.now cells → IsAliases aliases.old links.old →
         visited.slot ≡ (visit_of ports cells done.now rest.now.items links.old cell).cell) }
-    ensures links { OnOk result ((ports : rtl.Ports) (cells : List Cell) → AreTypes types.now ports → ArePlaces places.now cells → IsAliases aliases.old links.old →
+    ensures links { OnOk result ((ports : rtl.Ports) (cells : List Cell) → AreTypes types.now ports →
+        ArePlaces places.now cells → IsAliases aliases.old links.old →
         links.new ≡ links.old ++ (visit_of ports cells done.now rest.now.items links.old cell).links) }
     ensures aliases { OnOk result (IsAliases aliases.old links.old → IsAliases aliases.new links.new) }
-    ensures same { IfOk result (λ visited. visited.is_same ≡ true → (visited.slot ≡ Some cell) × (links.new ≡ links.old)) }
+    ensures same { IfOk result (λ visited. visited.is_same ≡ true →
+        (visited.slot ≡ Some cell) × (links.new ≡ links.old)) }
 {
     let followed = followed_cell(alloc, types, aliases, cell)?;
     let change = change(alloc, places, done, rest, &followed.cell)?;
@@ -74,7 +75,8 @@ fn changed(
     ensures cell { IfOk result (λ visited. visited.slot ≡ (changed change followed.cell).cell) }
     ensures links { OnOk result (links.new ≡ links.old ++ (changed change followed.cell).links) }
     ensures aliases { OnOk result (IsAliases aliases.old links.old → IsAliases aliases.new links.new) }
-    ensures same { IfOk result (λ visited. visited.is_same ≡ true → (followed.is_same ≡ true) × (visited.slot ≡ Some followed.cell) × (links.new ≡ links.old)) }
+    ensures same { IfOk result (λ visited. visited.is_same ≡ true →
+        (followed.is_same ≡ true) × (visited.slot ≡ Some followed.cell) × (links.new ≡ links.old)) }
 {
     let Followed { cell, is_same } = followed;
     match change {
@@ -120,7 +122,8 @@ fn change(
     rest: &VecDeque<Cell>,
     cell: &Cell,
 ) -> Result<Option<Change>, Memory>
-    ensures value { IfOk result (λ change. (cells : List Cell) → ArePlaces places.now cells → change ≡ change_by cells done.now rest.now.items (ruled_kind cell.now) cell.now) }
+    ensures value { IfOk result (λ change. (cells : List Cell) → ArePlaces places.now cells →
+        change ≡ change_by cells done.now rest.now.items (ruled_kind cell.now) cell.now) }
 {
     let Some(kind) = ruled_kind(alloc, cell)? else {
         return Ok(None);
@@ -158,7 +161,8 @@ fn operands(
     shape: &Shape,
     pins: &[Pin],
 ) -> Result<Operands, Memory>
-    ensures value { IfOk result (λ operands. (cells : List Cell) → ArePlaces places.now cells → operands ≡ operands_in cells done.now rest.now.items shape.now pins.now) }
+    ensures value { IfOk result (λ operands. (cells : List Cell) → ArePlaces places.now cells →
+        operands ≡ operands_in cells done.now rest.now.items shape.now pins.now) }
     ensures a { IfOk result (λ operands. operands.a ≡ signal_at pins.now (pin_text A)) }
     ensures b { IfOk result (λ operands. operands.b ≡ signal_at pins.now (pin_text B)) }
     ensures s { IfOk result (λ operands. operands.s ≡ signal_at pins.now (pin_text S)) }

@@ -14,7 +14,8 @@ use Rattle.cell_types.specs.PinName.{pin_text}
 use Rattle.rtl_ir.specs.declared.cell.Cell.{Cell}
 use Rattle.rtl_ir.specs.declared.cell.Pin.{Pin}
 use Rattle.rtl_ir.specs.declared.module.Link.{Link}
-use Rattle.rtl_ir.specs.Follow.{Join, all_joins, back, follow, follow_joins, joins, source_at}
+use Rattle.rtl_ir.specs.Follow.{all_joins, back, follow, follow_joins, joins, source_at}
+use Rattle.rtl_ir.specs.declared.follow.Join.{Join}
 use Rattle.rtl_ir.specs.Parameters.{signal_at}
 use Rattle.rtl_ir.specs.Signals.{wire_bits}
 use Rattle.net_model.specs.Lists.{In}

@@ -5,7 +5,8 @@ use Rattle.rtl_sig.specs.declared.sig.SigBit.{SigBit}
 use Rattle.rtl_sig.specs.declared.sig.SigBit.TheVariants as sig
 use Rattle.rtl_sig.specs.declared.sig.WireBit.{WireBit}
 use Rattle.rtl_ir.specs.declared.module.Link.{Link}
-use Rattle.rtl_ir.specs.Follow.{Join, all_joins, joins, source_at}
+use Rattle.rtl_ir.specs.Follow.{all_joins, joins, source_at}
+use Rattle.rtl_ir.specs.declared.follow.Join.{Join}
 use Rattle.rtl_ir.specs.Signals.{same_bit, wire_bits}
 use Rattle.net_index.proofs.IndexTables.{same_bit-refl, same_bit-true}
 use Rattle.net_model.specs.Lists.{In}

@@ -2,7 +2,8 @@
 use Rattle.std.proofs.Common.{◌≡◌, ℕ, ◌+◌, List, ◌++◌, length, Option, Some, None, unwrap_or, refl, sym, ◌∙◌, ap, subst}
 use Rattle.std.specs.Option.{option_or}
 use Rattle.rtl_sig.specs.declared.sig.SigBit.{SigBit}
-use Rattle.rtl_ir.specs.Follow.{Join, back, end_within, follow_joins}
+use Rattle.rtl_ir.specs.Follow.{back, end_within, follow_joins}
+use Rattle.rtl_ir.specs.declared.follow.Join.{Join}
 use Rattle.net_index.specs.IndexWays.{RunsOn}
 use Rattle.net_index.proofs.IndexEnds.{ends_all, ends_here}
 use Rattle.net_alias.specs.Aliases.{Reaches}

@@ -1,4 +1,3 @@
-pub mod Chars
 pub mod Numbers
 pub mod SameTraits
 pub mod Following

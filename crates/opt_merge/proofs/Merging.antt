@@ -17,7 +17,7 @@ use Rattle.rtl_ir.specs.Flat.Cell.{cell_kind}
 use Rattle.rtl_ir.specs.Follow.{follow}
 use Rattle.rtl_ir.specs.Parameters.{signal_at}
 use Rattle.net_model.specs.Lists.{In}
-use Rattle.net_model.specs.Fsm.Find.{is_kept}
+use Rattle.rtl_ir.specs.Attributes.{is_kept}
 use Rattle.net_model.proofs.Members.{In-left, In-right}
 use Rattle.opt_merge.specs.declared.readers.Readers.{Readers}
 use Rattle.opt_merge.specs.declared.table.Table.{Table}

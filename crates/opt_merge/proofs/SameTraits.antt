@@ -10,7 +10,7 @@ use Rattle.rtl_bits.specs.declared.bit.Bit.TheVariants.{S0, S1, X, Z, M, Dash}
 use Rattle.rtl_sig.specs.declared.sig.SigBit.{SigBit}
 use Rattle.rtl_sig.specs.declared.sig.SigBit.TheVariants.{Fixed, Wire as OnWire}
 use Rattle.rtl_sig.specs.declared.sig.WireBit.{WireBit}
-use Rattle.rtl_ir.specs.WritePorts.{same_place, same_signal, same_value}
+use Rattle.rtl_ir.specs.Signals.{same_place, same_signal, same_value}
 use Rattle.opt_merge.specs.Traits.{Traits, bit_number, same_traits}
 use Rattle.opt_merge.proofs.Numbers.{bit_inj}
 

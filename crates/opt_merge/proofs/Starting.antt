@@ -20,7 +20,8 @@ use Rattle.rtl_ir.specs.Fault.{Fault, TwoDrivers, fault_if}
 use Rattle.rtl_ir.specs.Faults.Bits.{bit_faults, bits_faults, faults_of_two, has_two}
 use Rattle.rtl_ir.specs.Faults.Cells.{is_memory_kind}
 use Rattle.rtl_ir.specs.Flat.Cell.{cell_kind}
-use Rattle.rtl_ir.specs.Follow.{Join, all_joins, joins}
+use Rattle.rtl_ir.specs.Follow.{all_joins, joins}
+use Rattle.rtl_ir.specs.declared.follow.Join.{Join}
 use Rattle.rtl_ir.specs.Outputs.{output_pin}
 use Rattle.rtl_ir.specs.Parameters.{signal_at}
 use Rattle.rtl_ir.specs.Scope.{without_processes}

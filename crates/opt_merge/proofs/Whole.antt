@@ -11,28 +11,24 @@ use Rattle.pass_laws.specs.Ready.{IsReady}
 use Rattle.opt_merge.specs.declared.merger.Merger.{Merger}
 use Rattle.opt_merge.specs.Picked.{AreThese}
 use Rattle.opt_merge.specs.State.{IsState}
-use Rattle.opt_merge.specs.Merge.{Merging, after_cells, drives_own, merge_of, merging_of, with_merging}
-
--- what a sweep from the first cell on leaves
-abbrev pub first_of : Module → Merging
-first_of m = record { cells = []; links = m.links }
+use Rattle.opt_merge.specs.Merge.{after_cells, drives_own, first_of, merge_of, merging_of, swept_of, with_merging}
 
 pub state_over : (m : Module) (cells : List Cell) (merger : Merger) → cells ≡ m.cells → IsState merger m.wires m.links m.cells 0 (first_of m) → IsState merger m.wires m.links cells 0 (first_of m)
 state_over m cells merger same state = subst (λ cs. IsState merger m.wires m.links cs 0 (first_of m)) (sym same) state
 
 module _ (m : Module) (cells : List Cell) (merger : Merger) (same : cells ≡ m.cells) (state : (at : ℕ) × IsState merger m.wires m.links cells at (after_cells (start_of m.wires []) (first_of m) cells)) where
-  pub swept_cells : AreThese m.cells merger.kept.items (after_cells (start_of m.wires []) (first_of m) m.cells).cells
+  pub swept_cells : AreThese m.cells merger.kept.items (swept_of m).cells
   swept_cells = subst (λ cs. AreThese cs merger.kept.items (after_cells (start_of m.wires []) (first_of m) cs).cells) same (record { there = state.1.kept; rising = state.1.rising })
 
-  pub swept_links : merger.links ≡ (after_cells (start_of m.wires []) (first_of m) m.cells).links
+  pub swept_links : merger.links ≡ (swept_of m).links
   swept_links = state.1.links ∙ ap (λ cs. (after_cells (start_of m.wires []) (first_of m) cs).links) same
 
 -- the module that a sweep leaves
-pub merged_is : (m : Module) (kept : List Cell) (links : List Link) → m.processes ≡ [] → kept ≡ (after_cells (start_of m.wires []) (record { cells = []; links = m.links }) m.cells).cells
-    → links ≡ (after_cells (start_of m.wires []) (record { cells = []; links = m.links }) m.cells).links → record m { cells = kept; links = links } ≡ with_merging m (merging_of m)
+pub merged_is : (m : Module) (kept : List Cell) (links : List Link) → m.processes ≡ [] → kept ≡ (swept_of m).cells
+    → links ≡ (swept_of m).links → record m { cells = kept; links = links } ≡ with_merging m (merging_of m)
 merged_is m kept links none cells same =
     (λ i. record m { cells = cells i; links = same i })
-    ∙ ap (λ ps. with_merging m (after_cells (start_of m.wires ps) (record { cells = []; links = m.links }) m.cells)) (sym none)
+    ∙ ap (λ ps. with_merging m (after_cells (start_of m.wires ps) (first_of m) m.cells)) (sym none)
 
 pub merge_true : (m after : Module) → drives_own m ≡ true → after ≡ with_merging m (merging_of m) → after ≡ merge_of m
 merge_true m after own e = e ∙ sym (ap (λ t. cond t (with_merging m (merging_of m)) m) own)

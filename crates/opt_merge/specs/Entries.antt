@@ -1,5 +1,5 @@
 -- The cells that a table has by their traits.
-use Rattle.std.specs.Prelude.{◌≡◌, ◌⊎◌, ◌≤◌, ℕ, List, [], Option, Some, None, option_map, slice_get, slice_index_or}
+use Rattle.std.specs.Prelude.{◌≡◌, ◌⊎◌, ◌≤◌, ℕ, List, [], ◌∷◌, ◌++◌, Option, Some, None, option_map, slice_get, slice_index_or}
 use Rattle.std.specs.Option.{option_map_or}
 use Rattle.rtl_bits.specs.declared.bit.Bit.{Bit}
 use Rattle.rtl_sig.specs.declared.sig.SigBit.{SigBit}
@@ -56,6 +56,16 @@ pub record Enters (traits : ℕ → Option Traits) (old new : Table) (places : L
       (t : Traits) (at : ℕ) → at_row new (row_of t) ≡ Some at → (at_row old (row_of t) ≡ Some at) ⊎ (traits at ≡ Some t)
   pub stays : (row : List ℕ) (at : ℕ) → at_row old row ≡ Some at → HasBefore new row at
   pub full : (at : ℕ) → In at places → (t : Traits) → traits at ≡ Some t → HasBefore new (row_of t) at
+
+-- the cells at these places whose kinds are noted were put into the table, by what they read
+abbrev pub EntersPlaces : Entries → Entries → List Cell → List ℕ → Type 0
+EntersPlaces old new cells places =
+    (wires : List Wire) (links : List Link) → IsView old.view wires links →
+    Enters (noted_at (start_of wires []) links old.kinds.items cells) old.table new.table places
+
+-- the connections with one more
+abbrev pub linked : List Link → List SigBit → List SigBit → List Link
+linked links left right = links ++ record { left = left; right = right } ∷ []
 
 -- the entries after a connection more: they see these connections, and the cells at these places were put into the table
 pub record JoinsEntries (old new : Entries) (wires : List Wire) (links : List Link) (cells : List Cell) (places : List ℕ) : Type 0 where

@@ -7,4 +7,5 @@ pub mod Readers
 pub mod Reading
 pub mod Entries
 pub mod State
+pub mod Visits
 pub mod Picked

@@ -51,9 +51,17 @@ abbrev pub after_cells : (SigBit → Bit) → Merging → List Cell → Merging
 after_cells start m [] = m
 after_cells start m (c ∷ cells) = after_cells start (after_kind start m c (merging_kind c)) cells
 
+-- before the first cell of a module
+abbrev pub first_of : Module → Merging
+first_of m = record { cells = []; links = m.links }
+
 -- the cells and connections of a module after the pass
 abbrev pub merging_of : Module → Merging
-merging_of m = after_cells (start_of m.wires m.processes) (record { cells = []; links = m.links }) m.cells
+merging_of m = after_cells (start_of m.wires m.processes) (first_of m) m.cells
+
+-- those of a module without processes
+abbrev pub swept_of : Module → Merging
+swept_of m = after_cells (start_of m.wires []) (first_of m) m.cells
 
 -- a module with these cells and connections
 abbrev pub with_merging : Module → Merging → Module

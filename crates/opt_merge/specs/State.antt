@@ -8,7 +8,8 @@ use Rattle.rtl_ir.specs.declared.cell.Cell.{Cell}
 use Rattle.rtl_ir.specs.declared.module.Link.{Link}
 use Rattle.rtl_ir.specs.declared.wire.Wire.{Wire}
 use Rattle.rtl_ir.specs.Flat.Start.{start_of}
-use Rattle.rtl_ir.specs.Follow.{Join, all_joins, follow}
+use Rattle.rtl_ir.specs.Follow.{all_joins, follow}
+use Rattle.rtl_ir.specs.declared.follow.Join.{Join}
 use Rattle.rtl_ir.specs.Signals.{same_bit}
 use Rattle.net_model.specs.Lists.{In}
 use Rattle.opt_merge.specs.declared.merger.Merger.{Merger}

@@ -24,8 +24,8 @@ use Rattle.rtl_ir.specs.Flat.Cell.{cell_kind, cell_shape}
 use Rattle.rtl_ir.specs.Follow.{follow}
 use Rattle.rtl_ir.specs.Outputs.{output_pin}
 use Rattle.rtl_ir.specs.Parameters.{signal_at}
-use Rattle.rtl_ir.specs.WritePorts.{same_signal, same_value}
-use Rattle.net_model.specs.Fsm.Find.{is_kept}
+use Rattle.rtl_ir.specs.Signals.{same_signal, same_value}
+use Rattle.rtl_ir.specs.Attributes.{is_kept}
 
 -- the pins that a cell of a kind may read
 abbrev pub input_pins : CellKind → List PinName

@@ -10,3 +10,7 @@ use Rattle.opt_merge.specs.Rows.{inits_of}
 pub record IsView (view : View) (wires : List Wire) (links : List Link) : Type 0 where
   pub inits : view.inits.items ≡ inits_of wires
   pub aliases : IsAliases view.aliases links
+
+-- what is known of a module is known still
+abbrev pub StaysView : View → View → Type 0
+StaysView old new = (wires : List Wire) (links : List Link) → IsView old wires links → IsView new wires links

@@ -1,15 +1,15 @@
 //! The cells that others may be merged with, by what they are compared by.
 
-ghost use Rattle.std.specs.Prelude.{◌≡◌, ◌∷◌, ◌++◌, ℕ, List, [], Option, None, Some, OnOk, slice_index_or, slice_set};
+ghost use Rattle.std.specs.Prelude.{◌≡◌, ◌∷◌, ℕ, List, [], Option, None, Some, OnOk, slice_index_or, slice_set};
 ghost use Rattle.rtl_ir.specs.declared.module.Link.{Link};
 ghost use Rattle.rtl_ir.specs.declared.wire.Wire.{Wire};
 ghost use Rattle.rtl_ir.specs.Flat.Start.{start_of};
-ghost use Rattle.opt_merge.specs.Entries.{Enters, kind_traits, noted_at};
+ghost use Rattle.opt_merge.specs.Entries.{Enters, EntersPlaces, kind_traits, linked};
 ghost use Rattle.opt_merge.specs.Rows.{row_of};
 ghost use Rattle.opt_merge.specs.Readers.{readers_of_bit, readers_of_signal};
 ghost use Rattle.opt_merge.specs.Table.{PutsRow};
 ghost use Rattle.opt_merge.specs.Traits.{Traits, traits_of};
-ghost use Rattle.opt_merge.specs.View.{IsView};
+ghost use Rattle.opt_merge.specs.View.{IsView, StaysView};
 
 use crate::readers::Readers;
 use crate::rows::View;
@@ -43,7 +43,8 @@ impl Entries {
 
     /// One connection more.
     pub(crate) fn connect(&mut self, left: &[SigBit], right: &[SigBit]) -> Result<(), Memory>
-        ensures view { OnOk result ((wires : List Wire) (links : List Link) → IsView self.old.view wires links → IsView self.new.view wires (links ++ record { left = left.now; right = right.now } ∷ [])) }
+        ensures view { OnOk result ((wires : List Wire) (links : List Link) → IsView self.old.view wires links →
+            IsView self.new.view wires (linked links left.now right.now)) }
         ensures table { OnOk result (self.new.table ≡ self.old.table) }
         ensures kinds { OnOk result (self.new.kinds ≡ self.old.kinds) }
     {
@@ -58,8 +59,9 @@ impl Entries {
         readers: &Readers,
         signal: &[SigBit],
     ) -> Result<(), Memory>
-        ensures enters { OnOk result ((wires : List Wire) (links : List Link) → IsView self.old.view wires links → Enters (noted_at (start_of wires []) links self.old.kinds.items cells.now) self.old.table self.new.table (readers_of_signal readers.now signal.now)) }
-        ensures keeps { OnOk result ((wires : List Wire) (links : List Link) → IsView self.old.view wires links → IsView self.new.view wires links) }
+        ensures enters { OnOk result (EntersPlaces self.old self.new cells.now
+            (readers_of_signal readers.now signal.now)) }
+        ensures keeps { OnOk result (StaysView self.old.view self.new.view) }
         ensures kinds { OnOk result (self.new.kinds ≡ self.old.kinds) }
     {
         for bit in signal {
@@ -70,8 +72,8 @@ impl Entries {
 
     /// Those that read the bit.
     fn enter_bit(&mut self, cells: &[Cell], readers: &Readers, bit: SigBit) -> Result<(), Memory>
-        ensures enters { OnOk result ((wires : List Wire) (links : List Link) → IsView self.old.view wires links → Enters (noted_at (start_of wires []) links self.old.kinds.items cells.now) self.old.table self.new.table (readers_of_bit readers.now bit)) }
-        ensures keeps { OnOk result ((wires : List Wire) (links : List Link) → IsView self.old.view wires links → IsView self.new.view wires links) }
+        ensures enters { OnOk result (EntersPlaces self.old self.new cells.now (readers_of_bit readers.now bit)) }
+        ensures keeps { OnOk result (StaysView self.old.view self.new.view) }
         ensures kinds { OnOk result (self.new.kinds ≡ self.old.kinds) }
     {
         match bit {
@@ -82,8 +84,8 @@ impl Entries {
 
     /// Those at these places.
     fn enter_places(&mut self, cells: &[Cell], places: &[usize]) -> Result<(), Memory>
-        ensures enters { OnOk result ((wires : List Wire) (links : List Link) → IsView self.old.view wires links → Enters (noted_at (start_of wires []) links self.old.kinds.items cells.now) self.old.table self.new.table places.now) }
-        ensures keeps { OnOk result ((wires : List Wire) (links : List Link) → IsView self.old.view wires links → IsView self.new.view wires links) }
+        ensures enters { OnOk result (EntersPlaces self.old self.new cells.now places.now) }
+        ensures keeps { OnOk result (StaysView self.old.view self.new.view) }
         ensures kinds { OnOk result (self.new.kinds ≡ self.old.kinds) }
     {
         for place in places {
@@ -94,8 +96,8 @@ impl Entries {
 
     /// The cell at the place, if its kind is noted.
     fn enter(&mut self, cells: &[Cell], place: usize) -> Result<(), Memory>
-        ensures enters { OnOk result ((wires : List Wire) (links : List Link) → IsView self.old.view wires links → Enters (noted_at (start_of wires []) links self.old.kinds.items cells.now) self.old.table self.new.table (place ∷ [])) }
-        ensures keeps { OnOk result ((wires : List Wire) (links : List Link) → IsView self.old.view wires links → IsView self.new.view wires links) }
+        ensures enters { OnOk result (EntersPlaces self.old self.new cells.now (place ∷ [])) }
+        ensures keeps { OnOk result (StaysView self.old.view self.new.view) }
         ensures kinds { OnOk result (self.new.kinds ≡ self.old.kinds) }
     {
         match self.kind_at(place) {
@@ -109,8 +111,10 @@ impl Entries {
 
     /// The cell of this kind at the place, if there is one.
     fn enter_kind(&mut self, cells: &[Cell], kind: CellKind, place: usize) -> Result<(), Memory>
-        ensures enters { OnOk result ((wires : List Wire) (links : List Link) → IsView self.old.view wires links → (traits : ℕ → Option Traits) → traits place ≡ kind_traits (start_of wires []) links kind cells.now place → Enters traits self.old.table self.new.table (place ∷ [])) }
-        ensures keeps { OnOk result ((wires : List Wire) (links : List Link) → IsView self.old.view wires links → IsView self.new.view wires links) }
+        ensures enters { OnOk result ((wires : List Wire) (links : List Link) → IsView self.old.view wires links →
+            (traits : ℕ → Option Traits) → traits place ≡ kind_traits (start_of wires []) links kind cells.now place →
+            Enters traits self.old.table self.new.table (place ∷ [])) }
+        ensures keeps { OnOk result (StaysView self.old.view self.new.view) }
         ensures kinds { OnOk result (self.new.kinds ≡ self.old.kinds) }
     {
         if place >= cells.len() {
@@ -133,8 +137,9 @@ impl Entries {
 
     /// The cell of this kind at the place is found by what it reads now.
     fn put(&mut self, kind: CellKind, cell: &Cell, place: usize) -> Result<(), Memory>
-        ensures table { OnOk result ((wires : List Wire) (links : List Link) → IsView self.old.view wires links → PutsRow self.old.table self.new.table (row_of (traits_of (start_of wires []) links kind cell.now)) place) }
-        ensures keeps { OnOk result ((wires : List Wire) (links : List Link) → IsView self.old.view wires links → IsView self.new.view wires links) }
+        ensures table { OnOk result ((wires : List Wire) (links : List Link) → IsView self.old.view wires links →
+            PutsRow self.old.table self.new.table (row_of (traits_of (start_of wires []) links kind cell.now)) place) }
+        ensures keeps { OnOk result (StaysView self.old.view self.new.view) }
         ensures kinds { OnOk result (self.new.kinds ≡ self.old.kinds) }
     {
         let row = self.view.row(kind, cell)?;

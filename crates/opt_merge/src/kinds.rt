@@ -4,10 +4,9 @@ ghost use Rattle.std.specs.Prelude.{◌≡◌, IfOk, Some};
 ghost use Rattle.rtl_ir.specs.Flat.Cell.{cell_kind};
 ghost use Rattle.opt_merge.specs.Traits.{logic_kind, merging_kind};
 
-use crate::attributes::is_kept;
 use cell_types::{CellKind, kind_of};
 use rtl_bits::Memory;
-use rtl_ir::Cell;
+use rtl_ir::{Cell, is_kept};
 use std::alloc::Global;
 
 /// The kind of a cell that may be merged: a combinational or storage cell without a nonzero `\keep`.

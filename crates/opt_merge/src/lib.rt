@@ -10,22 +10,18 @@ mod reading;
 mod rows;
 mod signals;
 mod table;
-mod values;
 
 ghost use Rattle.std.specs.Prelude.{◌≡◌, ◌==◌, ◌∷◌, ◌++◌, [], false, IfOk, OnOk, if◌then◌else◌, length, slice_get};
 ghost use Rattle.std.specs.List.{list_all};
 ghost use Rattle.std.specs.Option.{is_some, option_map_or};
-ghost use Rattle.rtl_ir.specs.Flat.Cell.{Ports, instances};
-ghost use Rattle.rtl_ir.specs.Flat.Start.{start_of};
-ghost use Rattle.rtl_ir.specs.Flat.Tree as tree;
-ghost use Rattle.rtl_ir.specs.Ports.{ports_of};
 ghost use Rattle.rtl_ir.specs.Signals.{wire_bits};
 ghost use Rattle.rtl_ir.specs.Types as types;
-ghost use Rattle.net_model.specs.Refine.{AgreeOn, IsWellDriven, RefinesIn};
 ghost use Rattle.rtl_ir.specs.Types.{table_ports};
 ghost use Rattle.net_index.specs.Numbering.{number_of};
+ghost use Rattle.pass_laws.specs.Pass.{IsPass};
 ghost use Rattle.pass_laws.specs.Ready.{IsReady};
-ghost use Rattle.opt_merge.specs.Merge.{after_cells, bits_by, drives_own, merge_of, merging_of, with_merging};
+ghost use Rattle.opt_merge.specs.Merge.{bits_by, drives_own, first_of, merge_of, merging_of, swept_of};
+ghost use Rattle.opt_merge.specs.Merge.{with_merging};
 ghost use Rattle.opt_merge.specs.Picked.{AreThese, picked};
 ghost use Rattle.opt_merge.specs.State.{IsDrivenOnce};
 
@@ -38,33 +34,23 @@ use rtl_ir::{Cell, Link, Module, PortTable};
 use rtl_sig::SigBit;
 use std::alloc::Global;
 
-/// The module in which a cell goes, its output connected to that of an earlier cell, where both give the same: cells of one
-/// type with equal parameters, inputs that lead back to the same bits, and for storage equal start values. Cells of memories,
-/// instances and cells with a nonzero `\keep` stay. In the Yosys manual, `opt_merge`.
+/// The module in which a cell goes, its output connected to that of an earlier cell, where both give the same: cells of
+/// one type with equal parameters, inputs that lead back to the same bits, and for storage equal start values. Cells of
+/// memories, instances and cells with a nonzero `\keep` stay. In the Yosys manual, `opt_merge`.
 pub fn apply(alloc: Global, module: &Module, ports: &PortTable) -> Result<Module, Memory>
     requires ready { IsReady (table_ports ports.now.modules) «module».now }
     ensures exact { IfOk result (λ after. after ≡ merge_of «module».now) }
-    ensures refines { IfOk result (λ after. RefinesIn «module».now after ports.now) }
-    ensures well_driven { IfOk result (λ after. (over : Ports) → AgreeOn (tree.table_ports ports.now) over (instances «module».now.cells) → IsWellDriven over «module».now → IsWellDriven over after) }
-    ensures well_formed { IfOk result (λ after. IsReady (table_ports ports.now.modules) after) }
-    ensures same_id { IfOk result (λ after. after.id ≡ «module».now.id) }
-    ensures same_ports { IfOk result (λ after. ports_of after.wires ≡ ports_of «module».now.wires) }
-    ensures same_instances { IfOk result (λ after. instances after.cells ≡ instances «module».now.cells) }
+    ensures pass { IfOk result (IsPass ports.now «module».now) }
 {
     apply_owned(alloc, module.copy()?, ports)
 }
 
-/// As `apply`, of a module that is given away: the cells that stay are moved, and none is copied. The answer has as many
-/// cells as the module only where it is the module.
+/// As `apply`, of a module that is given away: the cells that stay are moved, and none is copied. The answer has as
+/// many cells as the module only where it is the module.
 pub fn apply_owned(alloc: Global, module: Module, ports: &PortTable) -> Result<Module, Memory>
     requires ready { IsReady (table_ports ports.now.modules) «module» }
     ensures exact { IfOk result (λ after. after ≡ merge_of «module») }
-    ensures refines { IfOk result (λ after. RefinesIn «module» after ports.now) }
-    ensures well_driven { IfOk result (λ after. (over : Ports) → AgreeOn (tree.table_ports ports.now) over (instances «module».cells) → IsWellDriven over «module» → IsWellDriven over after) }
-    ensures well_formed { IfOk result (λ after. IsReady (table_ports ports.now.modules) after) }
-    ensures same_id { IfOk result (λ after. after.id ≡ «module».id) }
-    ensures same_ports { IfOk result (λ after. ports_of after.wires ≡ ports_of «module».wires) }
-    ensures same_instances { IfOk result (λ after. instances after.cells ≡ instances «module».cells) }
+    ensures pass { IfOk result (IsPass ports.now «module») }
     ensures fewer { IfOk result (λ after. length after.cells ≡ length «module».cells → after ≡ «module») }
 {
     merge(alloc, module)
@@ -94,7 +80,7 @@ fn drives_own(alloc: Global, module: &Module) -> Result<bool, Memory>
     Ok(true)
 }
 
-/// The same of one cell.
+/// Whether each bit that the cell drives is one that a wire has, if it may be merged.
 fn cell_drives_own(alloc: Global, numbering: &Numbering, cell: &Cell) -> Result<bool, Memory>
     ensures value { IfOk result (λ own. own ≡ list_all (λ b. is_some (number_of numbering.now b)) (bits_by cell.now)) }
 {
@@ -135,8 +121,10 @@ struct Sweep {
 
 /// The sweep over the cells of a module. What it compares them by is freed at its end.
 fn swept(alloc: Global, module: &Module) -> Result<Sweep, Memory>
-    ensures kept { IfOk result (λ sweep. IsDrivenOnce (record { cells = []; links = «module».now.links }) «module».now.cells → AreThese «module».now.cells sweep.kept.items (after_cells (start_of «module».now.wires []) (record { cells = []; links = «module».now.links }) «module».now.cells).cells) }
-    ensures links { IfOk result (λ sweep. IsDrivenOnce (record { cells = []; links = «module».now.links }) «module».now.cells → sweep.links ≡ (after_cells (start_of «module».now.wires []) (record { cells = []; links = «module».now.links }) «module».now.cells).links) }
+    ensures kept { IfOk result (λ sweep. IsDrivenOnce (first_of «module».now) «module».now.cells →
+        AreThese «module».now.cells sweep.kept.items (swept_of «module».now).cells) }
+    ensures links { IfOk result (λ sweep. IsDrivenOnce (first_of «module».now) «module».now.cells →
+        sweep.links ≡ (swept_of «module».now).links) }
 {
     let mut merger = Merger::of(alloc, module)?;
     merger.visit_all(module.cells.as_slice())?;
@@ -148,7 +136,8 @@ fn swept(alloc: Global, module: &Module) -> Result<Sweep, Memory>
 
 /// The sweep, and the module that it leaves.
 fn merged(alloc: Global, module: Module) -> Result<Module, Memory>
-    ensures exact { IfOk result (λ after. IsDrivenOnce (record { cells = []; links = «module».links }) «module».cells → «module».processes ≡ [] → after ≡ with_merging «module» (merging_of «module»)) }
+    ensures exact { IfOk result (λ after. IsDrivenOnce (first_of «module») «module».cells → «module».processes ≡ [] →
+        after ≡ with_merging «module» (merging_of «module»)) }
 {
     let sweep = swept(alloc, &module)?;
     let cells = kept_cells(alloc, module.cells.into_vec(), sweep.kept.as_slice())?;

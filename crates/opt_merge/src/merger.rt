@@ -1,18 +1,15 @@
 //! The sweep: one cell after another, over the connections as they are by then.
 
-ghost use Rattle.std.specs.Prelude.{◌≡◌, ◌+◌, ◌∷◌, ◌++◌, ◌<◌, ℕ, List, [], IfOk, OnOk, length, slice_get, Some, None};
+ghost use Rattle.std.specs.Prelude.{◌≡◌, ◌<◌, List, IfOk, OnOk, length, Some, None};
 ghost use Rattle.rtl_ir.specs.declared.cell.Cell.{Cell};
 ghost use Rattle.rtl_ir.specs.declared.module.Link.{Link};
 ghost use Rattle.rtl_ir.specs.declared.wire.Wire.{Wire};
-ghost use Rattle.rtl_ir.specs.Flat.Start.{start_of};
-ghost use Rattle.opt_merge.specs.Merge.{Merging, after_cells, after_kind, stay};
-ghost use Rattle.opt_merge.specs.Entries.{JoinsEntries};
+ghost use Rattle.opt_merge.specs.Merge.{first_of};
+ghost use Rattle.opt_merge.specs.Entries.{JoinsEntries, linked};
 ghost use Rattle.opt_merge.specs.Readers.{readers_of_signal};
-ghost use Rattle.opt_merge.specs.Rows.{row_of};
-ghost use Rattle.opt_merge.specs.State.{IsState, IsDrivenOnce};
-ghost use Rattle.opt_merge.specs.Table.{at_row};
-ghost use Rattle.opt_merge.specs.Traits.{merging_kind, traits_of};
+ghost use Rattle.opt_merge.specs.State.{IsDrivenOnce, IsState};
 ghost use Rattle.opt_merge.specs.View.{IsView};
+ghost use Rattle.opt_merge.specs.Visits.{Visits, VisitsAll, VisitsAs, VisitsFirst, VisitsSame};
 
 use crate::attributes::inits;
 use crate::entries::Entries;
@@ -43,7 +40,8 @@ pub(crate) struct Merger {
 impl Merger {
     /// Before the first cell.
     pub(crate) fn of(alloc: Global, module: &Module) -> Result<Merger, Memory>
-        ensures state { IfOk result (λ merger. IsDrivenOnce (record { cells = []; links = «module».now.links }) «module».now.cells → IsState merger «module».now.wires «module».now.links «module».now.cells 0 (record { cells = []; links = «module».now.links })) }
+        ensures state { IfOk result (λ merger. IsDrivenOnce (first_of «module».now) «module».now.cells →
+            IsState merger «module».now.wires «module».now.links «module».now.cells 0 (first_of «module».now)) }
     {
         let mut view = View {
             alloc,
@@ -66,7 +64,7 @@ impl Merger {
 
     /// The cells in order.
     pub(crate) fn visit_all(&mut self, cells: &[Cell]) -> Result<(), Memory>
-        ensures state { OnOk result ((wires : List Wire) (before : List Link) (s : Merging) → IsState self.old wires before cells.now 0 s → (at : ℕ) × IsState self.new wires before cells.now at (after_cells (start_of wires []) s cells.now)) }
+        ensures state { OnOk result (VisitsAll self.old self.new cells.now) }
     {
         for at in 0..cells.len() {
             self.visit(cells, at)?;
@@ -77,7 +75,7 @@ impl Merger {
     /// The cell at a place.
     fn visit(&mut self, cells: &[Cell], at: usize) -> Result<(), Memory>
         requires inside { at < length cells.now }
-        ensures state { OnOk result ((wires : List Wire) (before : List Link) (s : Merging) (c : Cell) → slice_get cells.now at ≡ Some c → IsState self.old wires before cells.now at s → IsState self.new wires before cells.now (at + 1) (after_kind (start_of wires []) s c (merging_kind c))) }
+        ensures state { OnOk result (Visits self.old self.new cells.now at) }
     {
         match merging_kind(self.alloc, &cells[at])? {
             Some(kind) => {
@@ -93,7 +91,7 @@ impl Merger {
 
     /// The cell stays, and may not be merged with.
     fn stay(&mut self, at: usize) -> Result<(), Memory>
-        ensures state { OnOk result ((wires : List Wire) (before : List Link) (cells : List Cell) (s : Merging) (c : Cell) → slice_get cells at ≡ Some c → merging_kind c ≡ None → IsState self.old wires before cells at s → IsState self.new wires before cells (at + 1) (stay s c)) }
+        ensures state { OnOk result ((cells : List Cell) → VisitsAs self.old self.new cells at None) }
     {
         self.kept.push(at)?;
         Ok(())
@@ -102,7 +100,7 @@ impl Merger {
     /// The cell goes where an earlier one is the same.
     fn compare(&mut self, cells: &[Cell], at: usize, kind: CellKind) -> Result<(), Memory>
         requires inside { at < length cells.now }
-        ensures state { OnOk result ((wires : List Wire) (before : List Link) (s : Merging) (c : Cell) → slice_get cells.now at ≡ Some c → merging_kind c ≡ Some kind → IsState self.old wires before cells.now at s → IsState self.new wires before cells.now (at + 1) (after_kind (start_of wires []) s c (Some kind))) }
+        ensures state { OnOk result (VisitsAs self.old self.new cells.now at (Some kind)) }
     {
         let row = self.entries.view.row(kind, &cells[at])?;
         match self.entries.table.get(row.as_slice()) {
@@ -119,7 +117,7 @@ impl Merger {
 
     /// The cell is the first with this row.
     fn first(&mut self, at: usize, kind: CellKind, row: Vec<u64>) -> Result<(), Memory>
-        ensures state { OnOk result ((wires : List Wire) (before : List Link) (cells : List Cell) (s : Merging) (c : Cell) → slice_get cells at ≡ Some c → merging_kind c ≡ Some kind → row.items ≡ row_of (traits_of (start_of wires []) s.links kind c) → at_row self.old.entries.table row.items ≡ None → IsState self.old wires before cells at s → IsState self.new wires before cells (at + 1) (after_kind (start_of wires []) s c (Some kind))) }
+        ensures state { OnOk result ((cells : List Cell) → VisitsFirst self.old self.new cells at kind row.items) }
     {
         self.entries.note(row, at, kind)?;
         self.kept.push(at)?;
@@ -135,7 +133,7 @@ impl Merger {
         kind: CellKind,
     ) -> Result<(), Memory>
         requires inside { at < length cells.now }
-        ensures state { OnOk result ((wires : List Wire) (before : List Link) (s : Merging) (c : Cell) → slice_get cells.now at ≡ Some c → merging_kind c ≡ Some kind → at_row self.old.entries.table (row_of (traits_of (start_of wires []) s.links kind c)) ≡ Some first → IsState self.old wires before cells.now at s → IsState self.new wires before cells.now (at + 1) (after_kind (start_of wires []) s c (Some kind))) }
+        ensures state { OnOk result (VisitsSame self.old self.new cells.now at kind first) }
     {
         if first >= cells.len() {
             return Ok(());
@@ -150,9 +148,12 @@ impl Merger {
 
     /// The right drives the left, and the cells that read the left read the right.
     fn join(&mut self, cells: &[Cell], left: &[SigBit], right: &[SigBit]) -> Result<(), Memory>
-        ensures links { OnOk result (self.new.links ≡ self.old.links ++ record { left = left.now; right = right.now } ∷ []) }
+        ensures links { OnOk result (self.new.links ≡ linked self.old.links left.now right.now) }
         ensures rest { OnOk result ((self.new.kept ≡ self.old.kept) × (self.new.readers ≡ self.old.readers)) }
-        ensures entries { OnOk result ((wires : List Wire) (links : List Link) → IsView self.old.entries.view wires links → JoinsEntries self.old.entries self.new.entries wires (links ++ record { left = left.now; right = right.now } ∷ []) cells.now (readers_of_signal self.old.readers left.now)) }
+        ensures entries { OnOk result ((wires : List Wire) (links : List Link) →
+            IsView self.old.entries.view wires links →
+            JoinsEntries self.old.entries self.new.entries wires (linked links left.now right.now) cells.now
+            (readers_of_signal self.old.readers left.now)) }
     {
         self.entries.connect(left, right)?;
         self.entries.enter_signal(cells, &self.readers, left)?;

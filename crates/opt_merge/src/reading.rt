@@ -1,6 +1,6 @@
 //! Which cells of a module read each bit.
 
-ghost use Rattle.std.specs.Prelude.{◌≡◌, List, IfOk, OnOk};
+ghost use Rattle.std.specs.Prelude.{List, IfOk, OnOk};
 ghost use Rattle.cell_types.specs.declared.pin_name.PinName.{PinName};
 ghost use Rattle.rtl_ir.specs.declared.module.Link.{Link};
 ghost use Rattle.net_alias.specs.Aliases.{IsAliases};
@@ -8,11 +8,11 @@ ghost use Rattle.opt_merge.specs.Reading.{EachOf, HasReaders, MoreReaders, Reads
 
 use crate::kinds::merging_kind;
 use crate::readers::Readers;
-use crate::signals::{input_pins, signal_at};
+use crate::signals::input_pins;
 use cell_types::PinName;
 use net_alias::Aliases;
 use rtl_bits::Memory;
-use rtl_ir::{Cell, Module, Pin};
+use rtl_ir::{Cell, Module, Pin, signal_at};
 use rtl_sig::SigBit;
 use std::alloc::Global;
 
@@ -22,7 +22,8 @@ pub(crate) fn readers_of(
     aliases: &mut Aliases,
     module: &Module,
 ) -> Result<Readers, Memory>
-    ensures value { IfOk result (λ readers. (links : List Link) → IsAliases aliases.old links → HasReaders links «module».now.cells readers) }
+    ensures value { IfOk result (λ readers. (links : List Link) → IsAliases aliases.old links →
+        HasReaders links «module».now.cells readers) }
     ensures keeps { (links : List Link) → IsAliases aliases.old links → IsAliases aliases.new links }
 {
     let mut readers = Readers::of(alloc, module.wires.as_slice())?;
@@ -37,7 +38,8 @@ fn add_cells(
     aliases: &mut Aliases,
     cells: &[Cell],
 ) -> Result<(), Memory>
-    ensures reads { OnOk result ((links : List Link) → IsAliases aliases.old links → HasReaders links cells.now readers.new) }
+    ensures reads { OnOk result ((links : List Link) → IsAliases aliases.old links →
+        HasReaders links cells.now readers.new) }
     ensures keeps { (links : List Link) → IsAliases aliases.old links → IsAliases aliases.new links }
 {
     for at in 0..cells.len() {
@@ -54,7 +56,8 @@ fn add_cell(
     cell: &Cell,
     at: usize,
 ) -> Result<(), Memory>
-    ensures reads { OnOk result ((links : List Link) → IsAliases aliases.old links → ReadsCell readers.new links at cell.now) }
+    ensures reads { OnOk result ((links : List Link) → IsAliases aliases.old links →
+        ReadsCell readers.new links at cell.now) }
     ensures more { OnOk result (MoreReaders readers.old readers.new) }
     ensures keeps { (links : List Link) → IsAliases aliases.old links → IsAliases aliases.new links }
 {
@@ -75,7 +78,8 @@ fn add_inputs(
     pins: &[Pin],
     at: usize,
 ) -> Result<(), Memory>
-    ensures reads { OnOk result ((links : List Link) → IsAliases aliases.old links → EachOf (ReadsPin readers.new links at pins.now) names.now) }
+    ensures reads { OnOk result ((links : List Link) → IsAliases aliases.old links →
+        EachOf (ReadsPin readers.new links at pins.now) names.now) }
     ensures more { OnOk result (MoreReaders readers.old readers.new) }
     ensures keeps { (links : List Link) → IsAliases aliases.old links → IsAliases aliases.new links }
 {
@@ -92,7 +96,8 @@ fn add_signal(
     signal: &[SigBit],
     at: usize,
 ) -> Result<(), Memory>
-    ensures reads { OnOk result ((links : List Link) → IsAliases aliases.old links → EachOf (ReadsBit readers.new links at) signal.now) }
+    ensures reads { OnOk result ((links : List Link) → IsAliases aliases.old links →
+        EachOf (ReadsBit readers.new links at) signal.now) }
     ensures more { OnOk result (MoreReaders readers.old readers.new) }
     ensures keeps { (links : List Link) → IsAliases aliases.old links → IsAliases aliases.new links }
 {

@@ -1,23 +1,22 @@
 //! What a cell is compared by, as a row of numbers.
 
-ghost use Rattle.std.specs.Prelude.{◌≡◌, ◌++◌, ◌∷◌, List, [], IfOk, OnOk, length, map, flat_map};
+ghost use Rattle.std.specs.Prelude.{◌≡◌, ◌++◌, ◌∷◌, List, [], IfOk, OnOk, length, map};
 ghost use Rattle.rtl_ir.specs.declared.module.Link.{Link};
 ghost use Rattle.rtl_ir.specs.declared.wire.Wire.{Wire};
 ghost use Rattle.rtl_ir.specs.Flat.Cell.{cell_shape};
 ghost use Rattle.rtl_ir.specs.Flat.Start.{start_of};
 ghost use Rattle.rtl_ir.specs.Follow.{follow};
 ghost use Rattle.net_alias.specs.Aliases.{IsAliases};
-ghost use Rattle.opt_merge.specs.Traits.{bit_number, flag_number, inputs_of, level_number, output_of, plain_numbers, shape_numbers, starts_of, traits_of};
+ghost use Rattle.opt_merge.specs.Traits.{bit_number, inputs_of, level_number, output_of, plain_numbers, shape_numbers, starts_of, traits_of};
 ghost use Rattle.opt_merge.specs.Rows.{bits_numbers, inits_of, lists_numbers, place_numbers, row_of, signal_numbers, signals_numbers, sized};
-ghost use Rattle.opt_merge.specs.View.{IsView};
+ghost use Rattle.opt_merge.specs.View.{IsView, StaysView};
 
 use crate::attributes::start;
-use crate::signals::{input_pins, output_of, signal_at};
-use cell_types::{CellFault, CellKind, Level, PinName, Shape};
+use crate::signals::{input_pins, output_of};
+use cell_types::{CellKind, Level, PinName, Shape};
 use net_alias::Aliases;
-use net_index::cell_shape;
 use rtl_bits::{Bit, Bits, Memory};
-use rtl_ir::{Cell, Pin};
+use rtl_ir::{Cell, Pin, fitting_shape, signal_at};
 use rtl_sig::SigBit;
 use std::alloc::Global;
 
@@ -35,8 +34,9 @@ pub(crate) struct View {
 impl View {
     /// What a cell of a kind is compared by. A cell that does not fit its kind is taken for want of memory.
     pub(crate) fn row(&mut self, kind: CellKind, cell: &Cell) -> Result<Vec<u64>, Memory>
-        ensures value { IfOk result (λ row. (wires : List Wire) (links : List Link) → IsView self.old wires links → row.items ≡ row_of (traits_of (start_of wires []) links kind cell.now)) }
-        ensures keeps { (wires : List Wire) (links : List Link) → IsView self.old wires links → IsView self.new wires links }
+        ensures value { IfOk result (λ row. (wires : List Wire) (links : List Link) → IsView self.old wires links →
+            row.items ≡ row_of (traits_of (start_of wires []) links kind cell.now)) }
+        ensures keeps { StaysView self.old self.new }
     {
         let mut row = own_row(self.alloc, kind, cell)?;
         push_inputs(
@@ -52,23 +52,14 @@ impl View {
 
 /// The row of what the cell itself says: the width of its output, its type and its parameters.
 fn own_row(alloc: Global, kind: CellKind, cell: &Cell) -> Result<Vec<u64>, Memory>
-    ensures value { IfOk result (λ row. row.items ≡ length (output_of kind cell.now) ∷ (sized cell.now.kind_name ++ lists_numbers (shape_numbers (cell_shape kind cell.now.params)))) }
+    ensures value { IfOk result (λ row. row.items ≡ length (output_of kind cell.now) ∷
+        (sized cell.now.kind_name ++ lists_numbers (shape_numbers (cell_shape kind cell.now.params)))) }
 {
     let mut row = Vec::with_capacity(alloc, GATE_ROW)?;
     row.push(output_of(kind, cell).len() as u64)?;
     push_bytes(&mut row, cell.kind_name.as_slice())?;
-    push_shape(&mut row, &shape_of(alloc, kind, cell)?)?;
+    push_shape(&mut row, &fitting_shape(alloc, kind, cell)?)?;
     Ok(row)
-}
-
-/// The shape of the cell.
-fn shape_of(alloc: Global, kind: CellKind, cell: &Cell) -> Result<Shape, Memory>
-    ensures value { IfOk result (λ shape. shape ≡ cell_shape kind cell.now.params) }
-{
-    match cell_shape(alloc, kind, cell) {
-        Ok(shape) => Ok(shape),
-        Err(_) => Err(Memory),
-    }
 }
 
 /// The bytes behind their length.
@@ -145,7 +136,8 @@ fn push_inputs(
     names: &[PinName],
     pins: &[Pin],
 ) -> Result<(), Memory>
-    ensures ok { OnOk result ((links : List Link) → IsAliases aliases.old links → row.new.items ≡ row.old.items ++ signals_numbers (inputs_of links names.now pins.now)) }
+    ensures ok { OnOk result ((links : List Link) → IsAliases aliases.old links →
+        row.new.items ≡ row.old.items ++ signals_numbers (inputs_of links names.now pins.now)) }
     ensures keeps { (links : List Link) → IsAliases aliases.old links → IsAliases aliases.new links }
 {
     row.push(names.len() as u64)?;
@@ -157,7 +149,8 @@ fn push_inputs(
 
 /// The signal, followed, behind its length.
 fn push_signal(row: &mut Vec<u64>, aliases: &mut Aliases, signal: &[SigBit]) -> Result<(), Memory>
-    ensures ok { OnOk result ((links : List Link) → IsAliases aliases.old links → row.new.items ≡ row.old.items ++ signal_numbers (map (follow links) signal.now)) }
+    ensures ok { OnOk result ((links : List Link) → IsAliases aliases.old links →
+        row.new.items ≡ row.old.items ++ signal_numbers (map (follow links) signal.now)) }
     ensures keeps { (links : List Link) → IsAliases aliases.old links → IsAliases aliases.new links }
 {
     row.push(signal.len() as u64)?;
@@ -192,7 +185,8 @@ fn push_starts(
     kind: CellKind,
     cell: &Cell,
 ) -> Result<(), Memory>
-    ensures ok { OnOk result ((wires : List Wire) → inits.now ≡ inits_of wires → row.new.items ≡ row.old.items ++ bits_numbers (starts_of (start_of wires []) kind cell.now)) }
+    ensures ok { OnOk result ((wires : List Wire) → inits.now ≡ inits_of wires →
+        row.new.items ≡ row.old.items ++ bits_numbers (starts_of (start_of wires []) kind cell.now)) }
 {
     match kind {
         CellKind::Storage(_) | CellKind::StorageGate(_) => push_start_bits(
@@ -209,7 +203,8 @@ fn push_starts(
 
 /// The start values of these bits, behind their number.
 fn push_start_bits(row: &mut Vec<u64>, inits: &[Bits], signal: &[SigBit]) -> Result<(), Memory>
-    ensures ok { OnOk result ((wires : List Wire) → inits.now ≡ inits_of wires → row.new.items ≡ row.old.items ++ bits_numbers (map (start_of wires []) signal.now)) }
+    ensures ok { OnOk result ((wires : List Wire) → inits.now ≡ inits_of wires →
+        row.new.items ≡ row.old.items ++ bits_numbers (map (start_of wires []) signal.now)) }
 {
     row.push(signal.len() as u64)?;
     for bit in signal {

@@ -5,21 +5,8 @@ ghost use Rattle.rtl_ir.specs.Parameters.{signal_at};
 ghost use Rattle.opt_merge.specs.Traits.{input_pins, output_of};
 
 use cell_types::{CellKind, PinName};
-use net_index::output_pin;
-use rtl_ir::{Cell, Pin};
+use rtl_ir::{Cell, output_pin, signal_at};
 use rtl_sig::SigBit;
-
-/// The signal at the pin of this name, no bits where there is none.
-pub(crate) fn signal_at<'a>(pins: &'a [Pin], name: &[u8]) -> &'a [SigBit]
-    ensures value { result.now ≡ signal_at pins.now name.now }
-{
-    for pin in pins {
-        if pin.name.as_slice() == name {
-            return pin.sig.as_slice();
-        }
-    }
-    &[]
-}
 
 /// The signal at the output of a cell of a kind.
 pub(crate) fn output_of(kind: CellKind, cell: &Cell) -> &[SigBit]

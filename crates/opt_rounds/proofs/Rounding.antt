@@ -1,12 +1,10 @@
 -- Rounds of the three passes, one after another.
-use Rattle.std.proofs.Common.{◌≡◌, ℕ, zero, suc, ◌+◌, ◌-◌, ◌<◌, ◌≤◌, [], Bool, true, false, cond, Result, Ok, Err, refl, sym, ◌∙◌, ap, subst, arith}
-use Rattle.std.specs.Prelude.{IfOk, ◌&&◌}
+use Rattle.std.proofs.Common.{◌≡◌, ℕ, zero, suc, ◌+◌, ◌-◌, ◌<◌, ◌≤◌, [], Bool, true, false, cond, refl, sym, ◌∙◌, ap, arith}
+use Rattle.std.specs.Prelude.{◌&&◌}
 use Rattle.std.proofs.lemmas.Bool.{and_parts}
 use Rattle.rtl_ir.specs.Types as types
 use Rattle.rtl_ir.specs.declared.module.Module.{Module}
 use Rattle.rtl_ir.specs.declared.ports.PortTable.{PortTable}
-use Rattle.rtl_bits.specs.declared.memory.Memory.{Memory}
-use Rattle.net_model.specs.Refine.{RefinesIn}
 use Rattle.pass_laws.specs.Pass.{IsPass}
 use Rattle.pass_laws.specs.Ready.{IsReady}
 use Rattle.pass_laws.proofs.Passes.{IsPass_refl, IsPass_trans}
@@ -116,21 +114,3 @@ module _ (table : PortTable) where
 
   pub round_ready : (m : Module) → IsReady P m → IsReady P (round_of P m)
   round_ready m h = (round_pass m h).ready h
-
--- the clauses of what is answered
-module _ (table : PortTable) (m : Module) (r : Result Module Memory) (is : IfOk r (λ after. after ≡ opt_of (types.table_ports table.modules) m)) (h : IsReady (types.table_ports table.modules) m) where
-  so : (Q : Module → Type 0) → Q (opt_of (types.table_ports table.modules) m) → IfOk r Q
-  so Q q = by r is
-    where
-      by : (r : Result Module Memory) → IfOk r (λ after. after ≡ opt_of (types.table_ports table.modules) m) → IfOk r Q
-      by (Ok after) e = subst Q (sym e) q
-      by (Err fault) e = tt
-
-  pub answers_refine : IfOk r (λ after. RefinesIn m after table)
-  answers_refine = so (λ after. RefinesIn m after table) (opt_pass table m h).refines
-
-  pub answers_ready : IfOk r (IsReady (types.table_ports table.modules))
-  answers_ready = so (IsReady (types.table_ports table.modules)) ((opt_pass table m h).ready h)
-
-  pub answers_pass : IfOk r (IsPass table m)
-  answers_pass = so (IsPass table m) (opt_pass table m h)

@@ -4,10 +4,7 @@
 pub mod laws;
 
 ghost use Rattle.std.specs.Prelude.{◌≡◌, ◌&&◌, true, IfOk};
-ghost use Rattle.rtl_ir.specs.Flat.Cell.{instances};
-ghost use Rattle.rtl_ir.specs.Ports.{ports_of};
 ghost use Rattle.rtl_ir.specs.Types.{table_ports};
-ghost use Rattle.net_model.specs.Refine.{RefinesIn};
 ghost use Rattle.pass_laws.specs.Pass.{IsPass};
 ghost use Rattle.pass_laws.specs.Ready.{IsReady};
 ghost use Rattle.opt_expr.specs.Sweep.{expr_of};
@@ -17,21 +14,17 @@ ghost use Rattle.opt_rounds.specs.Rounds.{opt_of, round_of};
 
 use opt_expr::Turn;
 use rtl_bits::Memory;
-use rtl_ir::{Module, PortTable};
-use rtl_same::Same;
+use rtl_ir::{Module, PortTable, Same};
 use std::alloc::Global;
 
 /// The most rounds.
 const MAX_ROUNDS: u32 = 32;
 
-/// The module after at most 32 rounds of `opt_expr`, `opt_merge` and `opt_clean`, up to the first that changes nothing. In
-/// the Yosys manual, "Optimization passes", the section "The opt pass".
-#[tactic(auto, using(crate::proofs::Rounding::answers_refine, crate::proofs::Rounding::answers_pass))]
+/// The module after at most 32 rounds of `opt_expr`, `opt_merge` and `opt_clean`, up to the first that changes nothing.
+/// In the Yosys manual, "Optimization passes", the section "The opt pass".
 pub fn apply(alloc: Global, module: Module, ports: &PortTable) -> Result<Module, Memory>
     requires ready { IsReady (table_ports ports.now.modules) «module» }
     ensures exact { IfOk result (λ after. after ≡ opt_of (table_ports ports.now.modules) «module») }
-    ensures refines { IfOk result (λ after. RefinesIn «module» after ports.now) }
-    ensures well_formed { IfOk result (IsReady (table_ports ports.now.modules)) }
     ensures pass { IfOk result (IsPass ports.now «module») }
 {
     rounds(alloc, module, ports)

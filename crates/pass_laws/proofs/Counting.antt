@@ -11,7 +11,8 @@ use Rattle.rtl_sig.specs.declared.sig.WireBit.{WireBit}
 use Rattle.rtl_ir.specs.Drivers.{Drive, FromCell, Source, cell_drives, drive_count, drives_of, link_drives, pin_drives, places_by, port_drives, rule_drives, tree_drives}
 use Rattle.rtl_ir.specs.Fault.{Fault, TwoDrivers, fault_if}
 use Rattle.rtl_ir.specs.Faults.Bits.{bit_faults, bits_faults, faults_of_two}
-use Rattle.rtl_ir.specs.Follow.{Join, all_joins, joins}
+use Rattle.rtl_ir.specs.Follow.{all_joins, joins}
+use Rattle.rtl_ir.specs.declared.follow.Join.{Join}
 use Rattle.rtl_ir.specs.Outputs.{drives_pin}
 use Rattle.rtl_ir.specs.Signals.{same_bit, wire_bits}
 use Rattle.rtl_ir.specs.Types.{CellType, Ports, cell_type}

@@ -14,3 +14,10 @@ pub mod Widening
 pub mod Driving
 pub mod Giving
 pub mod Promised
+pub mod PinWidths
+pub mod Finding
+pub mod CellReads
+pub mod Once
+pub mod Ports
+pub mod SamePlaces
+pub mod CellNumbers

@@ -80,7 +80,7 @@ pub drives_own : (kind : CellKind) (name : PinName) → output_pin kind ≡ Some
 drives_own kind name e pin = ap (λ o. option_map_or (λ n. bytes_eq pin (pin_text n)) o false) e
 
 -- the kinds of cells have the pins that they drive
-word_output : (kind : WordKind) → In Y (word_pins kind)
+pub word_output : (kind : WordKind) → In Y (word_pins kind)
 word_output (Words.Unary _) = inr (inl refl)
 word_output (Words.Fold _) = inr (inl refl)
 word_output Words.Mux = inr (inr (inr (inl refl)))
@@ -89,7 +89,7 @@ word_output Words.Slice = inr (inl refl)
 word_output Words.Concat = inr (inr (inl refl))
 word_output _ = inr (inr (inl refl))
 
-gate_output : (kind : GateKind) → In Y (gate_pins kind)
+pub gate_output : (kind : GateKind) → In Y (gate_pins kind)
 gate_output Gates.Buf = inr (inl refl)
 gate_output Gates.Not = inr (inl refl)
 gate_output Gates.Mux = inr (inr (inr (inl refl)))

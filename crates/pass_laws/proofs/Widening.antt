@@ -48,7 +48,7 @@ inner_faults id numbers (f ∷ fs) h =
     ap (λ r. fault_if (is_inout r || (is_port r && (int_lt f.number (pos 1) || list_any (int_eq f.number) numbers))) (BadPort (spot id f.name)) ++ wire_faults id (if is_port r then f.number ∷ numbers else numbers) fs) (h f (inl refl))
     ∙ inner_faults id numbers fs (λ x i. h x (inr i))
 
-more_faults : (id : List ℕ) (numbers : List ℤ) (ws fs : List Wire) → AreInner fs → wire_faults id numbers (ws ++ fs) ≡ wire_faults id numbers ws
+pub more_faults : (id : List ℕ) (numbers : List ℤ) (ws fs : List Wire) → AreInner fs → wire_faults id numbers (ws ++ fs) ≡ wire_faults id numbers ws
 more_faults id numbers [] fs h = inner_faults id numbers fs h
 more_faults id numbers (w ∷ ws) fs h =
     ap (λ z. fault_if (is_bad_port numbers w) (BadPort (spot id w.name)) ++ z) (more_faults id (with_number numbers w) ws fs h)
@@ -58,7 +58,7 @@ inner_drives n [] h = refl
 inner_drives n (f ∷ fs) h =
     ap (λ r. (if is_input r then all_by FromPort (bits_of_wire n f.width) else []) ++ port_drives (n + 1) fs) (h f (inl refl)) ∙ inner_drives (n + 1) fs (λ x i. h x (inr i))
 
-more_drives : (n : ℕ) (ws fs : List Wire) → AreInner fs → port_drives n (ws ++ fs) ≡ port_drives n ws
+pub more_drives : (n : ℕ) (ws fs : List Wire) → AreInner fs → port_drives n (ws ++ fs) ≡ port_drives n ws
 more_drives n [] fs h = inner_drives n fs h
 more_drives n (w ∷ ws) fs h =
     ap (λ z. (if is_input w.role then all_by FromPort (bits_of_wire n w.width) else []) ++ z) (more_drives (n + 1) ws fs h)

@@ -3,3 +3,4 @@ pub mod Pass
 pub mod Stays
 pub mod Bits
 pub mod Replaces
+pub mod OwnNames

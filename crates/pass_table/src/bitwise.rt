@@ -2,9 +2,9 @@
 
 use cell_types::{CellKind, kind_of};
 use map_gates::expand;
-use net_index::{Builder, PassFault, cell_shape};
+use net_index::{Builder, PassFault};
 use rtl_bits::{Copied, Memory, Seq};
-use rtl_ir::{Cell, Design, Module};
+use rtl_ir::{Cell, Design, Module, cell_shape};
 use std::alloc::Global;
 use std::collections::VecDeque;
 

@@ -65,48 +65,34 @@ fn module_text(alloc: Global, large: Large, gates: u32) -> Result<Text, Memory> 
     Ok(text)
 }
 
-/// How many cells the first module of the text has after the word.
-fn cells_of(alloc: Global, text: &[u8], word: &str) -> Result<Option<usize>, Memory> {
+/// Whether the first module of the text has so many cells after the word.
+fn has_cells(alloc: Global, text: &[u8], word: &str, cells: usize) -> Result<bool, Memory> {
     let Some(netlist) = netlist_of(alloc, text, word.as_bytes())? else {
-        return Ok(None);
+        return Ok(false);
     };
-    Ok(
-        netlist
-            .modules
-            .as_slice()
-            .first()
-            .map(|module| module.cells.as_slice().len()),
-    )
+    let first = netlist.modules.as_slice().first();
+    Ok(first.is_some_and(|module| module.cells.as_slice().len() == cells))
 }
 
-/// How many cells a module of so many gates has after the word.
-fn cells_after(
-    alloc: Global,
-    large: Large,
-    gates: u32,
-    word: &str,
-) -> Result<Option<usize>, Memory> {
-    let text = module_text(alloc, large, gates)?;
-    cells_of(alloc, text.as_slice(), word)
+/// Whether nothing is left of 100,000 gates in a chain to nothing, cleaned.
+pub fn is_cleaned(alloc: Global) -> Result<bool, Memory> {
+    let text = module_text(alloc, Large::IdleChain, 100_000)?;
+    has_cells(alloc, text.as_slice(), "opt_clean", 0)
 }
 
-/// How many cells are left of the large modules.
-#[derive(Drop)]
-pub struct Left {
-    pub cleaned: Option<usize>,
-    pub folded: Option<usize>,
-    pub merged: Option<usize>,
-    /// How many cells the large memory becomes: a match, a choice and a register for each word, and the read tree.
-    pub expanded: Option<usize>,
+/// Whether nothing is left of 200,000 gates that pass a bit on, folded.
+pub fn is_folded(alloc: Global) -> Result<bool, Memory> {
+    let text = module_text(alloc, Large::Passing, 200_000)?;
+    has_cells(alloc, text.as_slice(), "opt_expr", 0)
 }
 
-/// How many cells are left of 100,000 gates in a chain to nothing, cleaned, of 200,000 gates that pass a bit on, folded, and
-/// of 50,000 gates that are the same, merged; and how many a memory becomes.
-pub fn left_of(alloc: Global) -> Result<Left, Memory> {
-    Ok(Left {
-        cleaned: cells_after(alloc, Large::IdleChain, 100_000, "opt_clean")?,
-        folded: cells_after(alloc, Large::Passing, 200_000, "opt_expr")?,
-        merged: cells_after(alloc, Large::Equal, 50_000, "opt_merge")?,
-        expanded: cells_of(alloc, MEMORY, "memory")?,
-    })
+/// Whether one is left of 50,000 gates that are the same, merged.
+pub fn is_merged(alloc: Global) -> Result<bool, Memory> {
+    let text = module_text(alloc, Large::Equal, 50_000)?;
+    has_cells(alloc, text.as_slice(), "opt_merge", 1)
+}
+
+/// Whether the large memory becomes a match, a choice and a register for each word, and the read tree.
+pub fn is_expanded(alloc: Global) -> Result<bool, Memory> {
+    has_cells(alloc, MEMORY, "memory", 262_143)
 }

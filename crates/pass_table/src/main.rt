@@ -6,33 +6,29 @@ mod large;
 mod passes;
 mod rows;
 
-use large::{Left, left_of};
-use rows::{Tally, tally_of};
+use rtl_bits::Memory;
 use std::process::ExitCode;
-use synth_io::{StdSource, read_input};
+use table_rows::{TEXTS, Tally, report};
 
-/// Runs over the table at standard input and over the large modules, and says what they came to.
+/// Counts the large modules.
+fn count_large(rt: &HostRuntime, tally: &mut Tally) -> Result<(), Memory> {
+    let alloc = rt.alloc();
+    let table = "large";
+    tally.count(table, b"a chain to nothing", large::is_cleaned(alloc)?)?;
+    tally.count(table, b"gates that pass a bit on", large::is_folded(alloc)?)?;
+    tally.count(table, b"equal gates", large::is_merged(alloc)?)?;
+    tally.count(table, b"a memory", large::is_expanded(alloc)?)
+}
+
+/// Counts the rows at standard input, and the large modules.
+fn tally_of(rt: &HostRuntime) -> Result<Tally, Memory> {
+    let mut tally = Tally::make(rt.alloc());
+    tally.read("standard input", rt.reader(), TEXTS, rows::holds)?;
+    count_large(rt, &mut tally)?;
+    Ok(tally)
+}
+
+/// Goes through the tables, and says how many rows held.
 fn main(rt: HostRuntime) -> ExitCode {
-    let Ok(table) = read_input(rt.alloc(), &mut StdSource::make(rt.reader())) else {
-        return ExitCode::FAILURE;
-    };
-    let Ok(tally) = tally_of(rt.alloc(), table.as_slice()) else {
-        return ExitCode::FAILURE;
-    };
-    let Ok(left) = left_of(rt.alloc()) else {
-        return ExitCode::FAILURE;
-    };
-    let Tally { rows, bad } = tally;
-    let Left {
-        cleaned,
-        folded,
-        merged,
-        expanded,
-    } = left;
-    match println!(rt;
-        "{rows} rows of passes, {bad} of them otherwise than told; of large modules are left: {cleaned:?}, {folded:?}, {merged:?}; a large memory becomes {expanded:?}"
-    ) {
-        Ok(()) => ExitCode::SUCCESS,
-        Err(_) => ExitCode::FAILURE,
-    }
+    report(&rt, tally_of(&rt))
 }

@@ -1,7 +1,7 @@
 //! A script of `proc` and one more word over the design of a text, or `memory` and gates of bitwise cells.
 
 ghost use Rattle.std.specs.Prelude.{◌≡◌, ◌<◌, [], ◌∷◌, IfOk, length, true};
-ghost use Rattle.rtl_trip.specs.Readable.{IsReadable};
+ghost use Rattle.rtl_write.specs.Readable.{IsReadable};
 ghost use Rattle.script_core.specs.declared.word.Word.TheVariants.{Proc, Opt, Memory as WordMemory};
 
 use crate::bitwise::with_gates;
@@ -107,7 +107,7 @@ fn checked_after(alloc: Global, design: Design, script: &Script) -> Result<Optio
 }
 
 /// The design of the text after the script, where the text is one of a design without a fault.
-#[tactic(auto, using(rtl_trip::proofs::Kept::readable))]
+#[tactic(auto, using(rtl_write::proofs::Kept::readable))]
 fn text_after(alloc: Global, text: &[u8], script: &Script) -> Result<Option<Design>, Memory> {
     match read(alloc, text) {
         Ok(design) => checked_after(alloc, design, script),

@@ -9,7 +9,8 @@ use Rattle.rtl_ir.specs.declared.module.Link.{Link}
 use Rattle.rtl_ir.specs.declared.cell.Cell.{Cell}
 use Rattle.rtl_ir.specs.Build.{Building, made_name, new_link}
 use Rattle.rtl_ir.specs.Flat.Process.{may_hold}
-use Rattle.rtl_ir.specs.Follow.{Join, all_joins, joins}
+use Rattle.rtl_ir.specs.Follow.{all_joins, joins}
+use Rattle.rtl_ir.specs.declared.follow.Join.{Join}
 use Rattle.rtl_ir.specs.Tree.{CaseView}
 use Rattle.net_index.specs.Builder.{PassesLimit}
 use Rattle.net_model.specs.Proc.Latch.{Side, ForData, ForEnable, latch_cell}

@@ -15,6 +15,7 @@ use Rattle.net_model.specs.Proc.Mux.{lowest}
 use Rattle.match_cells.specs.Numbers.{HasSwitches, behind_case, behind_switch, case_behind}
 use Rattle.match_cells.specs.Trees.{Numbered, with_case}
 use Rattle.match_cells.specs.Trees as matches
+use Rattle.process_trees.specs.Reaching.{AreReaching}
 use Rattle.proc_latch.specs.Bits.{AreListed}
 use Rattle.proc_latch.specs.Givens.{case_given, given_in, has_between, value_at}
 use Rattle.proc_latch.specs.Sides.{side_of}
@@ -121,6 +122,7 @@ pub record AreTables (root : CaseView) (t : Tables) : Type 0 where
   pub bits : t.bits.list.items ≡ tree_bits root
   pub listed : AreListed t.bits
   pub given : (b : WireBit) → given_in t.sources b ≡ case_given b 0 root
+  pub reaching : AreReaching t.reaching root (tree_bits root)
 
 -- leaves are read by the tables of the tree
 abbrev pub IsRead : Reading → Type 0

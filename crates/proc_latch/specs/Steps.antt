@@ -8,7 +8,8 @@ use Rattle.rtl_ir.specs.declared.module.Link.{Link}
 use Rattle.rtl_ir.specs.Assigns.{tree_bits}
 use Rattle.rtl_ir.specs.Build.{Building, new_link}
 use Rattle.rtl_ir.specs.Flat.Process.{may_hold}
-use Rattle.rtl_ir.specs.Follow.{Join, all_joins}
+use Rattle.rtl_ir.specs.Follow.{all_joins}
+use Rattle.rtl_ir.specs.declared.follow.Join.{Join}
 use Rattle.rtl_ir.specs.Rules.{has_line, is_init}
 use Rattle.rtl_ir.specs.Tree.{CaseView}
 use Rattle.net_model.specs.Proc.Latch.{Side, ForData, ForEnable, latch_cell}

@@ -25,7 +25,6 @@ use rtl_bits::{Memory, Text};
 use rtl_ir::{Case, Link, Pin};
 use rtl_sig::{SigBit, SigSpec, WireBit};
 use std::alloc::Global;
-use tree_leaves::may_hold;
 
 impl Chains {
     /// The bits of the lines, in order.
@@ -98,13 +97,11 @@ impl Chains {
         ensures over { result ≡ Err PassFault.Over → PassesLimit (always_step root.now (tree_bits root.now) (record { bit = bit; source = source }) (seen self.old.trees)).building }
         ensures within { IsInLimits self.old.trees.builder → OnOk result (IsInLimits self.new.trees.builder) }
     {
-        if may_hold(
-            self.trees.alloc,
-            root,
-            tables.bits.list.as_slice(),
-            bit,
-            source,
-        )? {
+        let bits = tables.bits.list.as_slice();
+        if tables
+            .reaching
+            .may_hold(self.trees.alloc, bits, bit, source)?
+        {
             self.latch_step(root, tables, bit, source)
         } else {
             self.connect(bit, source)

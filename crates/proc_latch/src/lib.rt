@@ -12,21 +12,18 @@ mod sources;
 mod walk;
 
 ghost use Rattle.std.specs.Prelude.{◌≡◌, Err, IfOk, OnOk};
-ghost use Rattle.rtl_ir.specs.Flat.Cell.{Ports, instances};
-ghost use Rattle.rtl_ir.specs.Ports.{ports_of};
 ghost use Rattle.rtl_ir.specs.Scope.{with_processes};
 ghost use Rattle.rtl_ir.specs.Types.{table_ports};
 ghost use Rattle.net_index.specs.Builder.{IsInLimits};
 ghost use Rattle.net_model.specs.Proc.Latch.{proc_latch_of};
-ghost use Rattle.net_model.specs.Refine.{IsWellDriven, RefinesIn};
+ghost use Rattle.pass_laws.specs.Pass.{KeepsInterface};
 ghost use Rattle.proc_laws.specs.Ready.{AreRuled, HaveNoStarts, IsReady};
-ghost use Rattle.proc_laws.specs.Step.{StaysReady};
-ghost use Rattle.sync_laws.specs.Kinds.{HaveNoAlways, HaveNoTwoEdges, HaveNoWrites};
+ghost use Rattle.proc_laws.specs.Step.{IsStep, StaysReady};
+ghost use Rattle.proc_laws.specs.Kinds.{HaveNoAlways, HaveNoTwoEdges, HaveNoWrites};
 ghost use Rattle.proc_latch.specs.Limits.{LatchPassesLimit, latched};
 
 use crate::process::{latches_step, without_always};
-use match_cells::check_limits;
-use net_index::{Builder, PassFault};
+use net_index::{Builder, PassFault, check_limits};
 use rtl_bits::{Copied, Seq};
 use rtl_ir::{Module, PortTable};
 use std::alloc::Global;
@@ -40,13 +37,9 @@ pub fn apply(alloc: Global, module: &Module, ports: &PortTable) -> Result<Module
     ensures exact { IfOk result (λ after. after ≡ proc_latch_of «module».now) }
     ensures over { result ≡ Err PassFault.Over → LatchPassesLimit «module».now }
     ensures within { OnOk result (IsInLimits (latched «module».now)) }
-    ensures refines { IfOk result (λ after. HaveNoTwoEdges «module».now → RefinesIn «module».now after ports.now) }
-    ensures well_driven { IfOk result (λ after. (over : Ports) → HaveNoTwoEdges «module».now →
-        IsWellDriven over «module».now → IsWellDriven over after) }
-    ensures well_formed { IfOk result (λ after. HaveNoTwoEdges «module».now → StaysReady ports.now «module».now after) }
-    ensures same_id { IfOk result (λ after. after.id ≡ «module».now.id) }
-    ensures same_ports { IfOk result (λ after. ports_of after.wires ≡ ports_of «module».now.wires) }
-    ensures same_instances { IfOk result (λ after. instances after.cells ≡ instances «module».now.cells) }
+    ensures kept { IfOk result (KeepsInterface «module».now) }
+    ensures step { HaveNoTwoEdges «module».now → IfOk result (IsStep ports.now «module».now) }
+    ensures ready { HaveNoTwoEdges «module».now → IfOk result (StaysReady ports.now «module».now) }
     ensures ruled { IfOk result AreRuled }
     ensures no_always { IfOk result HaveNoAlways }
     ensures no_starts { HaveNoStarts «module».now → IfOk result HaveNoStarts }

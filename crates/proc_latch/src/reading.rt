@@ -7,6 +7,7 @@ use crate::bits::{TreeBits, tree_bits};
 use crate::side::Side;
 use crate::sources::Sources;
 use match_cells::nodes_behind;
+use process_trees::Reaching;
 use rtl_bits::Memory;
 use rtl_ir::Case;
 use rtl_sig::WireBit;
@@ -19,6 +20,8 @@ pub(crate) struct Tables {
     pub(crate) nodes: Vec<usize>,
     pub(crate) bits: TreeBits,
     pub(crate) sources: Sources,
+    /// What the tree bits may be given last.
+    pub(crate) reaching: Reaching,
 }
 
 /// How leaves are read: of which tree, on which side, and for which bit of a latch.
@@ -34,9 +37,12 @@ pub(crate) struct Reading<'a> {
 pub(crate) fn tables_of(alloc: Global, root: &Case) -> Result<Tables, Memory>
     ensures tables { IfOk result (AreTables root.now) }
 {
+    let bits = tree_bits(alloc, root)?;
+    let reaching = Reaching::of(alloc, root, bits.list.as_slice())?;
     Ok(Tables {
         nodes: nodes_behind(alloc, root)?,
-        bits: tree_bits(alloc, root)?,
+        bits,
         sources: Sources::of(alloc, root)?,
+        reaching,
     })
 }

@@ -8,7 +8,8 @@ use Rattle.rtl_sig.specs.declared.sig.WireBit.{WireBit}
 use Rattle.rtl_ir.specs.Assigns.{left_bits, tree_bits}
 use Rattle.rtl_ir.specs.Faults.TwoEdges.{EdgeBit, edge_bit}
 use Rattle.rtl_ir.specs.Flat.Process.{edge_trigger, level_trigger}
-use Rattle.rtl_ir.specs.Follow.{Join, all_joins, joins, source_at}
+use Rattle.rtl_ir.specs.Follow.{all_joins, joins, source_at}
+use Rattle.rtl_ir.specs.declared.follow.Join.{Join}
 use Rattle.rtl_ir.specs.Rules.{acting_rules, beyond, updated_bits, updated_by, without_bit}
 use Rattle.rtl_ir.specs.Signals.{same_bit, wire_bits}
 use Rattle.rtl_ir.specs.declared.module.Link.{Link}
@@ -18,10 +19,10 @@ use Rattle.rtl_ir.specs.declared.process.Process.{Process}
 use Rattle.rtl_ir.specs.declared.process.SyncRule.{SyncRule}
 use Rattle.net_model.proofs.Members.{map-append}
 use Rattle.pass_laws.proofs.Counting.{count, count_more}
-use Rattle.proc_laws.specs.Rebuilds.{checked_bits, driven_bits, join_bits, loaded_bits, one_rule_bits, raced_bits, rules_bits}
-use Rattle.proc_laws.proofs.CountingBits.{bit_same}
-use Rattle.proc_laws.proofs.CountingItems.{times}
-use Rattle.proc_laws.proofs.RebuildBits.{two_cases}
+use Rattle.build_laws.specs.Rebuilds.{checked_bits, driven_bits, join_bits, loaded_bits, one_rule_bits, raced_bits, rules_bits}
+use Rattle.pass_laws.proofs.Once.{bit_same}
+use Rattle.build_laws.proofs.CountingItems.{times}
+use Rattle.build_laws.proofs.RebuildBits.{two_cases}
 
 module _ (x : WireBit) where
   -- places of lines are among the bits of the left sides
@@ -31,7 +32,7 @@ module _ (x : WireBit) where
   joins_few (Fixed c ∷ ls) (r ∷ rs) = joins_few ls rs
   joins_few (OnWire b ∷ ls) (r ∷ rs) = omega (arith, joins_few ls rs)
 
-  lines_few : (links : List Link) → count x (join_bits (all_joins links)) ≤ count x (left_bits links)
+  pub lines_few : (links : List Link) → count x (join_bits (all_joins links)) ≤ count x (left_bits links)
   lines_few [] = omega arith
   lines_few (l ∷ links) =
       let here = ap (count x) (map-append (λ (j : Join). j.bit) (joins l.left l.right) (all_joins links)) ∙ count_more x (join_bits (joins l.left l.right)) (join_bits (all_joins links)) in

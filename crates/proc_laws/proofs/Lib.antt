@@ -1,12 +1,6 @@
 pub mod Turns
-pub mod CountingItems
-pub mod CountingBits
-pub mod RebuildPlaces
-pub mod RebuildSpots
-pub mod RebuildBits
 pub mod CountingRules
 pub mod RebuildDriven
-pub mod RebuildMemories
 pub mod RebuildFaults
 pub mod RebuildProcesses
 pub mod Taking

@@ -36,12 +36,12 @@ use Rattle.map_laws.proofs.FreshWires.{IsSpotOf, from_spots, in_wire_spots, name
 use Rattle.pass_laws.specs.Bits.{cells_bits, links_bits}
 use Rattle.pass_laws.proofs.Placing.{bits_places, cells_places, links_places, places_more}
 use Rattle.pass_laws.proofs.Rewriting.{links-append}
-use Rattle.proc_laws.specs.Rebuilds.{Rebuilds, driven_bits, rebuilt}
-use Rattle.proc_laws.proofs.CountingBits.{among_distinct, among_in, fresh_above, fresh_distinct, fresh_in}
-use Rattle.proc_laws.proofs.CountingItems.{distinct_once, in_often, often, often_in, often_more, once_distinct}
-use Rattle.proc_laws.proofs.RebuildBits.{distinct_before, distinct_map, driven_below, not_both, one_place, port_name}
-use Rattle.proc_laws.proofs.RebuildPlaces.{cells_alike, memories_alike, processes_places, still_reading}
-use Rattle.proc_laws.proofs.RebuildSpots.{IsKept, rows_kept}
+use Rattle.build_laws.specs.Rebuilds.{Rebuilds, driven_bits, rebuilt}
+use Rattle.build_laws.proofs.CountingBits.{among_distinct, among_in, fresh_above, fresh_distinct, fresh_in}
+use Rattle.build_laws.proofs.CountingItems.{distinct_once, in_often, often, often_in, often_more, once_distinct}
+use Rattle.build_laws.proofs.RebuildBits.{distinct_before, distinct_map, driven_below, not_both, one_place, port_name}
+use Rattle.build_laws.proofs.RebuildPlaces.{cells_alike, memories_alike, processes_places, still_reading}
+use Rattle.build_laws.proofs.RebuildSpots.{IsKept, rows_kept}
 
 -- the instances are the same
 pub instances_stay : (lines : types.Ports) (m : Module) (fresh : List Wire) (new : List Cell) (more : List Link) (changed : List Process) → Rebuilds lines m fresh new more changed → instances m.cells ≡ instances (m.cells ++ new)

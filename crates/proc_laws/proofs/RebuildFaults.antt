@@ -1,21 +1,17 @@
 -- A module without faults has none after a step that builds.
 use Rattle.std.proofs.Common.{◌≡◌, ◌≤◌, ◌<◌, ℕ, ◌+◌, true, false, List, [], ◌∷◌, ◌++◌, length, inl, inr, refl, sym, ◌∙◌, ap, append_assoc, arith, length-append}
-use Rattle.std.specs.Prelude.{ℤ, flat_map, int_lt, pos, not, ◌&&◌, ◌||◌}
-use Rattle.std.specs.List.{list_any}
-use Rattle.std.specs.Ordering.{int_eq}
+use Rattle.std.specs.Prelude.{flat_map, not}
 use Rattle.cell_types.specs.declared.kind.CellKind.TheVariants as Cells
 use Rattle.rtl_sig.specs.declared.sig.WireBit.{WireBit}
 use Rattle.rtl_ir.specs.Assigns.{tree_bits}
 use Rattle.rtl_ir.specs.Drivers.{Drive, FromRules, FromTree, Source, all_by, cell_drives, drive_count, drives_of, link_drives, port_drives, rule_drives, tree_drives}
-use Rattle.rtl_ir.specs.Fault.{BadMemory, BadPort, Fault, Spot, UnsupportedCell, fault_if, spot}
+use Rattle.rtl_ir.specs.Fault.{BadMemory, Fault, Spot, UnsupportedCell, fault_if, spot}
 use Rattle.rtl_ir.specs.Faults.Bits.{bits_faults}
 use Rattle.rtl_ir.specs.Faults.Cells.{cell_faults, faults_by_type, misfit, output_faults, shape_fault}
 use Rattle.rtl_ir.specs.Faults.Links.{link_faults}
 use Rattle.rtl_ir.specs.Faults.MemoryCells.{is_bad_memory_cell}
 use Rattle.rtl_ir.specs.Faults.Processes.{process_faults}
 use Rattle.rtl_ir.specs.Faults.Stores.{is_bad_store, store_faults}
-use Rattle.rtl_ir.specs.Faults.Wires.{is_bad_port, is_inout, wire_faults, with_number}
-use Rattle.rtl_ir.specs.Ports.{is_port}
 use Rattle.rtl_ir.specs.Rules.{updated_bits}
 use Rattle.rtl_ir.specs.Scope.{Scope, cells_alone, with_processes, without_processes}
 use Rattle.rtl_ir.specs.Types.{CellType, Instance, Library, Ports, Unknown, Unsupported, cell_type}
@@ -24,39 +20,22 @@ use Rattle.rtl_ir.specs.declared.module.Link.{Link}
 use Rattle.rtl_ir.specs.declared.module.Module.{Module}
 use Rattle.rtl_ir.specs.declared.process.Process.{Process}
 use Rattle.rtl_ir.specs.declared.store.Store.{Store}
-use Rattle.rtl_ir.specs.declared.wire.Role.{Role}
 use Rattle.rtl_ir.specs.declared.wire.Wire.{Wire}
 use Rattle.net_model.proofs.Ranges.{each_both}
-use Rattle.net_model.specs.Within.{AreInner, CellIn, Each, LinkIn}
+use Rattle.net_model.specs.Within.{CellIn, Each, LinkIn}
 use Rattle.map_laws.specs.Expansion.{bits_from}
 use Rattle.pass_laws.proofs.Alone.{links_even, no_link_faults}
 use Rattle.pass_laws.proofs.Counting.{bits_of, bits_more, cell_drives_bits, cells_more, count, count_more, counted, link_drives_bits, links_more}
 use Rattle.pass_laws.proofs.Faultless.{HasNoFaults, no_faults, none_left, none_right}
 use Rattle.pass_laws.proofs.Forming.{all_none}
-use Rattle.pass_laws.proofs.Widening.{cell_wider, link_wider}
+use Rattle.pass_laws.proofs.Widening.{cell_wider, link_wider, more_faults, more_drives}
 use Rattle.pass_laws.specs.Bits.{cells_bits, links_bits}
 use Rattle.pass_laws.specs.Replaces.{IsEven, IsFaultless}
 use Rattle.proc_laws.specs.Ready.{IsReady}
-use Rattle.proc_laws.specs.Rebuilds.{Rebuilds, checked_bits, rebuilt}
-use Rattle.proc_laws.proofs.CountingBits.{cells_below, count_beyond, fewer, fresh_below, fresh_once, links_below, no_two, ports_below, ports_further}
-use Rattle.proc_laws.proofs.RebuildBits.{checked_below}
-use Rattle.proc_laws.proofs.RebuildMemories.{memory_alike}
-
--- wires that are no ports have no faults
-inner_faults : (id : List ℕ) (numbers : List ℤ) (fs : List Wire) → AreInner fs → wire_faults id numbers fs ≡ []
-inner_faults id numbers [] h = refl
-inner_faults id numbers (f ∷ fs) h =
-    let good : is_bad_port numbers f ≡ false = ap (λ (r : Role). is_inout r || (is_port r && (int_lt f.number (pos 1) || list_any (int_eq f.number) numbers))) (h f (inl refl)) in
-    ap (λ t. fault_if t (BadPort (spot id f.name)) ++ wire_faults id (with_number numbers f) fs) good
-    ∙ inner_faults id (with_number numbers f) fs (λ w i. h w (inr i))
-
-further_faults : (id : List ℕ) (numbers : List ℤ) (ws fs : List Wire) → AreInner fs → wire_faults id numbers ws ≡ [] → wire_faults id numbers (ws ++ fs) ≡ []
-further_faults id numbers [] fs h e = inner_faults id numbers fs h
-further_faults id numbers (w ∷ ws) fs h e =
-    let here : List Fault = fault_if (is_bad_port numbers w) (BadPort (spot id w.name)) in
-    let a : here ≡ [] = none_left here (wire_faults id (with_number numbers w) ws) e in
-    let b : wire_faults id (with_number numbers w) (ws ++ fs) ≡ [] = further_faults id (with_number numbers w) ws fs h (none_right here (wire_faults id (with_number numbers w) ws) e) in
-    λ i. a i ++ b i
+use Rattle.build_laws.specs.Rebuilds.{Rebuilds, checked_bits, rebuilt}
+use Rattle.build_laws.proofs.CountingBits.{cells_below, count_beyond, fewer, fresh_below, fresh_once, links_below, no_two, ports_below}
+use Rattle.build_laws.proofs.RebuildBits.{checked_below}
+use Rattle.build_laws.proofs.RebuildMemories.{memory_alike}
 
 -- the bits that processes drive, as the check counts them
 trees_bits : (b : WireBit) (first : ℕ) (qs : List Process) → count b (bits_of (tree_drives first qs)) + count b (bits_of (rule_drives first qs)) ≡ count b (flat_map checked_bits qs)
@@ -178,7 +157,7 @@ module _ (ports : Ports) (m : Module) (fresh : List Wire) (new : List Cell) (mor
       after_count : (b : WireBit) → drive_count (drives_of ports after) b ≡ (count b (bits_of (port_drives 0 m.wires)) + (count b (cells_bits ports m.cells) + count b (links_bits m.links))) + count b (cells_bits ports new ++ (links_bits more ++ flat_map checked_bits changed))
       after_count b =
           let all = drives_count ports after even_after b in
-          let outside : count b (bits_of (port_drives 0 (m.wires ++ fresh))) ≡ count b (bits_of (port_drives 0 m.wires)) = ap (λ z. count b (bits_of z)) (ports_further 0 m.wires fresh r.inner) in
+          let outside : count b (bits_of (port_drives 0 (m.wires ++ fresh))) ≡ count b (bits_of (port_drives 0 m.wires)) = ap (λ z. count b (bits_of z)) (more_drives 0 m.wires fresh r.inner) in
           let cells = ap (count b) (cells_more ports m.cells new) ∙ count_more b (cells_bits ports m.cells) (cells_bits ports new) in
           let links = ap (count b) (links_more m.links more) ∙ count_more b (links_bits m.links) (links_bits more) in
           omega (arith, all, outside, cells, links, count_more b (cells_bits ports new) (links_bits more ++ flat_map checked_bits changed), count_more b (links_bits more) (flat_map checked_bits changed))
@@ -206,7 +185,7 @@ module _ (ports : Ports) (m : Module) (fresh : List Wire) (new : List Cell) (mor
       -- so the new module has no faults, and may be given on
       pub ready_after : IsReady scope ports after
       ready_after = record {
-        faultless = all_none (further_faults m.id [] m.wires fresh r.inner none.wires) (stores_none m.memories none.stores) cells_none processes links_none bits_none;
+        faultless = all_none (more_faults m.id [] m.wires fresh r.inner ∙ none.wires) (stores_none m.memories none.stores) cells_none processes links_none bits_none;
         named = r.named;
         within = record {
           cells = each_both (CellIn (length (m.wires ++ fresh))) m.cells new (λ c i. cell_wider (length m.wires) (length (m.wires ++ fresh)) longer c (ready.within.cells c i)) r.cells_within;

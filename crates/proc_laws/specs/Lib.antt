@@ -1,3 +1,3 @@
 pub mod Ready
 pub mod Step
-pub mod Rebuilds
+pub mod Kinds

@@ -10,7 +10,7 @@ ghost use Rattle.rtl_ir.specs.Types.{Ports};
 ghost use Rattle.net_model.specs.Refine.{IsWellDriven};
 ghost use Rattle.net_model.specs.Within.{IsWithin};
 ghost use Rattle.proc_laws.specs.Ready.{IsReady};
-ghost use Rattle.proc_laws.specs.Rebuilds.{Rebuilds, rebuilt};
+ghost use Rattle.build_laws.specs.Rebuilds.{Rebuilds, rebuilt};
 ghost use Rattle.proc_laws.specs.Step.{IsStep};
 
 use rtl_ir::{Cell, Link, Module, PortTable, Process, Wire};

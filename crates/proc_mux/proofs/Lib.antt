@@ -6,4 +6,3 @@ mod Fitting
 mod Uniform
 pub mod Exact
 mod Ordering
-pub mod Promised

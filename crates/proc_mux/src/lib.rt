@@ -9,19 +9,16 @@ mod runs;
 mod walk;
 
 ghost use Rattle.std.specs.Prelude.{◌≡◌, Err, IfOk, OnOk};
-ghost use Rattle.rtl_ir.specs.Flat.Cell.{Ports, instances};
-ghost use Rattle.rtl_ir.specs.Ports.{ports_of};
 ghost use Rattle.rtl_ir.specs.Scope.{with_processes, without_processes};
 ghost use Rattle.rtl_ir.specs.Types.{table_ports};
 ghost use Rattle.net_index.specs.Builder.{IsInLimits, PassesLimit};
 ghost use Rattle.net_model.specs.Proc.Mux.{proc_mux_of};
-ghost use Rattle.net_model.specs.Refine.{IsWellDriven, RefinesIn};
 ghost use Rattle.proc_laws.specs.Ready.{AreRuled, HaveNoLines, IsReady};
+ghost use Rattle.proc_laws.specs.Step.{IsStep};
 ghost use Rattle.proc_mux.specs.Limits.{MuxPassesLimit, muxed};
 
 use crate::process::processes_step;
-use match_cells::check_limits;
-use net_index::{Builder, PassFault};
+use net_index::{Builder, PassFault, check_limits};
 use rtl_bits::{Copied, Seq};
 use rtl_ir::{Module, PortTable};
 use std::alloc::Global;
@@ -36,12 +33,8 @@ pub fn apply(alloc: Global, module: &Module, ports: &PortTable) -> Result<Module
     ensures exact { IfOk result (λ after. after ≡ proc_mux_of «module».now) }
     ensures over { result ≡ Err PassFault.Over → MuxPassesLimit «module».now }
     ensures within { OnOk result (IsInLimits (muxed «module».now)) }
-    ensures refines { IfOk result (λ after. RefinesIn «module».now after ports.now) }
-    ensures well_driven { IfOk result (λ after. (over : Ports) → IsWellDriven over «module».now → IsWellDriven over after) }
-    ensures well_formed { IfOk result (λ after. IsReady without_processes (table_ports ports.now.modules) after) }
-    ensures same_id { IfOk result (λ after. after.id ≡ «module».now.id) }
-    ensures same_ports { IfOk result (λ after. ports_of after.wires ≡ ports_of «module».now.wires) }
-    ensures same_instances { IfOk result (λ after. instances after.cells ≡ instances «module».now.cells) }
+    ensures step { IfOk result (IsStep ports.now «module».now) }
+    ensures ready { IfOk result (IsReady without_processes (table_ports ports.now.modules)) }
 {
     muxed_module(alloc, module)
 }

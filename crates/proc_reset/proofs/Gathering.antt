@@ -2,7 +2,7 @@
 use Rattle.std.proofs.Common.{◌≡◌, ℕ, suc, ◌+◌, ◌<◌, Bool, true, false, ◌||◌, List, [], ◌∷◌, ◌++◌, length, get_or, map, take, drop, flat_map, append_assoc, refl, sym, ◌∙◌, ap, add-one}
 use Rattle.std.specs.List.{list_any}
 use Rattle.std.proofs.Math.Seq.{drop-cons}
-use Rattle.proc_reset.proofs.Fronts.{front}
+use Rattle.process_trees.proofs.Fronts.{front}
 
 -- one item more
 pub flat_next : {A B : Type 0} (f : A → List B) (items : List A) (k : ℕ) (x : A) → k < length items → x ≡ get_or items k x → (done new all : List B)

@@ -12,15 +12,16 @@ use Rattle.rtl_ir.specs.declared.value.Attribute.{Attribute}
 use Rattle.rtl_ir.specs.Assigns.{tree_bits}
 use Rattle.rtl_ir.specs.EventTests.{switch_test}
 use Rattle.rtl_ir.specs.Faults.TwoEdges.{EdgeBit, are_all}
-use Rattle.rtl_ir.specs.Follow.{Join, all_joins}
+use Rattle.rtl_ir.specs.Follow.{all_joins}
+use Rattle.rtl_ir.specs.declared.follow.Join.{Join}
 use Rattle.rtl_ir.specs.Rules.{acting_rules}
 use Rattle.rtl_ir.specs.Tree.{CaseView}
 use Rattle.rtl_ir.specs.Types.{Ports}
 use Rattle.net_model.specs.Proc.Reset.{active_leaves, are_unread, control_reads, outer_reads, reset_process, reset_rule, resets_step, with_level, with_reset}
-use Rattle.tree_leaves.proofs.Leveled.{leveled_leaves}
-use Rattle.proc_reset.specs.Levels.{open_case}
+use Rattle.process_trees.proofs.Leveled.{leveled_leaves}
+use Rattle.process_trees.specs.Levels.{open_case}
 use Rattle.proc_reset.specs.Places.{is_held, leaves_at}
-use Rattle.proc_reset.proofs.Fronts.{front}
+use Rattle.process_trees.proofs.Fronts.{front}
 
 -- the leaves below the root at the reset's level are those with the reset active
 pub active_is : (ports : Ports) (m : Module) (root active : CaseView) (bits : List WireBit) (reset : EdgeBit)

@@ -1,9 +1,7 @@
 pub mod ActingLemmas
 pub mod Choosing
-pub mod Fronts
 pub mod Gathering
 pub mod Leveled
-pub mod Leveling
 pub mod Placing
 pub mod Promised
 pub mod Unread

@@ -1,16 +1,18 @@
 -- The places that a reset sets, one behind another.
-use Rattle.std.proofs.Common.{◌≡◌, ℕ, ◌+◌, ◌<◌, ◌≤◌, min, Bool, true, false, cond, ◌&&◌, List, [], ◌∷◌, ◌++◌, length, get_or, map, take, drop, Option, Some, None, append_assoc, append-nil, refl, sym, ◌∙◌, ap, arith}
+use Rattle.std.proofs.Common.{◌≡◌, ℕ, ◌+◌, ◌<◌, ◌≤◌, min, Bool, true, false, cond, ◌&&◌, ◌||◌, List, [], ◌∷◌, ◌++◌, length, get_or, map, take, drop, Option, Some, None, append_assoc, append-nil, refl, sym, ◌∙◌, ap, arith}
 use Rattle.std.specs.List.{list_all, list_any}
+use Rattle.std.proofs.lemmas.List.Folds.{list_any-append}
 use Rattle.rtl_bits.specs.declared.bit.Bit.{Bit}
 use Rattle.rtl_sig.specs.declared.sig.SigBit.{SigBit}
 use Rattle.rtl_sig.specs.declared.sig.SigBit.TheVariants.{Fixed, Wire as OnWire}
 use Rattle.rtl_sig.specs.declared.sig.WireBit.{WireBit}
 use Rattle.rtl_ir.specs.Faults.TwoEdges.{are_one_constant, is_value}
-use Rattle.rtl_ir.specs.Follow.{Join, joins}
-use Rattle.rtl_ir.specs.WritePorts.{same_place}
-use Rattle.net_index.proofs.IndexPlaces.{place_added, places_all}
+use Rattle.rtl_ir.specs.Follow.{joins}
+use Rattle.rtl_ir.specs.declared.follow.Join.{Join}
+use Rattle.rtl_ir.specs.Signals.{same_place}
+use Rattle.rtl_ir.proofs.JoinPlaces.{place_added, places_all}
 use Rattle.net_model.specs.Proc.Reset.{reset_places}
-use Rattle.tree_leaves.specs.Leaves.{one_leaf}
+use Rattle.process_trees.specs.Leaves.{one_leaf}
 use Rattle.proc_reset.specs.Places.{given_place, one_constant}
 
 module _ (leaves : Join → List SigBit) where
@@ -44,6 +46,29 @@ module _ (leaves : Join → List SigBit) where
   reset_all left right i h done all so_far =
       let none : [] ≡ joins (drop i left) (drop i right) = places_all left right i h [] (joins (drop i left) (drop i right)) refl in
       sym (append-nil done) ∙ ap (λ js. done ++ reset_places leaves js) none ∙ so_far
+
+-- the next place and those behind it
+line_step : (f : Join → Bool) (left right : List SigBit) (i : ℕ) (d : SigBit) → i < min (length left) (length right) → (here all : Bool)
+    → here ≡ list_any f (joins (get_or left i d ∷ []) (get_or right i d ∷ [])) → list_any f (joins (drop i left) (drop i right)) ≡ all
+    → (here || list_any f (joins (drop (i + 1) left) (drop (i + 1) right))) ≡ all
+line_step f left right i d h here all e inv =
+    let one : List Join = joins (get_or left i d ∷ []) (get_or right i d ∷ []) in
+    let rest : List Join = joins (drop (i + 1) left) (drop (i + 1) right) in
+    ap (λ b. b || list_any f rest) e ∙ sym (list_any-append f one rest)
+    ∙ ap (list_any f) (place_added left right i d h [] one (joins (drop i left) (drop i right)) refl refl) ∙ inv
+
+-- a place that does not hold
+pub holds_further : (f : Join → Bool) (left right : List SigBit) (i : ℕ) (d : SigBit) → i < min (length left) (length right) → (here all : Bool) → here ≡ false
+    → here ≡ list_any f (joins (get_or left i d ∷ []) (get_or right i d ∷ [])) → list_any f (joins (drop i left) (drop i right)) ≡ all
+    → list_any f (joins (drop (i + 1) left) (drop (i + 1) right)) ≡ all
+holds_further f left right i d h here all t e inv =
+    ap (λ b. b || list_any f (joins (drop (i + 1) left) (drop (i + 1) right))) (sym t) ∙ line_step f left right i d h here all e inv
+
+-- a place that holds
+pub holds_here : (f : Join → Bool) (left right : List SigBit) (i : ℕ) (d : SigBit) → i < min (length left) (length right) → (here all : Bool) → here ≡ true
+    → here ≡ list_any f (joins (get_or left i d ∷ []) (get_or right i d ∷ [])) → list_any f (joins (drop i left) (drop i right)) ≡ all → true ≡ all
+holds_here f left right i d h here all t e inv =
+    ap (λ b. b || list_any f (joins (drop (i + 1) left) (drop (i + 1) right))) (sym t) ∙ line_step f left right i d h here all e inv
 
 -- past the last place
 pub none_holds : (f : Join → Bool) (left right : List SigBit) (i : ℕ) → min (length left) (length right) ≤ i → (all : Bool)

@@ -1,5 +1,4 @@
-pub mod Acting
-pub mod Levels
 pub mod Outer
 pub mod Places
 pub mod Reads
+pub mod Promise

@@ -1,8 +1,8 @@
 -- A module with what is found of it once for all processes.
 use Rattle.rtl_ir.specs.Signals.{wire_bits}
 use Rattle.rtl_ir.specs.Types.{Ports}
-use Rattle.event_tests.specs.Fitting.{DoCellsFit}
-use Rattle.event_tests.specs.Tables.{AreTests}
+use Rattle.process_trees.specs.Fitting.{DoCellsFit}
+use Rattle.process_trees.specs.Tables.{AreTests}
 use Rattle.proc_reset.specs.Reads.{AreIn, fixed_signals}
 use Rattle.proc_reset.specs.declared.process.Outer.{Outer}
 

@@ -6,7 +6,8 @@ use Rattle.rtl_sig.specs.declared.sig.WireBit.{WireBit}
 use Rattle.rtl_ir.specs.declared.module.Link.{Link}
 use Rattle.rtl_ir.specs.Decisions.{expanded, leaves_of}
 use Rattle.rtl_ir.specs.Faults.TwoEdges.{are_all}
-use Rattle.rtl_ir.specs.Follow.{Join, joins}
+use Rattle.rtl_ir.specs.Follow.{joins}
+use Rattle.rtl_ir.specs.declared.follow.Join.{Join}
 use Rattle.rtl_ir.specs.Tree.{CaseView}
 use Rattle.net_model.specs.Proc.Reset.{line_of_places, reset_places}
 use Rattle.proc_reset.specs.declared.places.Place.{Place}

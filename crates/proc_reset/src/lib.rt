@@ -1,10 +1,7 @@
 //! A step of `proc`: of two edges the reset's becomes a level.
 #![tactic(auto)]
 
-mod acting;
-mod assigned;
 mod free;
-mod level;
 mod places;
 mod process;
 mod process_signals;
@@ -13,45 +10,34 @@ mod sets;
 mod signals;
 
 ghost use Rattle.std.specs.Prelude.{◌≡◌, IfOk};
-ghost use Rattle.rtl_ir.specs.Flat.Cell.{Ports, instances};
-ghost use Rattle.rtl_ir.specs.Ports.{ports_of};
 ghost use Rattle.rtl_ir.specs.Scope.{with_processes};
 ghost use Rattle.rtl_ir.specs.Types.{table_ports};
-ghost use Rattle.event_tests.specs.Fitting.{DoCellsFit};
+ghost use Rattle.process_trees.specs.Fitting.{DoCellsFit};
 ghost use Rattle.net_model.specs.Proc.Reset.{proc_reset_of};
-ghost use Rattle.net_model.specs.Refine.{IsWellDriven, RefinesIn};
+ghost use Rattle.pass_laws.specs.Pass.{KeepsInterface};
 ghost use Rattle.proc_laws.specs.Ready.{AreRuled, HasItsBits, HaveNoStarts, IsReady};
-ghost use Rattle.proc_laws.specs.Step.{IsStep, StaysReady};
-ghost use Rattle.sync_laws.specs.Kinds.{HaveNoTwoEdges};
 ghost use Rattle.reset_laws.specs.Trees.{TreesHaveBits};
+ghost use Rattle.proc_reset.specs.Promise.{Levels};
 
 use crate::process::{Outer, reset_processes};
 use crate::sets::set_of_signal;
 use crate::signals::fixed_signals;
-use event_tests::EventTests;
 use net_index::Types;
+use process_trees::EventTests;
 use rtl_bits::{Copied, Memory, Seq};
 use rtl_ir::{Module, PortTable, Process};
 use std::alloc::Global;
 
-/// The module in which of each process with two edges the one that is tested is a level: the reset sets the bits to which it
-/// gives one constant, and where no other bit needs its tests these go. In the Yosys manual, the command `proc_arst`.
+/// The module in which of each process with two edges the one that is tested is a level: the reset sets the bits to
+/// which it gives one constant, and where no other bit needs its tests these go. In the Yosys manual, the command
+/// `proc_arst`.
 pub fn apply(alloc: Global, module: &Module, ports: &PortTable) -> Result<Module, Memory>
     requires ready { IsReady with_processes (table_ports ports.now.modules) «module».now }
     requires ruled { AreRuled «module».now }
     ensures exact { IfOk result (λ after. after ≡ proc_reset_of (table_ports ports.now.modules) «module».now) }
-    ensures refines { HaveNoStarts «module».now → HasItsBits «module».now → TreesHaveBits «module».now → IfOk result (λ after. RefinesIn «module».now after ports.now) }
-    ensures well_driven { HaveNoStarts «module».now → HasItsBits «module».now → TreesHaveBits «module».now → IfOk result (λ after. (over : Ports) → IsWellDriven over «module».now → IsWellDriven over after) }
-    ensures step { HaveNoStarts «module».now → HasItsBits «module».now → TreesHaveBits «module».now → IfOk result (λ after. IsStep ports.now «module».now after) }
-    ensures well_formed { HaveNoStarts «module».now → HasItsBits «module».now → TreesHaveBits «module».now → IfOk result (λ after. StaysReady ports.now «module».now after) }
-    ensures ruled { HaveNoStarts «module».now → HasItsBits «module».now → TreesHaveBits «module».now → IfOk result (λ after. AreRuled after) }
-    ensures no_starts { HaveNoStarts «module».now → HasItsBits «module».now → TreesHaveBits «module».now → IfOk result (λ after. HaveNoStarts after) }
-    ensures placed { HaveNoStarts «module».now → HasItsBits «module».now → TreesHaveBits «module».now → IfOk result (λ after. HasItsBits after) }
-    ensures trees { HaveNoStarts «module».now → HasItsBits «module».now → TreesHaveBits «module».now → IfOk result (λ after. TreesHaveBits after) }
-    ensures no_two_edges { HaveNoStarts «module».now → HasItsBits «module».now → TreesHaveBits «module».now → IfOk result (λ after. HaveNoTwoEdges after) }
-    ensures same_id { IfOk result (λ after. after.id ≡ «module».now.id) }
-    ensures same_ports { IfOk result (λ after. ports_of after.wires ≡ ports_of «module».now.wires) }
-    ensures same_instances { IfOk result (λ after. instances after.cells ≡ instances «module».now.cells) }
+    ensures kept { IfOk result (KeepsInterface «module».now) }
+    ensures levels { HaveNoStarts «module».now → HasItsBits «module».now → TreesHaveBits «module».now →
+        IfOk result (Levels ports.now «module».now) }
 {
     reset_of(alloc, module, ports)
 }
@@ -77,7 +63,8 @@ fn reset_of(alloc: Global, module: &Module, ports: &PortTable) -> Result<Module,
 /// Its processes after the step.
 fn processes_of(alloc: Global, module: &Module, ports: &PortTable) -> Result<Vec<Process>, Memory>
     requires fit { DoCellsFit (table_ports ports.now.modules) «module».now }
-    ensures exact { IfOk result (λ processes. processes.items ≡ (proc_reset_of (table_ports ports.now.modules) «module».now).processes) }
+    ensures exact { IfOk result (λ processes.
+        processes.items ≡ (proc_reset_of (table_ports ports.now.modules) «module».now).processes) }
 {
     let types = Types::of_table(alloc, ports)?;
     let tests = EventTests::of(alloc, module, &types)?;

@@ -6,14 +6,14 @@ ghost use Rattle.rtl_sig.specs.declared.sig.WireBit.{WireBit};
 ghost use Rattle.rtl_ir.specs.Follow.{all_joins, joins};
 ghost use Rattle.rtl_ir.specs.Tree.{CaseView};
 ghost use Rattle.net_model.specs.Proc.Reset.{line_of_places, reset_places};
-ghost use Rattle.tree_leaves.specs.Rounds.{AreLeaves};
+ghost use Rattle.process_trees.specs.Rounds.{AreLeaves};
 ghost use Rattle.proc_reset.specs.Places.{is_held, joins_of, leaves_at, left_side, one_constant, reset_line, right_side};
 
+use process_trees::Leaves;
 use rtl_bits::Memory;
 use rtl_ir::Link;
 use rtl_sig::{SigBit, SigSpec, WireBit};
 use std::alloc::Global;
-use tree_leaves::Leaves;
 
 /// One place of a line: a bit of a wire, and what is given to it.
 #[derive(Clone, Copy)]

@@ -13,26 +13,24 @@ ghost use Rattle.rtl_ir.specs.Signals.{wire_bits};
 ghost use Rattle.rtl_ir.specs.Tree.{CaseView};
 ghost use Rattle.rtl_ir.specs.Types.{Ports};
 ghost use Rattle.net_model.specs.Proc.Reset as step;
-ghost use Rattle.event_tests.specs.Edge.{edge_as};
-ghost use Rattle.tree_leaves.specs.Rounds.{AreLeaves};
-ghost use Rattle.proc_reset.specs.Levels.{open_case};
+ghost use Rattle.process_trees.specs.Edge.{edge_as};
+ghost use Rattle.process_trees.specs.Rounds.{AreLeaves};
+ghost use Rattle.process_trees.specs.Levels.{open_case};
 ghost use Rattle.proc_reset.specs.Outer.{IsOuter};
 ghost use Rattle.proc_reset.specs.Places.{is_held, leaves_at};
 ghost use Rattle.proc_reset.specs.Reads.{AreIn, fixed_signals};
 
-use crate::acting::{Acting, acting_rules};
-use crate::assigned::tree_bits;
 use crate::free::{Others, are_free};
-use crate::level::{Level, at_level};
 use crate::places::lines_hold;
 use crate::rule::{reset_rule, with_reset};
 use crate::sets::BitSet;
-use event_tests::{EdgeBit, EventTests, edge_bit};
+use process_trees::{
+    Acting, EdgeBit, EventTests, Leaves, Level, acting_rules, at_level, edge_bit, tree_bits,
+};
 use rtl_bits::{Copied, Memory, Seq};
 use rtl_ir::{Case, Link, Module, Process, SyncRule};
 use rtl_sig::WireBit;
 use std::alloc::Global;
-use tree_leaves::Leaves;
 
 /// A module, with the tables of its tests, and what its connections, cells and output ports read.
 #[derive(Clone, Copy)]

@@ -6,8 +6,8 @@ ghost use Rattle.rtl_ir.specs.Rules.{acting_rules};
 ghost use Rattle.net_model.specs.Proc.Reset.{cases_signals, event_signal, switches_signals};
 ghost use Rattle.proc_reset.specs.Reads.{control_signals, event_signals, process_signals, rule_signals, sources, write_signals};
 
-use crate::acting::acts;
 use crate::signals::put_sources;
+use process_trees::acts;
 use rtl_bits::Memory;
 use rtl_ir::{Case, Event, Process, Switch, SyncRule, WriteLine};
 use rtl_sig::{SigBit, SigSpec};

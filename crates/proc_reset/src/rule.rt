@@ -8,18 +8,16 @@ ghost use Rattle.rtl_ir.specs.Faults.TwoEdges as edges;
 ghost use Rattle.rtl_ir.specs.Rules.{has_line};
 ghost use Rattle.rtl_ir.specs.Tree.{CaseView};
 ghost use Rattle.net_model.specs.Proc.Reset as step;
-ghost use Rattle.event_tests.specs.Edge.{edge_as};
-ghost use Rattle.tree_leaves.specs.Rounds.{AreLeaves};
+ghost use Rattle.process_trees.specs.Edge.{edge_as};
+ghost use Rattle.process_trees.specs.Rounds.{AreLeaves};
 ghost use Rattle.proc_reset.specs.Places.{leaves_at, reset_line};
 
-use crate::acting::has_line;
 use crate::places::put_line;
-use event_tests::{EdgeBit, edge_bit};
+use process_trees::{EdgeBit, Leaves, edge_bit, has_line};
 use rtl_bits::{Copied, Memory, Seq};
 use rtl_ir::{Event, Link, SyncRule};
 use rtl_sig::{SigBit, SigSpec, WireBit};
 use std::alloc::Global;
-use tree_leaves::Leaves;
 
 /// The level rule of a reset: of each of these lines the bits that it sets, by the leaves with the reset active.
 pub(crate) fn reset_rule(

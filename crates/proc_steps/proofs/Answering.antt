@@ -15,7 +15,7 @@ use Rattle.net_model.specs.Proc.Start.{proc_tree_of}
 use Rattle.net_model.specs.Proc.Steps.{proc_of}
 use Rattle.net_model.specs.Proc.Sync.{proc_sync_of, sync_step}
 use Rattle.proc_laws.specs.Ready.{AreRuled, HaveNoStarts, IsReady}
-use Rattle.sync_laws.specs.Kinds.{HaveNoTwoEdges}
+use Rattle.proc_laws.specs.Kinds.{HaveNoTwoEdges}
 use Rattle.proc_steps.specs.Limits.{is_within}
 use Rattle.proc_steps.specs.Steps.{Gives, MayBegin, clocked, clocking, latched, latching, leveled, muxing, proc_result}
 use Rattle.proc_steps.proofs.Giving.{clocked_ready, latched_edges, latched_ready, latched_starts, level, proc_gives, ruled_ready as tree_ready}

@@ -1,11 +1,10 @@
 -- What the steps in turn keep.
-use Rattle.std.proofs.Common.{◌≡◌, ◌≤◌, Bool, true, false, cond, Option, Some, None, Ok, List, [], ◌∷◌, refl, sym, ap, subst, ◌∙◌}
+use Rattle.std.proofs.Common.{◌≡◌, ◌≤◌, Bool, true, false, cond, Some, None, [], refl, ap, subst, ◌∙◌}
 use Rattle.std.specs.Prelude.{◌&&◌}
 use Rattle.rtl_ir.specs.declared.module.Module.{Module}
 use Rattle.rtl_ir.specs.declared.ports.PortTable.{PortTable}
 use Rattle.rtl_ir.specs.Scope.{with_processes, without_processes}
 use Rattle.rtl_ir.specs.Types.{Ports, table_ports}
-use Rattle.net_index.specs.Builder.{IsInLimits}
 use Rattle.net_model.specs.Proc.Steps.{proc_of}
 use Rattle.net_model.specs.Proc.Start.{proc_tree_of}
 use Rattle.proc_laws.specs.Ready.{AreRuled, HasItsBits, HaveNoStarts, IsReady}
@@ -13,20 +12,20 @@ use Rattle.proc_laws.specs.Step.{IsStep}
 use Rattle.proc_laws.proofs.Taking.{ready_without}
 use Rattle.proc_laws.proofs.Turns.{IsStep_refl, IsStep_trans}
 use Rattle.proc_tree.proofs.Promised as tree
-use Rattle.latch_forms.proofs.Formed as latch
-use Rattle.latch_forms.proofs.Left as left
-use Rattle.latch_laws.proofs.RowsMet as latches
-use Rattle.sync_laws.specs.Kinds.{HaveNoAlways, HaveNoTwoEdges}
-use Rattle.sync_laws.proofs.Formed as flops
-use Rattle.write_laws.specs.Lines.{WritesHaveBits}
-use Rattle.write_laws.proofs.Formed as storage
-use Rattle.write_laws.proofs.Kept.{latch_keeps, reset_keeps, tree_keeps}
-use Rattle.write_laws.proofs.Steps as written
-use Rattle.write_laws.proofs.Written.{sync_is}
+use Rattle.latch_laws.proofs.Formed as latch
+use Rattle.latch_laws.proofs.Left as left
+use Rattle.proc_laws.specs.Kinds.{HaveNoAlways, HaveNoTwoEdges}
+use Rattle.sync_laws.specs.Lines.{WritesHaveBits}
+use Rattle.sync_laws.proofs.Formed as storage
+use Rattle.sync_laws.proofs.Kept.{latch_keeps, reset_keeps, tree_keeps}
+use Rattle.sync_laws.proofs.Steps as written
+use Rattle.sync_laws.proofs.Written.{sync_is}
+use Rattle.proc_reset.specs.Promise.{Levels}
+use Rattle.proc_reset.proofs.Promised.{levels}
+use Rattle.proc_latch.proofs.Promised.{latch_step}
 use Rattle.mux_laws.proofs.FormingModule.{mux_is, mux_ready, mux_step}
 use Rattle.proc_steps.specs.Limits.{is_within}
 use Rattle.proc_steps.specs.Steps.{Gives, MayBegin, clocked, clocking, latched, latching, leveled, muxing, proc_result}
-use Rattle.proc_steps.proofs.Leveling.{Levels, levels}
 use Rattle.proc_steps.proofs.Limits.{within_limits}
 use Rattle.proc_steps.proofs.Trees.{tree_trees}
 
@@ -37,16 +36,16 @@ module _ (table : PortTable) (m : Module) (h : MayBegin table m) where
 
   -- ---- switches and start values
   ruling : IsStep table m (proc_tree_of m)
-  ruling = tree.step m (Ok (proc_tree_of m)) refl table h.placed h.ready
+  ruling = tree.tree_step table m h.placed h.ready
 
   pub ruled_ready : IsReady with_processes P (proc_tree_of m)
   ruled_ready = tree.tree_ready m with_processes (λ p e. e) P h.ready
 
   ruled_placed : HasItsBits (proc_tree_of m)
-  ruled_placed = tree.placed_there m (Ok (proc_tree_of m)) refl h.placed
+  ruled_placed = tree.bits_stay m h.placed
 
   -- ---- resets
-  pub level : Levels table (proc_tree_of m)
+  pub level : Levels table (proc_tree_of m) (leveled P m)
   level = levels table (proc_tree_of m) ruled_ready (tree.are_ruled m) (tree.have_no_starts m) ruled_placed (tree_trees m h.trees)
 
   -- ---- latches
@@ -55,13 +54,7 @@ module _ (table : PortTable) (m : Module) (h : MayBegin table m) where
     latched_ready = latch.latch_ready P (leveled P m) level.ready few level.edges
 
     latching_step : IsStep table (leveled P m) (latched P m)
-    latching_step = record {
-      id = sym (ap (λ (n : Module). n.id) (latch.latch_is P (leveled P m) level.ready));
-      ports = latch.latch_ports P (leveled P m) level.ready;
-      instances = latch.latch_instances P (leveled P m) level.ready;
-      driven = λ over agree w. latch.latch_driven P (leveled P m) level.ready few level.edges over w;
-      refines = latches.refines table (leveled P m) level.ready level.ruled level.edges;
-    }
+    latching_step = latch_step table (leveled P m) level.ready few level.ruled level.edges
 
     -- ---- flip-flops and write ports
     pub latched_ruled : AreRuled (latched P m)
@@ -88,7 +81,7 @@ module _ (table : PortTable) (m : Module) (h : MayBegin table m) where
     -- ---- multiplexers
     module _ (fewer : (muxing P m).next ≤ 1000000000) where
       muxing_step : IsStep table (clocked P m) (proc_of P m)
-      muxing_step = mux_step table (clocked P m) clocked_ready (flops.are_ruled (latched P m) latched_ruled) (flops.none_left (latched P m)) fewer
+      muxing_step = mux_step table (clocked P m) clocked_ready (written.are_ruled (latched P m) latched_ruled) (written.none_left (latched P m)) fewer
 
       -- all of them
       pub all_steps : IsStep table m (proc_of P m)

@@ -5,6 +5,5 @@ pub mod RenamingSync
 pub mod Renaming
 pub mod Limits
 pub mod Trees
-pub mod Leveling
 pub mod Giving
 pub mod Answering

@@ -11,7 +11,7 @@ use Rattle.rtl_ir.specs.declared.process.Process.{Process}
 use Rattle.rtl_ir.specs.Assigns.{cases_assigns}
 use Rattle.rtl_ir.specs.Build.{Build, Building, building_of, new_link}
 use Rattle.rtl_ir.specs.Tree.{Switches, NoSwitch, OneSwitch, Cases, NoCase, OneCase, CaseView}
-use Rattle.rtl_ir.specs.WritePorts.{same_signal}
+use Rattle.rtl_ir.specs.Signals.{same_signal}
 use Rattle.net_model.specs.Proc.Mux.{Made, Trees, asked_places, assigns_run, cases_value, is_default, joined_bits, made_match, match_bit, mux_cell, pattern_bit, pattern_bits, process_step, processes_step, proc_mux_of, run_step, run_value, runs_step, switches_value, tree_runs, with_case}
 use Rattle.net_model.specs.Proc.Start.{proc_tree_of}
 

@@ -13,7 +13,8 @@ use Rattle.rtl_ir.specs.Assigns.{tree_bits}
 use Rattle.rtl_ir.specs.Decisions.{expanded, leaves_of}
 use Rattle.rtl_ir.specs.EventTests.{Step, differs, meets, step_at, switch_test, test_within}
 use Rattle.rtl_ir.specs.Faults.TwoEdges.{EdgeBit, SwitchTest, are_all, decided, edge_bit, is_tested, switches_test}
-use Rattle.rtl_ir.specs.Follow.{Join, all_joins, follow_joins}
+use Rattle.rtl_ir.specs.Follow.{all_joins, follow_joins}
+use Rattle.rtl_ir.specs.declared.follow.Join.{Join}
 use Rattle.rtl_ir.specs.Rules.{acting_rules}
 use Rattle.rtl_ir.specs.Signals.{is_all_constant}
 use Rattle.rtl_ir.specs.Types.{Ports}

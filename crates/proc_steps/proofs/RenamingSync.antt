@@ -12,7 +12,8 @@ use Rattle.rtl_ir.specs.declared.process.SyncRule.{SyncRule}
 use Rattle.rtl_ir.specs.declared.process.WriteLine.{WriteLine}
 use Rattle.rtl_ir.specs.Build.{Building, building_of}
 use Rattle.rtl_ir.specs.Flat.Process.{Trigger, edge_trigger, level_trigger}
-use Rattle.rtl_ir.specs.Follow.{Join, joins, all_joins, source_at}
+use Rattle.rtl_ir.specs.Follow.{joins, all_joins, source_at}
+use Rattle.rtl_ir.specs.declared.follow.Join.{Join}
 use Rattle.rtl_ir.specs.Rules.{acting_rules}
 use Rattle.net_model.specs.Proc.Sync.{Class, Plain, Resets, Loads, Numbered, Run, Writing, class_of, classed, edge_and_level, edge_cell, edge_lines, global_cell, in_turn, level_cell, level_side, line_number, lines_step, loaded_cell, one_rule, plain_lines, proc_sync_of, rules_step, runs_of, sync_step, two_rules, write_cell, writes_step}
 use Rattle.proc_steps.proofs.RenamingMux.{renamed, under}

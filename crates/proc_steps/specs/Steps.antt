@@ -16,7 +16,7 @@ use Rattle.pass_laws.specs.Ready as passes
 use Rattle.proc_laws.specs.Ready.{HasItsBits, IsReady}
 use Rattle.proc_laws.specs.Step.{IsStep}
 use Rattle.reset_laws.specs.Trees.{TreesHaveBits}
-use Rattle.write_laws.specs.Lines.{WritesHaveBits}
+use Rattle.sync_laws.specs.Lines.{WritesHaveBits}
 use Rattle.proc_steps.specs.Limits.{is_within}
 
 -- a module may be given to `proc`, over the ports of a table: it has no fault, each storage bit and each tree bit is one that
@@ -62,8 +62,11 @@ abbrev pub proc_within : Ports → Module → List Process → Option Module
 proc_within ports m [] = Some m
 proc_within ports m (p ∷ processes) = proc_result ports m
 
--- a step whose answer may be given to each pass, with the same memories
+-- what `proc` promises
 pub record Gives (table : PortTable) (m n : Module) : Type 0 where
+  -- it is a step: no known output bit is lost, no bit gets a second driver, name, ports and instances stay
   pub step : IsStep table m n
-  pub stores : n.memories ≡ m.memories
+  -- the answer may be given to each pass
   pub ready : passes.IsReady (table_ports table.modules) n
+  -- the memories stay
+  pub stores : n.memories ≡ m.memories

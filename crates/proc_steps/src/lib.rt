@@ -10,8 +10,8 @@ use rtl_ir::{Module, PortTable};
 use std::alloc::Global;
 
 /// The module in which all processes are cells and connections: switches by their rules and start values, resets,
-/// latches, flip-flops, multiplexers. It has no process. `Over` comes where one of these steps would pass a limit on cells,
-/// on bits of wires or on fresh names; each of them only adds. In the Yosys manual, the command `proc`.
+/// latches, flip-flops, multiplexers. It has no process. `Over` comes where one of these steps would pass a limit on
+/// cells, on bits of wires or on fresh names; each of them only adds. In the Yosys manual, the command `proc`.
 pub fn apply(alloc: Global, module: &Module, ports: &PortTable) -> Result<Module, PassFault>
     requires begins { MayBegin ports.now «module».now }
     ensures exact { IfOk result (λ after. proc_result (table_ports ports.now.modules) «module».now ≡ Some after) }

@@ -5,7 +5,8 @@ use Rattle.std.specs.Option.{is_some}
 use Rattle.rtl_sig.specs.declared.sig.SigBit.{SigBit}
 use Rattle.rtl_ir.specs.Build.{Building}
 use Rattle.rtl_ir.specs.Flat.Process.{Trigger, edge_trigger, level_trigger}
-use Rattle.rtl_ir.specs.Follow.{Join, all_joins, joins, source_at}
+use Rattle.rtl_ir.specs.Follow.{all_joins, joins, source_at}
+use Rattle.rtl_ir.specs.declared.follow.Join.{Join}
 use Rattle.rtl_ir.specs.Rules.{acting_rules}
 use Rattle.rtl_ir.specs.declared.module.Link.{Link}
 use Rattle.rtl_ir.specs.declared.process.Event.{Event}

@@ -5,7 +5,8 @@ use Rattle.cell_types.specs.declared.kind.CellKind.TheVariants.{Storage}
 use Rattle.cell_types.specs.declared.storage.StorageKind.TheVariants.{Adff, Aldff, Dff, Dlatch, Ff}
 use Rattle.rtl_ir.specs.Build.{Building}
 use Rattle.rtl_ir.specs.Flat.Process.{Trigger}
-use Rattle.rtl_ir.specs.Follow.{Join, joins}
+use Rattle.rtl_ir.specs.Follow.{joins}
+use Rattle.rtl_ir.specs.declared.follow.Join.{Join}
 use Rattle.rtl_ir.specs.declared.module.Link.{Link}
 use Rattle.net_model.specs.Proc.Sync.{Class, Plain, Resets, Loads, Run, classed, left_side, level_side, right_side, same_class}
 use Rattle.proc_sync.specs.Cells.{clocked_params, clocked_pins, data_pins, enabled_params, enabled_pins, load_params, load_pins, reset_params, reset_pins, width_params}

@@ -5,4 +5,3 @@ mod Marking
 mod Counting
 mod Following
 mod Stepping
-pub mod Promised

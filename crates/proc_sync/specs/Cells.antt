@@ -3,7 +3,7 @@ use Rattle.std.specs.Prelude.{ℕ, List, [], ◌∷◌, map, codes}
 use Rattle.cell_types.specs.declared.level.Level.{Level}
 use Rattle.rtl_sig.specs.declared.sig.SigBit.{SigBit}
 use Rattle.rtl_ir.specs.Build.{bits_param, integer_param, pin_of}
-use Rattle.rtl_ir.specs.Faults.MemoryCells.{constant_of}
+use Rattle.rtl_ir.specs.Signals.{constant_of}
 use Rattle.rtl_ir.specs.declared.cell.CellParam.{CellParam}
 use Rattle.rtl_ir.specs.declared.cell.Pin.{Pin}
 use Rattle.net_model.specs.Proc.Sync.{polarity_of}

@@ -1,7 +1,7 @@
 -- Rules that act, one by one.
 use Rattle.std.specs.Prelude.{List, Option, Some, None}
 use Rattle.rtl_ir.specs.Build.{Building}
-use Rattle.rtl_ir.specs.Follow.{Join}
+use Rattle.rtl_ir.specs.declared.follow.Join.{Join}
 use Rattle.rtl_ir.specs.declared.module.Link.{Link}
 use Rattle.proc_sync.specs.Rules.{lines_step}
 use Rattle.proc_sync.specs.declared.rules.Form.{Form}

@@ -3,7 +3,7 @@ use Rattle.std.specs.Prelude.{List, length, codes}
 use Rattle.rtl_sig.specs.declared.sig.SigBit.{SigBit}
 use Rattle.rtl_ir.specs.Build.{Building, new_cell}
 use Rattle.rtl_ir.specs.Flat.Process.{Trigger}
-use Rattle.rtl_ir.specs.Follow.{Join}
+use Rattle.rtl_ir.specs.declared.follow.Join.{Join}
 use Rattle.net_model.specs.Proc.Sync.{left_side, right_side}
 use Rattle.proc_sync.specs.Cells.{clocked_params, clocked_pins, data_pins, enabled_params, enabled_pins, load_params, load_pins, reset_params, reset_pins, width_params}
 

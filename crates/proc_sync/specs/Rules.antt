@@ -1,7 +1,8 @@
 -- Rules, by the forms in which they stand: what their runs become.
 use Rattle.std.specs.Prelude.{Bool, true, false, List, if◌then◌else◌}
 use Rattle.rtl_ir.specs.Build.{Building}
-use Rattle.rtl_ir.specs.Follow.{Join, joins}
+use Rattle.rtl_ir.specs.Follow.{joins}
+use Rattle.rtl_ir.specs.declared.follow.Join.{Join}
 use Rattle.rtl_ir.specs.declared.module.Link.{Link}
 use Rattle.net_model.specs.Proc.Sync.{Class, Plain, Resets, Loads, Run, classed, in_turn, level_side, same_class}
 use Rattle.proc_sync.specs.Control.{trigger_of}

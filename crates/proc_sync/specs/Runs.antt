@@ -1,9 +1,9 @@
 -- Classes and runs, as contracts see them.
 use Rattle.std.specs.Prelude.{Bool, true, false, List, Option, Some, None}
 use Rattle.rtl_sig.specs.declared.sig.SigBit.{SigBit}
-use Rattle.rtl_ir.specs.Follow.{Join, source_at}
+use Rattle.rtl_ir.specs.Follow.{source_at}
+use Rattle.rtl_ir.specs.declared.follow.Join.{Join}
 use Rattle.net_model.specs.Proc.Sync as sync
-use Rattle.proc_sync.specs.Joins.{joins_of}
 use Rattle.proc_sync.specs.declared.runs.Class.{Class}
 use Rattle.proc_sync.specs.declared.runs.Class.TheVariants.{Plain, Resets, Loads}
 use Rattle.proc_sync.specs.declared.runs.Run.{Run}
@@ -16,7 +16,7 @@ class_code Loads = sync.Loads
 
 -- a run
 abbrev pub run_of : Run → sync.Run
-run_of r = record { class = class_code r.class; places = joins_of r.places.items }
+run_of r = record { class = class_code r.class; places = r.places.items }
 
 -- the class of what a rule gives beside an edge rule; else whether it gives nothing
 abbrev pub class_by : Bool → Option SigBit → sync.Class

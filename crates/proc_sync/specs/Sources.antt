@@ -1,9 +1,8 @@
 -- The places whose sources are kept.
 use Rattle.std.specs.Prelude.{List}
-use Rattle.rtl_ir.specs.Follow.{Join}
-use Rattle.proc_sync.specs.Joins.{joins_of}
+use Rattle.rtl_ir.specs.declared.follow.Join.{Join}
 use Rattle.proc_sync.specs.declared.sources.Sources.{Sources}
 
 -- the places
 abbrev pub joins_in : Sources → List Join
-joins_in s = joins_of s.places.items
+joins_in s = s.places.items

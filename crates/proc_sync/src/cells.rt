@@ -4,16 +4,16 @@ ghost use Rattle.std.specs.Prelude.{◌≡◌, Err, OnOk};
 ghost use Rattle.net_index.specs.Builder.{IsInLimits, PassesLimit};
 ghost use Rattle.proc_sync.specs.Control.{trigger_of};
 ghost use Rattle.proc_sync.specs.Forms.{adff_cell, aldff_cell, dff_cell, dlatch_cell, ff_cell};
-ghost use Rattle.proc_sync.specs.Joins.{joins_of};
 
 use crate::control::Control;
-use crate::joins::{Join, left_side, right_side};
+use crate::joins::{left_side, right_side};
 use crate::parts::{
-    clocked_params, clocked_pins, data_pins, enabled_params, enabled_pins, length_param,
-    load_params, load_pins, reset_params, reset_pins,
+    clocked_params, clocked_pins, data_pins, enabled_params, enabled_pins, load_params, load_pins,
+    reset_params, reset_pins,
 };
 use cell_types::{CellKind, ParamName, StorageKind};
-use net_index::{Builder, PassFault};
+use net_index::{Builder, PassFault, length_param};
+use rtl_ir::Join;
 use rtl_sig::SigBit;
 use std::alloc::Global;
 
@@ -23,8 +23,8 @@ pub(crate) fn ff_cell(
     places: &[Join],
     builder: &mut Builder,
 ) -> Result<(), PassFault>
-    ensures exact { OnOk result (builder.new ≡ ff_cell (joins_of places.now) builder.old) }
-    ensures over { result ≡ Err PassFault.Over → PassesLimit (ff_cell (joins_of places.now) builder.old) }
+    ensures exact { OnOk result (builder.new ≡ ff_cell places.now builder.old) }
+    ensures over { result ≡ Err PassFault.Over → PassesLimit (ff_cell places.now builder.old) }
     ensures within { OnOk result (IsInLimits builder.new) }
 {
     let params = [length_param(alloc, ParamName::Width, places.len())?];
@@ -42,8 +42,9 @@ pub(crate) fn dlatch_cell(
     places: &[Join],
     builder: &mut Builder,
 ) -> Result<(), PassFault>
-    ensures exact { OnOk result (builder.new ≡ dlatch_cell (trigger_of level.now) (joins_of places.now) builder.old) }
-    ensures over { result ≡ Err PassFault.Over → PassesLimit (dlatch_cell (trigger_of level.now) (joins_of places.now) builder.old) }
+    ensures exact { OnOk result (builder.new ≡ dlatch_cell (trigger_of level.now) places.now builder.old) }
+    ensures over { result ≡ Err PassFault.Over →
+        PassesLimit (dlatch_cell (trigger_of level.now) places.now builder.old) }
     ensures within { OnOk result (IsInLimits builder.new) }
 {
     let params = enabled_params(alloc, places.len(), level.level)?;
@@ -62,8 +63,8 @@ pub(crate) fn dff_cell(
     places: &[Join],
     builder: &mut Builder,
 ) -> Result<(), PassFault>
-    ensures exact { OnOk result (builder.new ≡ dff_cell (trigger_of edge.now) (joins_of places.now) builder.old) }
-    ensures over { result ≡ Err PassFault.Over → PassesLimit (dff_cell (trigger_of edge.now) (joins_of places.now) builder.old) }
+    ensures exact { OnOk result (builder.new ≡ dff_cell (trigger_of edge.now) places.now builder.old) }
+    ensures over { result ≡ Err PassFault.Over → PassesLimit (dff_cell (trigger_of edge.now) places.now builder.old) }
     ensures within { OnOk result (IsInLimits builder.new) }
 {
     let params = clocked_params(alloc, places.len(), edge.level)?;
@@ -84,8 +85,10 @@ pub(crate) fn adff_cell(
     places: &[Join],
     builder: &mut Builder,
 ) -> Result<(), PassFault>
-    ensures exact { OnOk result (builder.new ≡ adff_cell (trigger_of edge.now) (trigger_of level.now) given.now (joins_of places.now) builder.old) }
-    ensures over { result ≡ Err PassFault.Over → PassesLimit (adff_cell (trigger_of edge.now) (trigger_of level.now) given.now (joins_of places.now) builder.old) }
+    ensures exact { OnOk result (builder.new ≡
+        adff_cell (trigger_of edge.now) (trigger_of level.now) given.now places.now builder.old) }
+    ensures over { result ≡ Err PassFault.Over →
+        PassesLimit (adff_cell (trigger_of edge.now) (trigger_of level.now) given.now places.now builder.old) }
     ensures within { OnOk result (IsInLimits builder.new) }
 {
     let params = reset_params(alloc, places.len(), edge.level, level.level, given)?;
@@ -106,8 +109,10 @@ pub(crate) fn aldff_cell(
     places: &[Join],
     builder: &mut Builder,
 ) -> Result<(), PassFault>
-    ensures exact { OnOk result (builder.new ≡ aldff_cell (trigger_of edge.now) (trigger_of level.now) given.now (joins_of places.now) builder.old) }
-    ensures over { result ≡ Err PassFault.Over → PassesLimit (aldff_cell (trigger_of edge.now) (trigger_of level.now) given.now (joins_of places.now) builder.old) }
+    ensures exact { OnOk result (builder.new ≡
+        aldff_cell (trigger_of edge.now) (trigger_of level.now) given.now places.now builder.old) }
+    ensures over { result ≡ Err PassFault.Over →
+        PassesLimit (aldff_cell (trigger_of edge.now) (trigger_of level.now) given.now places.now builder.old) }
     ensures within { OnOk result (IsInLimits builder.new) }
 {
     let params = load_params(alloc, places.len(), edge.level, level.level)?;

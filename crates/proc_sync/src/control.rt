@@ -2,7 +2,6 @@
 
 ghost use Rattle.std.specs.Prelude.{◌≡◌, option_map};
 ghost use Rattle.rtl_ir.specs.Flat.Process.{edge_trigger, level_trigger};
-ghost use Rattle.net_model.specs.Proc.Sync.{polarity_of};
 ghost use Rattle.proc_sync.specs.Control.{trigger_of};
 
 use cell_types::Level;
@@ -47,15 +46,5 @@ pub(crate) fn level_of(event: &Event) -> Option<Control<'_>>
             level: Level::Low,
         }),
         _ => None,
-    }
-}
-
-/// The number of a level: 1 where it is the high one.
-pub(crate) fn polarity_of(level: Level) -> u32
-    ensures value { result ≡ polarity_of level }
-{
-    match level {
-        Level::Low => 0,
-        Level::High => 1,
     }
 }

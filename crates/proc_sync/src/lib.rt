@@ -15,26 +15,22 @@ mod writer;
 mod writes;
 
 ghost use Rattle.std.specs.Prelude.{◌≡◌, [], Err, IfOk, OnOk, map};
-ghost use Rattle.rtl_ir.specs.Flat.Cell.{Ports, instances};
-ghost use Rattle.rtl_ir.specs.Ports.{ports_of};
 ghost use Rattle.rtl_ir.specs.Scope.{with_processes};
 ghost use Rattle.rtl_ir.specs.Types.{table_ports};
 ghost use Rattle.rtl_ir.specs.declared.process.Process.{Process};
 ghost use Rattle.net_index.specs.Builder.{IsInLimits, PassesLimit};
 ghost use Rattle.net_model.specs.Proc.Sync.{proc_sync_of};
-ghost use Rattle.net_model.specs.Refine.{IsWellDriven, RefinesIn};
 ghost use Rattle.proc_laws.specs.Ready.{AreRuled, HaveNoLines, HaveNoStarts, IsReady};
-ghost use Rattle.proc_laws.specs.Step.{StaysReady};
-ghost use Rattle.sync_laws.specs.Kinds.{HaveNoAlways, HaveNoTwoEdges};
-ghost use Rattle.write_laws.specs.Lines.{WritesHaveBits};
+ghost use Rattle.proc_laws.specs.Step.{IsStep, StaysReady};
+ghost use Rattle.proc_laws.specs.Kinds.{HaveNoAlways, HaveNoTwoEdges};
+ghost use Rattle.sync_laws.specs.Lines.{WritesHaveBits};
 ghost use Rattle.proc_sync.specs.Limits.{SyncPassesLimit, steps_of, synced};
 ghost use Rattle.proc_sync.specs.Writer.{body_of, done_of};
 
 use crate::process::processes_step;
 use crate::writer::Writer;
 use crate::writes::writes_step;
-use match_cells::check_limits;
-use net_index::{Builder, PassFault};
+use net_index::{Builder, PassFault, check_limits};
 use rtl_bits::{Copied, Memory, Seq};
 use rtl_ir::{Module, PortTable, Process};
 use std::alloc::Global;
@@ -52,14 +48,10 @@ pub fn apply(alloc: Global, module: &Module, ports: &PortTable) -> Result<Module
     ensures exact { IfOk result (λ after. after ≡ proc_sync_of «module».now) }
     ensures over { result ≡ Err PassFault.Over → SyncPassesLimit «module».now }
     ensures within { OnOk result (IsInLimits (synced «module».now)) }
-    ensures refines { IfOk result (λ after. RefinesIn «module».now after ports.now) }
-    ensures well_driven { IfOk result (λ after. (over : Ports) → IsWellDriven over «module».now → IsWellDriven over after) }
-    ensures well_formed { WritesHaveBits «module».now → IfOk result (λ after. StaysReady ports.now «module».now after) }
-    ensures same_id { IfOk result (λ after. after.id ≡ «module».now.id) }
-    ensures same_ports { IfOk result (λ after. ports_of after.wires ≡ ports_of «module».now.wires) }
-    ensures same_instances { IfOk result (λ after. instances after.cells ≡ instances «module».now.cells) }
-    ensures ruled { IfOk result (λ after. AreRuled after) }
-    ensures no_lines { IfOk result (λ after. HaveNoLines after) }
+    ensures step { IfOk result (IsStep ports.now «module».now) }
+    ensures ready { WritesHaveBits «module».now → IfOk result (StaysReady ports.now «module».now) }
+    ensures ruled { IfOk result AreRuled }
+    ensures no_lines { IfOk result HaveNoLines }
 {
     synced_module(alloc, module)
 }
@@ -97,7 +89,8 @@ fn steps<'a>(
     writer: Writer<'a>,
     builder: Builder,
 ) -> Result<Builder, PassFault>
-    ensures exact { IfOk result (λ after. after ≡ steps_of (body_of writer.entry) (done_of writer.entry) processes.now builder) }
+    ensures exact { IfOk result (λ after.
+        after ≡ steps_of (body_of writer.entry) (done_of writer.entry) processes.now builder) }
     ensures over { result ≡ Err PassFault.Over →
         PassesLimit (steps_of (body_of writer.entry) (done_of writer.entry) processes.now builder) }
     ensures within { IsInLimits builder → IfOk result IsInLimits }

@@ -1,6 +1,20 @@
 //! Which write ports a line may follow.
 
-ghost use Rattle.std.specs.Prelude.{◌≡◌, ◌&&◌, ◌||◌, ◌<◌, ◌==◌, ◌∷◌, [], ℕ, IfOk, false, if◌then◌else◌, length, slice_index_or};
+ghost use Rattle.std.specs.Prelude.{
+  ◌≡◌,
+  ◌&&◌,
+  ◌||◌,
+  ◌<◌,
+  ◌==◌,
+  ◌∷◌,
+  [],
+  ℕ,
+  IfOk,
+  false,
+  if◌then◌else◌,
+  length,
+  slice_index_or,
+};
 ghost use Rattle.std.specs.Str.{bytes_eq};
 ghost use Rattle.rtl_bits.specs.Numbers.{is_one};
 ghost use Rattle.rtl_ir.specs.Flat.Access.{line_follows, line_mask};
@@ -26,7 +40,8 @@ fn is_followed(line: &Numbered<'_>, memory: &[u8], bit: Bit) -> bool
 
 /// Marks the number, where it is one of the numbers.
 fn mark(marks: &mut Vec<bool>, number: u32)
-    ensures marks { (k : ℕ) → k < length marks.old.items → slice_index_or marks.new.items k false ≡ ((number == k) || slice_index_or marks.old.items k false) }
+    ensures marks { (k : ℕ) → k < length marks.old.items →
+        slice_index_or marks.new.items k false ≡ ((number == k) || slice_index_or marks.old.items k false) }
     ensures length { length marks.new.items ≡ length marks.old.items }
 {
     if let Some(mark) = marks.get_mut(number as usize) {
@@ -37,7 +52,9 @@ fn mark(marks: &mut Vec<bool>, number: u32)
 /// Marks the number of the line, where it is one of the memory and the bit of the mask is set.
 fn put_line(marks: &mut Vec<bool>, line: &Numbered<'_>, memory: &[u8], bit: Bit)
     ensures marks { (k : ℕ) → k < length marks.old.items →
-        slice_index_or marks.new.items k false ≡ (line_follows k (ports_in memory.now (numbered_of line.now ∷ [])) (bit ∷ []) || slice_index_or marks.old.items k false) }
+        slice_index_or marks.new.items k false ≡
+        (line_follows k (ports_in memory.now (numbered_of line.now ∷ [])) (bit ∷ [])
+        || slice_index_or marks.old.items k false) }
     ensures length { length marks.new.items ≡ length marks.old.items }
 {
     if is_followed(line, memory, bit) {
@@ -79,7 +96,8 @@ pub(crate) fn line_mask(
     memory: &[u8],
     mask: &[Bit],
 ) -> Result<Vec<Bit>, Memory>
-    ensures value { IfOk result (λ bits. bits.items ≡ line_mask number (ports_in memory.now (numbers_of rule.now)) mask.now) }
+    ensures value { IfOk result (λ bits. bits.items ≡
+        line_mask number (ports_in memory.now (numbers_of rule.now)) mask.now) }
 {
     let count = number.max(1) as usize;
     let marks = marks_of(alloc, count, rule, memory, mask)?;

@@ -1,32 +1,29 @@
 //! The parameters and pins of new cells.
 
-ghost use Rattle.std.specs.Prelude.{◌≡◌, ◌<◌, ◌^◌, [], IfOk, length, map, true};
+ghost use Rattle.std.specs.Prelude.{◌≡◌, ◌<◌, IfOk, true};
 ghost use Rattle.rtl_ir.specs.Build.{integer_param, pin_of};
-ghost use Rattle.rtl_ir.specs.Faults.MemoryCells.{constant_of};
 ghost use Rattle.cell_types.specs.ParamName.{param_text};
-ghost use Rattle.cell_types.specs.PinName.{pin_text};
 ghost use Rattle.net_index.specs.Builder.{is_number_param, new_param, new_params};
 ghost use Rattle.net_model.specs.Proc.Sync.{polarity_of};
-ghost use Rattle.proc_sync.specs.Cells.{clocked_params, clocked_pins, data_pins, enabled_params, enabled_pins, load_params, load_pins, reset_params, reset_pins};
+ghost use Rattle.proc_sync.specs.Cells.{
+  clocked_params,
+  clocked_pins,
+  data_pins,
+  enabled_params,
+  enabled_pins,
+  load_params,
+  load_pins,
+  reset_params,
+  reset_pins,
+};
 
-use crate::control::polarity_of;
 use cell_types::{Level, Param, ParamName, PinName};
-use net_index::{number_param, value_param};
-use rtl_bits::{Bit, Memory, Text};
-use rtl_ir::Pin;
-use rtl_sig::{SigBit, SigSpec};
+use match_cells::polarity_of;
+use net_index::{length_param, number_param, value_param};
+use rtl_bits::Memory;
+use rtl_ir::{Pin, constants_of, pin_of};
+use rtl_sig::SigBit;
 use std::alloc::Global;
-
-/// A parameter of this length. One of 2^31 or more is taken for want of memory.
-pub(crate) fn length_param(alloc: Global, name: ParamName, length: usize) -> Result<Param, Memory>
-    requires number { is_number_param name ≡ true }
-    ensures value { IfOk result (λ param. new_param param ≡ integer_param (param_text name) «length») }
-{
-    match u32::try_from(length) {
-        Ok(number) if number < 1 << 31 => number_param(alloc, name, number),
-        _ => Err(Memory),
-    }
-}
 
 /// The parameter of a level.
 pub(crate) fn level_param(alloc: Global, name: ParamName, level: Level) -> Result<Param, Memory>
@@ -34,16 +31,6 @@ pub(crate) fn level_param(alloc: Global, name: ParamName, level: Level) -> Resul
     ensures value { IfOk result (λ param. new_param param ≡ integer_param (param_text name) (polarity_of level)) }
 {
     number_param(alloc, name, polarity_of(level))
-}
-
-/// A pin with this signal.
-pub(crate) fn pin(alloc: Global, name: PinName, bits: &[SigBit]) -> Result<Pin, Memory>
-    ensures value { IfOk result (λ pin. pin ≡ pin_of (pin_text name) bits.now) }
-{
-    Ok(Pin {
-        name: Text::from_slice(alloc, name.text())?,
-        sig: SigSpec::from_slice(alloc, bits)?,
-    })
 }
 
 /// The width, and the level of an enable.
@@ -72,23 +59,6 @@ pub(crate) fn clocked_params(
     params.push(length_param(alloc, ParamName::Width, width)?)?;
     params.push(level_param(alloc, ParamName::ClkPolarity, level)?)?;
     Ok(params)
-}
-
-/// A constant as the bit that it is.
-fn constant_of(bit: SigBit) -> Bit
-    ensures value { result ≡ constant_of bit }
-{
-    match bit {
-        SigBit::Fixed(bit) => bit,
-        SigBit::Wire(_) => Bit::X,
-    }
-}
-
-/// The constants as the bits that they are.
-fn constants_of(alloc: Global, given: &[SigBit]) -> Result<Vec<Bit>, Memory>
-    ensures value { IfOk result (λ bits. bits.items ≡ map constant_of given.now) }
-{
-    Ok(given.iter().map(|bit| constant_of(*bit)).collect(alloc)?)
 }
 
 /// The width, the levels of a clock and a reset, and the reset's value.
@@ -127,8 +97,8 @@ pub(crate) fn data_pins(alloc: Global, d: &[SigBit], q: &[SigBit]) -> Result<Vec
     ensures value { IfOk result (λ pins. pins.items ≡ data_pins d.now q.now) }
 {
     let mut pins = Vec::new(alloc);
-    pins.push(pin(alloc, PinName::D, d)?)?;
-    pins.push(pin(alloc, PinName::Q, q)?)?;
+    pins.push(pin_of(alloc, PinName::D, d)?)?;
+    pins.push(pin_of(alloc, PinName::Q, q)?)?;
     Ok(pins)
 }
 
@@ -142,9 +112,9 @@ pub(crate) fn enabled_pins(
     ensures value { IfOk result (λ pins. pins.items ≡ enabled_pins en.now d.now q.now) }
 {
     let mut pins = Vec::new(alloc);
-    pins.push(pin(alloc, PinName::En, en)?)?;
-    pins.push(pin(alloc, PinName::D, d)?)?;
-    pins.push(pin(alloc, PinName::Q, q)?)?;
+    pins.push(pin_of(alloc, PinName::En, en)?)?;
+    pins.push(pin_of(alloc, PinName::D, d)?)?;
+    pins.push(pin_of(alloc, PinName::Q, q)?)?;
     Ok(pins)
 }
 
@@ -158,9 +128,9 @@ pub(crate) fn clocked_pins(
     ensures value { IfOk result (λ pins. pins.items ≡ clocked_pins clk.now d.now q.now) }
 {
     let mut pins = Vec::new(alloc);
-    pins.push(pin(alloc, PinName::Clk, clk)?)?;
-    pins.push(pin(alloc, PinName::D, d)?)?;
-    pins.push(pin(alloc, PinName::Q, q)?)?;
+    pins.push(pin_of(alloc, PinName::Clk, clk)?)?;
+    pins.push(pin_of(alloc, PinName::D, d)?)?;
+    pins.push(pin_of(alloc, PinName::Q, q)?)?;
     Ok(pins)
 }
 
@@ -175,10 +145,10 @@ pub(crate) fn reset_pins(
     ensures value { IfOk result (λ pins. pins.items ≡ reset_pins clk.now arst.now d.now q.now) }
 {
     let mut pins = Vec::new(alloc);
-    pins.push(pin(alloc, PinName::Clk, clk)?)?;
-    pins.push(pin(alloc, PinName::Arst, arst)?)?;
-    pins.push(pin(alloc, PinName::D, d)?)?;
-    pins.push(pin(alloc, PinName::Q, q)?)?;
+    pins.push(pin_of(alloc, PinName::Clk, clk)?)?;
+    pins.push(pin_of(alloc, PinName::Arst, arst)?)?;
+    pins.push(pin_of(alloc, PinName::D, d)?)?;
+    pins.push(pin_of(alloc, PinName::Q, q)?)?;
     Ok(pins)
 }
 
@@ -194,10 +164,10 @@ pub(crate) fn load_pins(
     ensures value { IfOk result (λ pins. pins.items ≡ load_pins clk.now aload.now ad.now d.now q.now) }
 {
     let mut pins = Vec::new(alloc);
-    pins.push(pin(alloc, PinName::Clk, clk)?)?;
-    pins.push(pin(alloc, PinName::Aload, aload)?)?;
-    pins.push(pin(alloc, PinName::Ad, ad)?)?;
-    pins.push(pin(alloc, PinName::D, d)?)?;
-    pins.push(pin(alloc, PinName::Q, q)?)?;
+    pins.push(pin_of(alloc, PinName::Clk, clk)?)?;
+    pins.push(pin_of(alloc, PinName::Aload, aload)?)?;
+    pins.push(pin_of(alloc, PinName::Ad, ad)?)?;
+    pins.push(pin_of(alloc, PinName::D, d)?)?;
+    pins.push(pin_of(alloc, PinName::Q, q)?)?;
     Ok(pins)
 }

@@ -1,9 +1,9 @@
 //! Processes, one after another, by their rules that act.
 
-ghost use Rattle.std.specs.Prelude.{◌≡◌, ◌∷◌, ◌&&◌, ◌||◌, [], Err, List, MatchOption, OnOk, not};
+ghost use Rattle.std.specs.Prelude.{◌≡◌, ◌∷◌, [], Err, List, MatchOption, OnOk};
 ghost use Rattle.rtl_ir.specs.Build.{Building};
 ghost use Rattle.rtl_ir.specs.Flat.Process.{edge_trigger, level_trigger};
-ghost use Rattle.rtl_ir.specs.Rules.{acting_rules, has_line, is_init};
+ghost use Rattle.rtl_ir.specs.Rules.{acting_rules};
 ghost use Rattle.rtl_ir.specs.declared.module.Link.{Link};
 ghost use Rattle.rtl_ir.specs.declared.process.Process.{Process};
 ghost use Rattle.net_index.specs.Builder.{IsInLimits, PassesLimit};
@@ -15,20 +15,13 @@ use crate::control::{Control, edge_of, level_of};
 use crate::rules::{Form, lines_step};
 use crate::sources::Sources;
 use net_index::{Builder, PassFault};
-use rtl_ir::{Event, Link, Process, SyncRule};
+use rtl_ir::{Event, Link, Process, SyncRule, acts};
 use std::alloc::Global;
-
-/// Whether the rule acts: it has a line, and gives no start values.
-fn acts(rule: &SyncRule) -> bool
-    ensures value { result ≡ (has_line rule.now && not (is_init rule.now.event)) }
-{
-    let lines = !rule.updates.as_slice().is_empty() || !rule.writes.as_slice().is_empty();
-    lines && !matches!(rule.event, Event::Init)
-}
 
 /// The first rule that acts, and the rules behind it.
 fn next_acting(rules: &[SyncRule]) -> Option<(&SyncRule, &[SyncRule])>
-    ensures value { MatchOption result (acting_rules rules.now ≡ []) (λ x. acting_rules rules.now ≡ x.0.now ∷ acting_rules x.1.now) }
+    ensures value { MatchOption result (acting_rules rules.now ≡ []) (λ x. acting_rules rules.now ≡
+        x.0.now ∷ acting_rules x.1.now) }
 {
     for at in 0..rules.len() {
         if acts(&rules[at]) {
@@ -40,7 +33,8 @@ fn next_acting(rules: &[SyncRule]) -> Option<(&SyncRule, &[SyncRule])>
 
 /// The form of a rule that stands alone; `None` where it adds nothing.
 fn one_form(event: &Event) -> Option<Form<'_>>
-    ensures value { (lines : List Link) (b : Building) → form_step result [] lines b ≡ one_rule (edge_trigger event.now) (level_trigger event.now) event.now lines b }
+    ensures value { (lines : List Link) (b : Building) →
+        form_step result [] lines b ≡ one_rule (edge_trigger event.now) (level_trigger event.now) event.now lines b }
 {
     if let Some(edge) = edge_of(event) {
         return Some(Form::AtEdge(edge));
@@ -56,9 +50,12 @@ fn one_form(event: &Event) -> Option<Form<'_>>
 
 /// The cells of a rule that stands alone.
 fn one_rule(alloc: Global, rule: &SyncRule, builder: &mut Builder) -> Result<(), PassFault>
-    ensures exact { OnOk result (builder.new ≡ one_rule (edge_trigger rule.now.event) (level_trigger rule.now.event) rule.now.event rule.now.updates builder.old) }
+    ensures exact { OnOk result (builder.new ≡
+        one_rule (edge_trigger rule.now.event)
+        (level_trigger rule.now.event) rule.now.event rule.now.updates builder.old) }
     ensures over { result ≡ Err PassFault.Over →
-        PassesLimit (one_rule (edge_trigger rule.now.event) (level_trigger rule.now.event) rule.now.event rule.now.updates builder.old) }
+        PassesLimit (one_rule (edge_trigger rule.now.event)
+        (level_trigger rule.now.event) rule.now.event rule.now.updates builder.old) }
     ensures within { IsInLimits builder.old → OnOk result (IsInLimits builder.new) }
 {
     match one_form(&rule.event) {
@@ -92,7 +89,8 @@ fn edge_and_level(
     levels: &[Link],
     builder: &mut Builder,
 ) -> Result<(), PassFault>
-    ensures exact { OnOk result (builder.new ≡ edge_and_level (trigger_of edge.now) edges.now (trigger_of level.now) levels.now builder.old) }
+    ensures exact { OnOk result (builder.new ≡
+        edge_and_level (trigger_of edge.now) edges.now (trigger_of level.now) levels.now builder.old) }
     ensures over { result ≡ Err PassFault.Over →
         PassesLimit (edge_and_level (trigger_of edge.now) edges.now (trigger_of level.now) levels.now builder.old) }
     ensures within { IsInLimits builder.old → OnOk result (IsInLimits builder.new) }
@@ -110,9 +108,12 @@ fn two_rules(
     b: &SyncRule,
     builder: &mut Builder,
 ) -> Result<(), PassFault>
-    ensures exact { OnOk result (builder.new ≡ two_rules (edge_trigger a.now.event) (edge_trigger b.now.event) (level_trigger a.now.event) (level_trigger b.now.event) a.now.updates b.now.updates builder.old) }
+    ensures exact { OnOk result (builder.new ≡
+        two_rules (edge_trigger a.now.event) (edge_trigger b.now.event) (level_trigger a.now.event)
+        (level_trigger b.now.event) a.now.updates b.now.updates builder.old) }
     ensures over { result ≡ Err PassFault.Over →
-        PassesLimit (two_rules (edge_trigger a.now.event) (edge_trigger b.now.event) (level_trigger a.now.event) (level_trigger b.now.event) a.now.updates b.now.updates builder.old) }
+        PassesLimit (two_rules (edge_trigger a.now.event) (edge_trigger b.now.event) (level_trigger a.now.event)
+        (level_trigger b.now.event) a.now.updates b.now.updates builder.old) }
     ensures within { IsInLimits builder.old → OnOk result (IsInLimits builder.new) }
 {
     let first = a.updates.as_slice();
@@ -164,7 +165,8 @@ pub(crate) fn processes_step(
     processes: &[Process],
     builder: &mut Builder,
 ) -> Result<(), PassFault>
-    ensures exact { OnOk result (builder.new ≡ in_turn (λ (p : Process). rules_step (acting_rules p.syncs)) processes.now builder.old) }
+    ensures exact { OnOk result (builder.new ≡
+        in_turn (λ (p : Process). rules_step (acting_rules p.syncs)) processes.now builder.old) }
     ensures over { result ≡ Err PassFault.Over →
         PassesLimit (in_turn (λ (p : Process). rules_step (acting_rules p.syncs)) processes.now builder.old) }
     ensures within { IsInLimits builder.old → OnOk result (IsInLimits builder.new) }

@@ -2,18 +2,16 @@
 
 ghost use Rattle.std.specs.Prelude.{◌≡◌, Err, OnOk};
 ghost use Rattle.net_index.specs.Builder.{IsInLimits, PassesLimit};
-ghost use Rattle.proc_sync.specs.Joins.{joins_of};
 ghost use Rattle.proc_sync.specs.Rules.{beside_cell, is_beside, line_step, lines_step, run_cell};
 ghost use Rattle.proc_sync.specs.Runs.{class_code, run_of};
 ghost use Rattle.proc_sync.specs.Sources.{joins_in};
 
 use crate::cells::{adff_cell, aldff_cell, dff_cell, dlatch_cell, ff_cell};
 use crate::control::Control;
-use crate::joins::joins_of;
 use crate::runs::{Class, Run, runs_of};
 use crate::sources::Sources;
 use net_index::{Builder, PassFault};
-use rtl_ir::Link;
+use rtl_ir::{Link, joins};
 use std::alloc::Global;
 
 /// How rules stand: one at each step, one at a level, one at an edge, or one at an edge beside one at a level.
@@ -41,9 +39,12 @@ fn beside_cell(
     run: &Run,
     builder: &mut Builder,
 ) -> Result<(), PassFault>
-    ensures exact { OnOk result (builder.new ≡ beside_cell edge.now level.now (class_code run.now.class) (joins_in sources.now) (joins_of run.now.places.items) builder.old) }
+    ensures exact { OnOk result (builder.new ≡
+        beside_cell edge.now level.now (class_code run.now.class)
+        (joins_in sources.now) run.now.places.items builder.old) }
     ensures over { result ≡ Err PassFault.Over →
-        PassesLimit (beside_cell edge.now level.now (class_code run.now.class) (joins_in sources.now) (joins_of run.now.places.items) builder.old) }
+        PassesLimit (beside_cell edge.now level.now (class_code run.now.class)
+        (joins_in sources.now) run.now.places.items builder.old) }
     ensures within { OnOk result (IsInLimits builder.new) }
 {
     let places = run.places.as_slice();
@@ -64,7 +65,8 @@ fn run_cell(
     builder: &mut Builder,
 ) -> Result<(), PassFault>
     ensures exact { OnOk result (builder.new ≡ run_cell form.now (joins_in sources.now) (run_of run.now) builder.old) }
-    ensures over { result ≡ Err PassFault.Over → PassesLimit (run_cell form.now (joins_in sources.now) (run_of run.now) builder.old) }
+    ensures over { result ≡ Err PassFault.Over →
+        PassesLimit (run_cell form.now (joins_in sources.now) (run_of run.now) builder.old) }
     ensures within { IsInLimits builder.old → OnOk result (IsInLimits builder.new) }
 {
     let places = run.places.as_slice();
@@ -86,10 +88,11 @@ fn line_step(
     builder: &mut Builder,
 ) -> Result<(), PassFault>
     ensures exact { OnOk result (builder.new ≡ line_step form.now (joins_in sources.now) line.now builder.old) }
-    ensures over { result ≡ Err PassFault.Over → PassesLimit (line_step form.now (joins_in sources.now) line.now builder.old) }
+    ensures over { result ≡ Err PassFault.Over →
+        PassesLimit (line_step form.now (joins_in sources.now) line.now builder.old) }
     ensures within { IsInLimits builder.old → OnOk result (IsInLimits builder.new) }
 {
-    let places = joins_of(alloc, line.left.as_slice(), line.right.as_slice())?;
+    let places = joins(alloc, line.left.as_slice(), line.right.as_slice())?;
     let runs = runs_of(alloc, sources, is_beside(form), places.as_slice())?;
     for run in runs.as_slice() {
         run_cell(alloc, form, sources, run, builder)?;
@@ -106,7 +109,8 @@ pub(crate) fn lines_step(
     builder: &mut Builder,
 ) -> Result<(), PassFault>
     ensures exact { OnOk result (builder.new ≡ lines_step form.now (joins_in sources.now) lines.now builder.old) }
-    ensures over { result ≡ Err PassFault.Over → PassesLimit (lines_step form.now (joins_in sources.now) lines.now builder.old) }
+    ensures over { result ≡ Err PassFault.Over →
+        PassesLimit (lines_step form.now (joins_in sources.now) lines.now builder.old) }
     ensures within { IsInLimits builder.old → OnOk result (IsInLimits builder.new) }
 {
     for line in lines {

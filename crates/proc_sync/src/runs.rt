@@ -3,13 +3,12 @@
 ghost use Rattle.std.specs.Prelude.{◌≡◌, ◌∷◌, IfOk, Some, None, map};
 ghost use Rattle.rtl_ir.specs.Follow.{source_at};
 ghost use Rattle.net_model.specs.Proc.Sync.{classed, same_class};
-ghost use Rattle.proc_sync.specs.Joins.{joins_of};
 ghost use Rattle.proc_sync.specs.Runs.{class_by, class_code, class_in, run_of};
 ghost use Rattle.proc_sync.specs.Sources.{joins_in};
 
-use crate::joins::Join;
 use crate::sources::Sources;
 use rtl_bits::Memory;
+use rtl_ir::Join;
 use rtl_sig::SigBit;
 use std::alloc::Global;
 use std::mem;
@@ -70,7 +69,8 @@ pub(crate) fn runs_of(
     beside: bool,
     places: &[Join],
 ) -> Result<Vec<Run>, Memory>
-    ensures value { IfOk result (λ runs. map run_of runs.items ≡ classed (class_in (joins_in sources.now) beside) (joins_of places.now)) }
+    ensures value { IfOk result (λ runs. map run_of runs.items ≡
+        classed (class_in (joins_in sources.now) beside) places.now) }
 {
     match places {
         [] => Ok(Vec::new(alloc)),
@@ -86,7 +86,8 @@ fn runs_from(
     first: Join,
     rest: &[Join],
 ) -> Result<Vec<Run>, Memory>
-    ensures value { IfOk result (λ runs. map run_of runs.items ≡ classed (class_in (joins_in sources.now) beside) (joins_of (first ∷ rest.now))) }
+    ensures value { IfOk result (λ runs. map run_of runs.items ≡
+        classed (class_in (joins_in sources.now) beside) ((first ∷ rest.now))) }
 {
     let mut runs = Vec::new(alloc);
     let mut class = class_at(sources, beside, first);

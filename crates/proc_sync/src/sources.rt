@@ -1,11 +1,10 @@
 //! What the lines of a rule give to bits.
 
 ghost use Rattle.std.specs.Prelude.{◌≡◌, IfOk};
-ghost use Rattle.proc_sync.specs.Joins.{AreSources, joins_of};
+ghost use Rattle.proc_sync.specs.Joins.{AreSources};
 
-use crate::joins::{Join, all_joins_of};
 use rtl_bits::Memory;
-use rtl_ir::Link;
+use rtl_ir::{Join, Link, all_joins};
 use rtl_sig::{SigBit, WireBit};
 use std::alloc::Global;
 use std::collections::HashMap;
@@ -15,14 +14,13 @@ use std::collections::HashMap;
 pub(crate) struct Sources {
     places: Vec<Join>,
     table: HashMap<WireBit, SigBit>,
-    ghost agree: { AreSources table (joins_of places.items) },
+    ghost agree: { AreSources table places.items },
 }
 
 impl Sources {
     ghost use Rattle.std.specs.Prelude.{◌≡◌, [], IfOk};
     ghost use Rattle.rtl_ir.specs.Follow.{all_joins, source_at};
     ghost use Rattle.net_model.specs.Proc.Sync.{level_side};
-    ghost use Rattle.proc_sync.specs.Joins.{joins_of};
     ghost use Rattle.proc_sync.specs.Sources.{joins_in};
 
     /// No line.
@@ -39,7 +37,7 @@ impl Sources {
     pub(crate) fn of(alloc: Global, lines: &[Link]) -> Result<Sources, Memory>
         ensures value { IfOk result (λ sources. joins_in sources ≡ all_joins lines.now) }
     {
-        let places = all_joins_of(alloc, lines)?;
+        let places = all_joins(alloc, lines)?;
         let table = table_of(alloc, places.as_slice())?;
         Ok(Sources { places, table })
     }
@@ -53,7 +51,7 @@ impl Sources {
 
     /// What the lines give these places, where they give something.
     pub(crate) fn level_side(&self, alloc: Global, places: &[Join]) -> Result<Vec<SigBit>, Memory>
-        ensures value { IfOk result (λ bits. bits.items ≡ level_side (joins_in self.now) (joins_of places.now)) }
+        ensures value { IfOk result (λ bits. bits.items ≡ level_side (joins_in self.now) places.now) }
     {
         let mut bits = Vec::with_capacity(alloc, places.len())?;
         for place in places {
@@ -67,7 +65,7 @@ impl Sources {
 
 /// What these places give to bits. Of several places of a bit the first counts.
 fn table_of(alloc: Global, places: &[Join]) -> Result<HashMap<WireBit, SigBit>, Memory>
-    ensures sources { IfOk result (λ table. AreSources table (joins_of places.now)) }
+    ensures sources { IfOk result (λ table. AreSources table places.now) }
 {
     let mut table = HashMap::new(alloc);
     for at in (0..places.len()).rev() {

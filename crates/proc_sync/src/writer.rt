@@ -63,7 +63,12 @@ impl<'a> Writer<'a> {
     /// The next line of the memory is a port. More than 2^32 of them are taken for want of memory.
     pub(crate) fn with_line(self, memory: &'a [u8]) -> Result<Writer<'a>, Memory>
         ensures body { IfOk result (λ writer. body_of writer ≡ body_of self.entry) }
-        ensures done { IfOk result (λ writer. done_of writer ≡ done_of self.entry ++ record { memory = memory.now; number = line_number (body_of self.entry) (done_of self.entry) memory.now } ∷ []) }
+        ensures done { IfOk result (λ writer. done_of writer ≡ done_of self.entry
+            ++ record {
+              memory = memory.now;
+              number = line_number (body_of self.entry)
+                  (done_of self.entry) memory.now;
+            } ∷ []) }
     {
         let number = self.next(memory);
         let above = next_of(number)?;

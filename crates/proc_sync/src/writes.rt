@@ -13,12 +13,12 @@ ghost use Rattle.proc_sync.specs.Writes.{line_step, write_params, write_pins};
 
 use crate::control::{Control, edge_of};
 use crate::masks::{Numbered, line_mask};
-use crate::parts::{length_param, level_param, pin};
+use crate::parts::level_param;
 use crate::writer::Writer;
 use cell_types::{CellKind, Level, MemoryKind, Param, ParamName, PinName};
-use net_index::{Builder, PassFault, memory_param, number_param, value_bits, value_param};
+use net_index::{Builder, PassFault, length_param, memory_param, number_param, value_param};
 use rtl_bits::{Bit, Memory};
-use rtl_ir::{Event, Pin, Process, SyncRule, WriteLine};
+use rtl_ir::{Event, Pin, Process, SyncRule, WriteLine, pin_of, value_bits};
 use rtl_sig::SigBit;
 use std::alloc::Global;
 
@@ -43,7 +43,8 @@ fn write_params(
     number: u32,
     mask: &[Bit],
 ) -> Result<Vec<Param>, Memory>
-    ensures value { IfOk result (λ params. new_params params.items ≡ write_params line.now.memory (length line.now.address) (length line.now.value) level number mask.now) }
+    ensures value { IfOk result (λ params. new_params params.items ≡
+        write_params line.now.memory (length line.now.address) (length line.now.value) level number mask.now) }
 {
     let mut params = Vec::new(alloc);
     params.push(memory_param(alloc, line.memory.as_slice())?)?;
@@ -60,13 +61,14 @@ fn write_params(
 
 /// The pins CLK, EN, ADDR and DATA.
 fn write_pins(alloc: Global, clk: &[SigBit], line: &WriteLine) -> Result<Vec<Pin>, Memory>
-    ensures value { IfOk result (λ pins. pins.items ≡ write_pins clk.now line.now.enable line.now.address line.now.value) }
+    ensures value { IfOk result (λ pins. pins.items ≡
+        write_pins clk.now line.now.enable line.now.address line.now.value) }
 {
     let mut pins = Vec::new(alloc);
-    pins.push(pin(alloc, PinName::Clk, clk)?)?;
-    pins.push(pin(alloc, PinName::En, line.enable.as_slice())?)?;
-    pins.push(pin(alloc, PinName::Addr, line.address.as_slice())?)?;
-    pins.push(pin(alloc, PinName::Data, line.value.as_slice())?)?;
+    pins.push(pin_of(alloc, PinName::Clk, clk)?)?;
+    pins.push(pin_of(alloc, PinName::En, line.enable.as_slice())?)?;
+    pins.push(pin_of(alloc, PinName::Addr, line.address.as_slice())?)?;
+    pins.push(pin_of(alloc, PinName::Data, line.value.as_slice())?)?;
     Ok(pins)
 }
 
@@ -77,7 +79,8 @@ fn mask_of(
     number: u32,
     rule: &[Numbered<'_>],
 ) -> Result<Vec<Bit>, Memory>
-    ensures value { IfOk result (λ bits. bits.items ≡ line_mask number (ports_in line.now.memory (numbers_of rule.now)) (value_bits line.now.mask)) }
+    ensures value { IfOk result (λ bits. bits.items ≡
+        line_mask number (ports_in line.now.memory (numbers_of rule.now)) (value_bits line.now.mask)) }
 {
     let bits = value_bits(alloc, &line.mask)?;
     line_mask(alloc, number, rule, line.memory.as_slice(), bits.as_slice())
@@ -93,7 +96,8 @@ fn write_cell(
     builder: &mut Builder,
 ) -> Result<(), PassFault>
     ensures exact { OnOk result (builder.new ≡ write_cell event.now line.now number (numbers_of rule.now) builder.old) }
-    ensures over { result ≡ Err PassFault.Over → PassesLimit (write_cell event.now line.now number (numbers_of rule.now) builder.old) }
+    ensures over { result ≡ Err PassFault.Over →
+        PassesLimit (write_cell event.now line.now number (numbers_of rule.now) builder.old) }
     ensures within { OnOk result (IsInLimits builder.new) }
 {
     let control = write_control(event);
@@ -116,8 +120,11 @@ fn line_step<'a>(
 ) -> Result<Writer<'a>, PassFault>
     requires few { start ≤ length (done_of writer) }
     ensures body { IfOk result (λ after. body_of after ≡ body_of writer.entry) }
-    ensures exact { IfOk result (λ after. writing_of after builder.new ≡ line_step (body_of writer.entry) event.now start line.now (writing_of writer.entry builder.old)) }
-    ensures over { result ≡ Err PassFault.Over → PassesLimit (line_step (body_of writer.entry) event.now start line.now (writing_of writer.entry builder.old)).building }
+    ensures exact { IfOk result (λ after. writing_of after builder.new ≡
+        line_step (body_of writer.entry) event.now start line.now (writing_of writer.entry builder.old)) }
+    ensures over { result ≡ Err PassFault.Over →
+        PassesLimit
+        (line_step (body_of writer.entry) event.now start line.now (writing_of writer.entry builder.old)).building }
     ensures within { IsInLimits builder.old → OnOk result (IsInLimits builder.new) }
 {
     let memory = line.memory.as_slice();
@@ -134,8 +141,12 @@ fn lines_step<'a>(
     builder: &mut Builder,
 ) -> Result<Writer<'a>, PassFault>
     ensures body { IfOk result (λ after. body_of after ≡ body_of writer.entry) }
-    ensures exact { IfOk result (λ after. writing_of after builder.new ≡ lines_step (body_of writer.entry) rule.now.event [] rule.now.writes (writing_of writer.entry builder.old)) }
-    ensures over { result ≡ Err PassFault.Over → PassesLimit (lines_step (body_of writer.entry) rule.now.event [] rule.now.writes (writing_of writer.entry builder.old)).building }
+    ensures exact { IfOk result (λ after. writing_of after builder.new ≡
+        lines_step (body_of writer.entry) rule.now.event [] rule.now.writes (writing_of writer.entry builder.old)) }
+    ensures over { result ≡ Err PassFault.Over →
+        PassesLimit
+        (lines_step (body_of writer.entry) rule.now.event [] rule.now.writes
+        (writing_of writer.entry builder.old)).building }
     ensures within { IsInLimits builder.old → OnOk result (IsInLimits builder.new) }
 {
     let start = writer.count();
@@ -154,8 +165,10 @@ fn rules_step<'a>(
     builder: &mut Builder,
 ) -> Result<Writer<'a>, PassFault>
     ensures body { IfOk result (λ after. body_of after ≡ body_of writer.entry) }
-    ensures exact { IfOk result (λ after. writing_of after builder.new ≡ writes_step (body_of writer.entry) rules.now (writing_of writer.entry builder.old)) }
-    ensures over { result ≡ Err PassFault.Over → PassesLimit (writes_step (body_of writer.entry) rules.now (writing_of writer.entry builder.old)).building }
+    ensures exact { IfOk result (λ after. writing_of after builder.new ≡
+        writes_step (body_of writer.entry) rules.now (writing_of writer.entry builder.old)) }
+    ensures over { result ≡ Err PassFault.Over →
+        PassesLimit (writes_step (body_of writer.entry) rules.now (writing_of writer.entry builder.old)).building }
     ensures within { IsInLimits builder.old → OnOk result (IsInLimits builder.new) }
 {
     let mut writer = writer;
@@ -172,9 +185,12 @@ pub(crate) fn writes_step<'a>(
     writer: Writer<'a>,
     builder: &mut Builder,
 ) -> Result<(), PassFault>
-    ensures exact { OnOk result (builder.new ≡ (writes_step (body_of writer.entry) (flat_map (λ (p : Process). p.syncs) processes.now) (writing_of writer.entry builder.old)).building) }
+    ensures exact { OnOk result (builder.new ≡
+        (writes_step (body_of writer.entry) (flat_map (λ (p : Process). p.syncs) processes.now)
+        (writing_of writer.entry builder.old)).building) }
     ensures over { result ≡ Err PassFault.Over →
-        PassesLimit (writes_step (body_of writer.entry) (flat_map (λ (p : Process). p.syncs) processes.now) (writing_of writer.entry builder.old)).building }
+        PassesLimit (writes_step (body_of writer.entry) (flat_map (λ (p : Process). p.syncs) processes.now)
+        (writing_of writer.entry builder.old)).building }
     ensures within { IsInLimits builder.old → OnOk result (IsInLimits builder.new) }
 {
     let mut writer = writer;

@@ -8,18 +8,12 @@ use Rattle.rtl_ir.specs.declared.process.Process.{Process}
 use Rattle.rtl_ir.specs.declared.process.SyncRule.{SyncRule}
 use Rattle.rtl_ir.specs.declared.process.WriteLine.{WriteLine}
 use Rattle.rtl_ir.specs.Fault.{Fault, BadMemory, BadPort, BadProcess, TooWide, UnsupportedCell, Width, fault_if, spot}
-use Rattle.rtl_ir.specs.Drivers.{drives_of}
 use Rattle.rtl_ir.specs.Faults.{module_faults}
-use Rattle.rtl_ir.specs.Faults.Bits.{bits_faults}
-use Rattle.rtl_ir.specs.Faults.Cells.{cell_faults}
-use Rattle.rtl_ir.specs.Faults.Links.{link_faults}
 use Rattle.rtl_ir.specs.Faults.ProcessLimits.{gives_to_constant, has_uneven, is_too_wide}
 use Rattle.rtl_ir.specs.Faults.Processes.{faults_of_process, has_bad_line, is_bad_process, process_faults, starts_stand}
 use Rattle.rtl_ir.specs.Faults.RuleKinds.{rules_stand, writes, writes_stand}
 use Rattle.rtl_ir.specs.Faults.SelfReading.{reads_itself}
-use Rattle.rtl_ir.specs.Faults.Stores.{store_faults}
 use Rattle.rtl_ir.specs.Faults.TwoEdges.{two_edges_stand}
-use Rattle.rtl_ir.specs.Faults.Wires.{wire_faults}
 use Rattle.rtl_ir.specs.Assigns.{tree_bits}
 use Rattle.rtl_ir.specs.Rules.{acting_rules, has_item, is_init}
 use Rattle.rtl_ir.specs.Scope.{Scope}
@@ -30,48 +24,11 @@ use Rattle.net_model.specs.Lists.{In}
 use Rattle.net_model.specs.Within.{Each}
 use Rattle.net_model.proofs.Ranges.{each_flat_map}
 use Rattle.proc_tree.proofs.Ruled.{WritesNoStart, syncs_of}
-
-pub none_left : {A : Type 0} (xs ys : List A) → xs ++ ys ≡ [] → xs ≡ []
-none_left [] ys e = refl
-none_left (x ∷ xs) ys e = absurd (cc)
-
-pub none_right : {A : Type 0} (xs ys : List A) → xs ++ ys ≡ [] → ys ≡ []
-none_right [] ys e = e
-none_right (x ∷ xs) ys e = absurd (cc)
+use Rattle.pass_laws.proofs.Faultless.{HasNoFaults, none_left, none_right}
 
 no_fault : (t : Bool) (f : Fault) → fault_if t f ≡ [] → t ≡ false
 no_fault false f e = refl
 no_fault true f e = absurd (cc)
-
--- the parts of the faults of a module
-pub record HasNoFaults (scope : Scope) (ports : Ports) (m : Module) : Type 0 where
-  pub wires : wire_faults m.id [] m.wires ≡ []
-  pub stores : flat_map (store_faults scope m.id) m.memories ≡ []
-  pub cells : cell_faults scope ports m [] m.cells ≡ []
-  pub processes : process_faults scope ports m [] m.processes ≡ []
-  pub links : link_faults m.id 1 m.links ≡ []
-  pub bits : bits_faults m.id (drives_of ports m) 0 m.wires ≡ []
-
-pub no_faults : (scope : Scope) (ports : Ports) (m : Module) → module_faults scope ports m ≡ [] → HasNoFaults scope ports m
-no_faults scope ports m e =
-    let w : List Fault = wire_faults m.id [] m.wires in
-    let s : List Fault = flat_map (store_faults scope m.id) m.memories in
-    let c : List Fault = cell_faults scope ports m [] m.cells in
-    let p : List Fault = process_faults scope ports m [] m.processes in
-    let l : List Fault = link_faults m.id 1 m.links in
-    let b : List Fault = bits_faults m.id (drives_of ports m) 0 m.wires in
-    let el : (((w ++ s) ++ c) ++ p) ++ l ≡ [] = none_left ((((w ++ s) ++ c) ++ p) ++ l) b e in
-    let ep : ((w ++ s) ++ c) ++ p ≡ [] = none_left (((w ++ s) ++ c) ++ p) l el in
-    let ec : (w ++ s) ++ c ≡ [] = none_left ((w ++ s) ++ c) p ep in
-    let es : w ++ s ≡ [] = none_left (w ++ s) c ec in
-    record {
-      wires = none_left w s es;
-      stores = none_right w s es;
-      cells = none_right (w ++ s) c ec;
-      processes = none_right ((w ++ s) ++ c) p ep;
-      links = none_right (((w ++ s) ++ c) ++ p) l el;
-      bits = none_right ((((w ++ s) ++ c) ++ p) ++ l) b e;
-    }
 
 pub no_more : (scope : Scope) (ports : Ports) (m : Module) → HasNoFaults scope ports m → module_faults scope ports m ≡ []
 no_more scope ports m h = λ i. ((((h.wires i ++ h.stores i) ++ h.cells i) ++ h.processes i) ++ h.links i) ++ h.bits i

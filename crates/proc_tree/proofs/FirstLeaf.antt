@@ -11,7 +11,8 @@ use Rattle.rtl_ir.specs.declared.module.Link.{Link}
 use Rattle.rtl_ir.specs.Assigns.{assigned, last_source}
 use Rattle.rtl_ir.specs.Decisions.{Decision, Leaf, Choice, Branches, NoBranch, OneBranch, after_assigns, after_switches, branches_of, branches_with_leaves, case_decision, expanded_within, leaves_before, leaves_of, with_leaves}
 use Rattle.rtl_ir.specs.Flat.Start.{first_constant}
-use Rattle.rtl_ir.specs.Follow.{Join, all_joins, joins, source_at}
+use Rattle.rtl_ir.specs.Follow.{all_joins, joins, source_at}
+use Rattle.rtl_ir.specs.declared.follow.Join.{Join}
 use Rattle.rtl_ir.specs.Signals.{has_bit, same_bit}
 use Rattle.rtl_ir.specs.Tree.{Switches, NoSwitch, OneSwitch, Cases, NoCase, OneCase, CaseView}
 use Rattle.proc_tree.specs.Leaves.{case_first, cases_first, constant_or_x, switches_first}

@@ -20,7 +20,8 @@ use Rattle.rtl_ir.specs.Faults.Processes.{faults_of_process, has_bad_line, proce
 use Rattle.rtl_ir.specs.Faults.RuleKinds.{edges_agree, has_one_bit, is_one_edge, kinds_of, may_stand, rules_stand, writes, writes_stand}
 use Rattle.rtl_ir.specs.Faults.SelfReading.{reads_itself}
 use Rattle.rtl_ir.specs.Faults.TwoEdges.{are_one_constant, two_edges_stand}
-use Rattle.rtl_ir.specs.Follow.{Join, all_joins}
+use Rattle.rtl_ir.specs.Follow.{all_joins}
+use Rattle.rtl_ir.specs.declared.follow.Join.{Join}
 use Rattle.rtl_ir.specs.Rules.{acting_rules, is_init, updated_by}
 use Rattle.rtl_ir.specs.Scope.{Scope}
 use Rattle.rtl_ir.specs.Signals.{has_constant}
@@ -32,11 +33,12 @@ use Rattle.net_model.specs.Within.{Each}
 use Rattle.net_model.specs.Proc.Start.{begun_wires, proc_tree_of, ruled_process}
 use Rattle.net_model.proofs.Members.{In-cases, In-left, In-right, map-append}
 use Rattle.net_model.proofs.Ranges.{each_both, each_more, each_none}
-use Rattle.proc_tree.proofs.Faultless.{IsFine, fine_again, is_fine, no_faults, no_more, none_left, none_right, stand_write}
+use Rattle.proc_tree.proofs.Faultless.{IsFine, fine_again, is_fine, no_more, stand_write}
 use Rattle.proc_tree.proofs.Lines.{begun_lines, same_bits_faults, same_port_drives, same_wire_faults}
 use Rattle.proc_tree.proofs.Ruled.{WritesNoStart, acting_left, no_lines_left, rules_left}
 use Rattle.proc_tree.proofs.Ruling.{root_again, tree_bits_again}
 use Rattle.proc_tree.proofs.Trees.{none_among, ruled_assigns, ruled_pass, ruled_uneven}
+use Rattle.pass_laws.proofs.Faultless.{no_faults, none_left, none_right}
 
 -- the lines of rules that are left are lines of the rules
 lines_left : {B : Type 0} (f : SyncRule → List B) (rules : List SyncRule) (x : B) → In x (flat_map f (rules_left rules)) → In x (flat_map f rules)

@@ -12,7 +12,8 @@ use Rattle.rtl_bits.specs.declared.bit.Bit.TheVariants.{X}
 use Rattle.rtl_ir.specs.declared.module.Link.{Link}
 use Rattle.rtl_ir.specs.Assigns.{assigned, case_assigns, cases_assigns, each_once, last_source, left_bits, switches_assigns}
 use Rattle.rtl_ir.specs.Decisions.{expanded_within}
-use Rattle.rtl_ir.specs.Follow.{Join, all_joins, end_within, follow, follow_joins, joins, source_at}
+use Rattle.rtl_ir.specs.Follow.{all_joins, end_within, follow, follow_joins, joins, source_at}
+use Rattle.rtl_ir.specs.declared.follow.Join.{Join}
 use Rattle.rtl_ir.specs.Signals.{has_bit, same_bit, wire_bits}
 use Rattle.rtl_ir.specs.Tree.{Switches, NoSwitch, OneSwitch, Cases, NoCase, OneCase, CaseView}
 use Rattle.net_index.proofs.DriverMarks.{once_same}

@@ -9,8 +9,6 @@ pub mod Lines
 pub mod Trees
 pub mod Forming
 pub mod Promised
-pub mod PatternsLeft
-pub mod TreeReading
 pub mod FirstLeaf
 pub mod LeafWays
 pub mod Giving

@@ -13,12 +13,13 @@ use Rattle.rtl_sig.specs.declared.sig.SigBit.TheVariants.{Wire as OnWire}
 use Rattle.rtl_ir.specs.declared.module.Module.{Module}
 use Rattle.rtl_ir.specs.declared.value.Attribute.{Attribute}
 use Rattle.rtl_ir.specs.declared.wire.Wire.{Wire}
-use Rattle.rtl_ir.specs.Flat.Start.{Begun, attribute_bits, init_bits, last_start, process_starts, start_of}
+use Rattle.rtl_ir.specs.Flat.Start.{Begun, init_bits, last_start, process_starts, start_of}
+use Rattle.rtl_ir.specs.Attributes.{attribute_bits}
 use Rattle.net_model.specs.Proc.Start.{begun_wires, init_attribute, wire_starts, with_attribute}
 use Rattle.proc_tree.specs.declared.starts.Starts.{Starts}
 use Rattle.proc_tree.specs.Attributes.{place_of}
 use Rattle.proc_tree.specs.Starts.{AreStarts, AreStartsOf, begun_wire, wire_is_begun}
-use Rattle.proc_tree.proofs.TreeReading.{front}
+use Rattle.process_trees.proofs.Fronts.{front}
 
 -- the place of an attribute
 no_place : (o : Option ℕ) → option_map suc o ≡ None → o ≡ None

@@ -1,7 +1,6 @@
 -- What the two steps promise of a module that may be given.
-use Rattle.std.proofs.Common.{◌≡◌, ℕ, Bool, true, false, List, [], ◌∷◌, if◌then◌else◌, inl, inr, length, Result, Ok, Err, refl, sym, subst}
-use Rattle.std.specs.Prelude.{IfOk, map, not}
-use Rattle.rtl_bits.specs.declared.memory.Memory.{Memory}
+use Rattle.std.proofs.Common.{◌≡◌, ℕ, Bool, true, false, List, [], ◌∷◌, if◌then◌else◌, inl, inr, length, refl, sym, subst}
+use Rattle.std.specs.Prelude.{map, not}
 use Rattle.rtl_ir.specs.declared.module.Module.{Module}
 use Rattle.rtl_ir.specs.declared.ports.PortTable.{PortTable}
 use Rattle.rtl_ir.specs.declared.process.Process.{Process}
@@ -15,20 +14,21 @@ use Rattle.rtl_ir.specs.Scope.{Scope, with_processes}
 use Rattle.rtl_ir.specs.SwitchRules.{root_by_rules}
 use Rattle.rtl_ir.specs.Types as types
 use Rattle.net_model.specs.Lists.{Distinct, In}
-use Rattle.net_model.specs.Refine.{IsWellDriven, RefinesIn, RefinesOver, places_of}
+use Rattle.net_model.specs.Refine.{IsWellDriven, RefinesOver, places_of}
 use Rattle.net_model.specs.Within.{CellIn, Each, IsWithin, LinkIn, ProcessIn}
 use Rattle.net_model.specs.Proc.Start.{begun_wires, proc_tree_of, ruled_process}
 use Rattle.net_model.proofs.Lifted.{lifted}
 use Rattle.net_model.proofs.Ranges.{RootIn, root_in}
 use Rattle.net_model.proofs.Members.{In-mapped}
 use Rattle.proc_laws.specs.Ready.{AreRuled, HasItsBits, HaveNoLines, HaveNoStarts, IsReady, UpdatesHaveBits}
-use Rattle.proc_laws.specs.Step.{IsStep, StaysReady}
-use Rattle.proc_tree.proofs.Faultless.{all_write, no_faults}
+use Rattle.proc_laws.specs.Step.{IsStep}
+use Rattle.proc_tree.proofs.Faultless.{all_write}
 use Rattle.proc_tree.proofs.Forming.{rules_among, tree_faultless}
 use Rattle.proc_tree.proofs.Lines.{begun_lines, same_bits, same_length, same_names, same_ports}
 use Rattle.proc_tree.proofs.Ruled.{WritesNoStart, rules_left, syncs_of}
 use Rattle.proc_tree.proofs.Ruling.{root_again}
 use Rattle.proc_tree.proofs.Standing.{rows_stay}
+use Rattle.pass_laws.proofs.Faultless.{no_faults}
 
 -- the rules that are left give no start values
 none_begins : (rules : List SyncRule) → Each (λ (r : SyncRule). is_init r.event ≡ false) (rules_left rules)
@@ -78,7 +78,7 @@ module _ (m : Module) where
             (λ q i. let f = In-mapped ruled_process q m.processes i in subst (ProcessIn (length m.wires)) (sym f.2) (process_within (length m.wires) f.0 (h.processes f.0 f.1)));
       }
 
-  bits_stay : HasItsBits m → HasItsBits (proc_tree_of m)
+  pub bits_stay : HasItsBits m → HasItsBits (proc_tree_of m)
   bits_stay h =
       let there = same_bits (begun_wires m 0 m.wires) m.wires (begun_lines m 0 m.wires) in
       record {
@@ -115,55 +115,14 @@ module _ (m : Module) where
 pub quiet_all : (scope : Scope) (ports : types.Ports) (m : Module) → IsReady scope ports m → Each WritesNoStart (syncs_of m.processes)
 quiet_all scope ports m h = all_write scope ports m (no_faults scope ports m h.faultless).processes
 
--- of what is answered, where it is what the two steps define
-module _ (m : Module) (r : Result Module Memory) (is : IfOk r (λ after. after ≡ proc_tree_of m)) where
-  so : (Q : Module → Type 0) → Q (proc_tree_of m) → IfOk r Q
-  so Q q = by r is
-    where
-      by : (r : Result Module Memory) → IfOk r (λ after. after ≡ proc_tree_of m) → IfOk r Q
-      by (Ok after) e = subst Q (sym e) q
-      by (Err fault) e = tt
-
-  pub same_id : IfOk r (λ after. after.id ≡ m.id)
-  same_id = so (λ after. after.id ≡ m.id) refl
-
-  pub same_ports_there : IfOk r (λ after. ports_of after.wires ≡ ports_of m.wires)
-  same_ports_there = so (λ after. ports_of after.wires ≡ ports_of m.wires) (ports_stay m)
-
-  pub same_instances : IfOk r (λ after. flat.instances after.cells ≡ flat.instances m.cells)
-  same_instances = so (λ after. flat.instances after.cells ≡ flat.instances m.cells) refl
-
-  pub ruled : IfOk r (λ after. AreRuled after)
-  ruled = so (λ after. AreRuled after) (are_ruled m)
-
-  pub no_starts : IfOk r (λ after. HaveNoStarts after)
-  no_starts = so (λ after. HaveNoStarts after) (have_no_starts m)
-
-  pub no_lines : IfOk r (λ after. HaveNoLines m → HaveNoLines after)
-  no_lines = so (λ after. HaveNoLines m → HaveNoLines after) (have_no_lines m)
-
-  pub placed_there : HasItsBits m → IfOk r (λ after. HasItsBits after)
-  placed_there placed = so (λ after. HasItsBits after) (bits_stay m placed)
-
-  module _ (table : PortTable) where
-    pub well_formed : IfOk r (λ after. StaysReady table m after)
-    well_formed = so (λ after. StaysReady table m after) (tree_ready m with_processes (λ p e. e) (types.table_ports table.modules))
-
-    module _ (placed : HasItsBits m) (h : IsReady with_processes (types.table_ports table.modules) m) where
-      quiet : Each WritesNoStart (syncs_of m.processes)
-      quiet = quiet_all with_processes (types.table_ports table.modules) m h
-
-      pub refines : IfOk r (λ after. RefinesIn m after table)
-      refines = so (λ after. RefinesIn m after table) (tree_refines m placed quiet (tree.table_ports table))
-
-      pub well_driven : IfOk r (λ after. (ports : flat.Ports) → IsWellDriven ports m → IsWellDriven ports after)
-      well_driven = so (λ after. (ports : flat.Ports) → IsWellDriven ports m → IsWellDriven ports after) (tree_driven m placed quiet)
-
-      pub step : IfOk r (λ after. IsStep table m after)
-      step = so (λ after. IsStep table m after) (record {
-        id = refl;
-        ports = sym (ports_stay m);
-        instances = refl;
-        driven = λ over agree. tree_driven m placed quiet over;
-        refines = tree_refines m placed quiet (tree.table_ports table);
-      })
+-- the two steps are one
+pub tree_step : (table : PortTable) (m : Module) → HasItsBits m → IsReady with_processes (types.table_ports table.modules) m → IsStep table m (proc_tree_of m)
+tree_step table m placed h =
+    let quiet : Each WritesNoStart (syncs_of m.processes) = quiet_all with_processes (types.table_ports table.modules) m h in
+    record {
+      refines = tree_refines m placed quiet (tree.table_ports table);
+      driven = tree_driven m placed quiet;
+      id = refl;
+      ports = sym (ports_stay m);
+      instances = refl;
+    }

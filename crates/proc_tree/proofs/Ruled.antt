@@ -18,7 +18,8 @@ use Rattle.rtl_ir.specs.Flat.Place.{Path}
 use Rattle.rtl_ir.specs.Flat.Point.{bit_place}
 use Rattle.rtl_ir.specs.Flat.Process.{process_rows, rules_rows}
 use Rattle.rtl_ir.specs.Flat.Start.{first_constant, process_starts}
-use Rattle.rtl_ir.specs.Follow.{Join, all_joins}
+use Rattle.rtl_ir.specs.Follow.{all_joins}
+use Rattle.rtl_ir.specs.declared.follow.Join.{Join}
 use Rattle.rtl_ir.specs.Rules.{acting_rules, has_line, init_lines, is_init}
 use Rattle.rtl_ir.specs.SwitchRules.{root_by_rules}
 use Rattle.net_model.specs.Within.{Each}

@@ -19,7 +19,8 @@ use Rattle.rtl_ir.specs.declared.wire.Wire.{Wire}
 use Rattle.rtl_ir.specs.Constants.{value_bits}
 use Rattle.rtl_ir.specs.Flat.Place.{Path, wire_place}
 use Rattle.rtl_ir.specs.Flat.Point.{name_or_empty}
-use Rattle.rtl_ir.specs.Flat.Start.{Begun, attribute_bits, init_bit, init_bits, last_start, process_starts, start_of}
+use Rattle.rtl_ir.specs.Flat.Start.{Begun, init_bit, init_bits, last_start, process_starts, start_of}
+use Rattle.rtl_ir.specs.Attributes.{attribute_bits}
 use Rattle.net_model.specs.Proc.Start.{begun_wires, init_attribute, is_begun, ruled_process, wire_starts, with_attribute}
 use Rattle.proc_laws.specs.Ready.{IsBitOf}
 use Rattle.proc_tree.proofs.Naming.{SamePlaces}

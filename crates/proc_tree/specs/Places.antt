@@ -1,5 +1,5 @@
 -- The places of lines, one by one.
-use Rattle.rtl_ir.specs.Follow.{Join}
+use Rattle.rtl_ir.specs.declared.follow.Join.{Join}
 use Rattle.proc_tree.specs.declared.places.Place.{Place}
 
 -- a place, as contracts see it

@@ -5,7 +5,7 @@ use Rattle.rtl_sig.specs.declared.sig.WireBit.{WireBit}
 use Rattle.rtl_ir.specs.declared.module.Module.{Module}
 use Rattle.rtl_ir.specs.declared.wire.Wire.{Wire}
 use Rattle.rtl_ir.specs.Flat.Start.{Begun, last_start, process_starts}
-use Rattle.rtl_ir.specs.Follow.{Join}
+use Rattle.rtl_ir.specs.declared.follow.Join.{Join}
 use Rattle.rtl_ir.specs.Tree.{CaseView}
 use Rattle.net_index.specs.IndexTable.{at_bit}
 use Rattle.net_model.specs.Proc.Start.{init_attribute, is_begun, wire_starts, with_attribute}

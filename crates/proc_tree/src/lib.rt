@@ -4,18 +4,13 @@
 mod leaves;
 mod places;
 mod processes;
-mod reading;
 mod starts;
-mod tree;
 mod wires;
 
 ghost use Rattle.std.specs.Prelude.{◌≡◌, IfOk};
-ghost use Rattle.rtl_ir.specs.Flat.Cell.{Ports, instances};
-ghost use Rattle.rtl_ir.specs.Ports.{ports_of};
 ghost use Rattle.rtl_ir.specs.Scope.{with_processes};
 ghost use Rattle.rtl_ir.specs.Types.{table_ports};
 ghost use Rattle.net_model.specs.Proc.Start.{proc_tree_of};
-ghost use Rattle.net_model.specs.Refine.{IsWellDriven, RefinesIn};
 ghost use Rattle.proc_laws.specs.Ready.{AreRuled, HasItsBits, HaveNoLines, HaveNoStarts, IsReady};
 ghost use Rattle.proc_laws.specs.Step.{IsStep, StaysReady};
 
@@ -26,23 +21,18 @@ use rtl_bits::{Copied, Memory, Seq};
 use rtl_ir::{Module, PortTable};
 use std::alloc::Global;
 
-/// The module whose processes have their switches by the rules, and give no start values: those stand in the attributes `\init`
-/// of the wires. In the Yosys manual, the commands `proc_rmdead` and `proc_init`.
+/// The module whose processes have their switches by the rules, and give no start values: those stand in the attributes
+/// `\init` of the wires. In the Yosys manual, the commands `proc_rmdead` and `proc_init`.
 pub fn apply(alloc: Global, module: &Module, ports: &PortTable) -> Result<Module, Memory>
     requires ready { IsReady with_processes (table_ports ports.now.modules) «module».now }
     requires placed { HasItsBits «module».now }
     ensures exact { IfOk result (λ after. after ≡ proc_tree_of «module».now) }
-    ensures refines { IfOk result (λ after. RefinesIn «module».now after ports.now) }
-    ensures well_driven { IfOk result (λ after. (over : Ports) → IsWellDriven over «module».now → IsWellDriven over after) }
-    ensures well_formed { IfOk result (λ after. StaysReady ports.now «module».now after) }
-    ensures placed { IfOk result (λ after. HasItsBits after) }
-    ensures step { IfOk result (λ after. IsStep ports.now «module».now after) }
-    ensures same_id { IfOk result (λ after. after.id ≡ «module».now.id) }
-    ensures same_ports { IfOk result (λ after. ports_of after.wires ≡ ports_of «module».now.wires) }
-    ensures same_instances { IfOk result (λ after. instances after.cells ≡ instances «module».now.cells) }
-    ensures ruled { IfOk result (λ after. AreRuled after) }
-    ensures no_starts { IfOk result (λ after. HaveNoStarts after) }
-    ensures no_lines { IfOk result (λ after. HaveNoLines «module».now → HaveNoLines after) }
+    ensures step { IfOk result (IsStep ports.now «module».now) }
+    ensures ready { IfOk result (StaysReady ports.now «module».now) }
+    ensures placed { IfOk result HasItsBits }
+    ensures ruled { IfOk result AreRuled }
+    ensures no_starts { IfOk result HaveNoStarts }
+    ensures no_lines { HaveNoLines «module».now → IfOk result HaveNoLines }
 {
     tree_of(alloc, module)
 }

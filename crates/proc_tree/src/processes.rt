@@ -8,7 +8,7 @@ ghost use Rattle.net_model.specs.Proc.Start.{ruled_process};
 ghost use Rattle.proc_tree.specs.Starts.{Adds};
 
 use crate::starts::Starts;
-use crate::tree::ruled_case;
+use process_trees::ruled;
 use rtl_bits::{Copied, Memory, Seq};
 use rtl_ir::{Event, Process, SyncRule};
 use std::alloc::Global;
@@ -35,7 +35,7 @@ fn ruled_process(alloc: Global, process: &Process, starts: &mut Starts) -> Resul
     ensures starts { OnOk result (Adds starts.old starts.new (process_starts process.now)) }
 {
     let rules = process.syncs.as_slice();
-    let root = ruled_case(alloc, process.root.patterns.copy()?, &process.root)?;
+    let root = ruled(alloc, &process.root)?;
     starts.put_process(alloc, &root, rules)?;
     Ok(Process {
         name: process.name.copy()?,

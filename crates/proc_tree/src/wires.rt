@@ -3,15 +3,14 @@
 ghost use Rattle.std.specs.Prelude.{◌≡◌, ◌<◌, IfOk, IfSome, codes, length, slice_get, slice_index_or, slice_set, vec_len};
 ghost use Rattle.rtl_bits.specs.declared.bit.Bit.TheVariants.{X};
 ghost use Rattle.rtl_ir.specs.declared.module.Module.{Module};
-ghost use Rattle.rtl_ir.specs.Flat.Start.{attribute_bits};
+ghost use Rattle.rtl_ir.specs.Attributes.{attribute_bits};
 ghost use Rattle.net_model.specs.Proc.Start.{begun_wires, init_attribute, with_attribute, wire_starts};
 ghost use Rattle.proc_tree.specs.Attributes.{place_of};
 ghost use Rattle.proc_tree.specs.Starts.{AreStartsOf, begun_wire};
 
 use crate::starts::Starts;
-use net_index::value_bits;
 use rtl_bits::{Bit, Bits, Copied, Memory, Seq, Text};
-use rtl_ir::{Attribute, Value, Wire};
+use rtl_ir::{Attribute, Value, Wire, value_bits};
 use rtl_sig::WireBit;
 use std::alloc::Global;
 

@@ -7,7 +7,7 @@ use Rattle.std.specs.List.{list_any}
 use Rattle.rtl_sig.specs.declared.sig.WireBit.{WireBit}
 use Rattle.rtl_ir.specs.Signals.{has_bit, same_bit}
 use Rattle.process_check.specs.Search.{In}
-use Rattle.process_check.proofs.Fronts.{front}
+use Rattle.process_trees.proofs.Fronts.{front}
 
 -- one of some items
 abbrev pub Among : {A : Type 0} → A → List A → Type 0

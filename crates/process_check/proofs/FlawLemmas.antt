@@ -14,7 +14,7 @@ use Rattle.process_check.specs.declared.flaws.Flaw.{Flaw}
 use Rattle.process_check.specs.declared.flaws.Flaw.TheVariants.{TooWide, Uneven, Constant}
 use Rattle.process_check.specs.Flaws.{case_has, cases_have, line_has, other_width, patterns_have, rule_has, switch_has, switches_have, write_has}
 use Rattle.process_check.proofs.Among.{any-append}
-use Rattle.process_check.proofs.Fronts.{front}
+use Rattle.process_trees.proofs.Fronts.{front}
 
 or_assoc : (x y z : Bool) → ((x || y) || z) ≡ (x || (y || z))
 or_assoc true y z = refl

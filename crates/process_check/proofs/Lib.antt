@@ -1,4 +1,3 @@
-pub mod Fronts
 pub mod Searches
 pub mod Endings
 pub mod Among
@@ -9,4 +8,3 @@ pub mod GraphEdges
 pub mod RuleLemmas
 pub mod Updating
 pub mod Settled
-pub mod Leveling

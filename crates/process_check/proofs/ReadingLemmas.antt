@@ -9,11 +9,12 @@ use Rattle.rtl_ir.specs.Assigns.{assigned, last_source, left_bits}
 use Rattle.rtl_ir.specs.Follow.{joins}
 use Rattle.rtl_ir.specs.Signals.{wire_bits}
 use Rattle.process_check.specs.declared.readings.Edge.{Edge}
-use Rattle.process_check.specs.Readings.{bit_edges, edge, edges_from, edges_to, number_at, number_in, numbers_in, place_edges}
+use Rattle.process_trees.specs.Numbers.{number_in}
+use Rattle.process_check.specs.Readings.{bit_edges, edge, edges_from, edges_to, number_at, numbers_in, place_edges}
 use Rattle.process_check.proofs.Among.{flat_map-append}
 use Rattle.process_check.proofs.Selves.{assigned-cons, last_source-append}
-use Rattle.process_check.proofs.Fronts.{front}
-use Rattle.net_index.proofs.IndexPlaces.{place_added, places_all}
+use Rattle.process_trees.proofs.Fronts.{front}
+use Rattle.rtl_ir.proofs.JoinPlaces.{place_added, places_all}
 use Rattle.std.proofs.lemmas.List.{map-append}
 
 -- a place of the left side of an assign, and those behind it

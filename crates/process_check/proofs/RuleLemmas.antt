@@ -14,10 +14,11 @@ use Rattle.rtl_ir.specs.declared.module.Link.{Link}
 use Rattle.rtl_ir.specs.declared.process.SyncRule.{SyncRule}
 use Rattle.rtl_ir.specs.Faults.RuleKinds.{RuleKind, AtLevel, AtEdge, edges_agree, has_one_bit, is_edge, is_one_edge, kind_of_event, kinds_of, may_stand, rules_stand, same_line, writes}
 use Rattle.rtl_ir.specs.Rules.{acting_rules, is_init}
-use Rattle.rtl_ir.specs.WritePorts.{same_place, same_signal, same_value}
-use Rattle.process_check.specs.Acting.{Acts, acting_stand, acts, is_level}
-use Rattle.process_check.specs.declared.acting.Acting.{Acting}
-use Rattle.process_check.specs.declared.acting.Acting.TheVariants.{Pair, Several}
+use Rattle.rtl_ir.specs.Signals.{same_place, same_signal, same_value}
+use Rattle.process_trees.specs.Acting.{Acts, acts}
+use Rattle.process_check.specs.Acting.{acting_stand, is_level}
+use Rattle.process_trees.specs.declared.acting.Acting.{Acting}
+use Rattle.process_trees.specs.declared.acting.Acting.TheVariants.{Pair, Several}
 use Rattle.process_check.proofs.Among.{both, same_bit-refl, same_bit-true}
 
 -- equal constants, places, signals and lines are the same
@@ -122,13 +123,3 @@ several_fall rules a b c rest e =
 pub all_found : (rules : List SyncRule) (stand some : Bool) → stand ≡ acting_stand (acting_rules rules) → some ≡ list_any (λ (r : SyncRule). is_init r.event && writes r) rules
     → (stand && not some) ≡ rules_stand rules
 all_found rules stand some a b = (λ i. a i && not (b i)) ∙ parts_stand rules
-
--- one rule more than two, or than more
-pub many_act : (acting : Acting) (rules : List SyncRule) (r : SyncRule) → Acts acting rules
-    → ((x : Bor SyncRule) × (y : Bor SyncRule) × (acting ≡ Pair x y)) ⊎ (acting ≡ Several) → Acts Several (rules ++ r ∷ [])
-many_act acting rules r a (inl p) =
-    let b = subst (λ k. Acts k rules) p.2 a in
-    (p.0.now, p.1.now, r, [], ap (λ rs. rs ++ r ∷ []) b)
-many_act acting rules r a (inr e) =
-    let b = subst (λ k. Acts k rules) e a in
-    (b.0, b.1, b.2, b.3 ++ r ∷ [], ap (λ rs. rs ++ r ∷ []) b.4)

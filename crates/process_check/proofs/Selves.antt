@@ -10,11 +10,13 @@ use Rattle.rtl_ir.specs.declared.value.Attribute.{Attribute}
 use Rattle.rtl_ir.specs.Assigns.{assigned, cases_assigns, last_source, left_bits, switches_assigns}
 use Rattle.rtl_ir.specs.Faults.Recursion.{leads_within}
 use Rattle.rtl_ir.specs.Faults.SelfReading.{assigns_read, bits_read, cases_name, cases_read, reads_itself, reads_within, switches_read}
-use Rattle.rtl_ir.specs.Follow.{Join, all_joins, joins}
+use Rattle.rtl_ir.specs.Follow.{all_joins, joins}
+use Rattle.rtl_ir.specs.declared.follow.Join.{Join}
 use Rattle.rtl_ir.specs.Signals.{has_bit, same_bit, wire_bits}
 use Rattle.rtl_ir.specs.Tree.{Switches, NoSwitch, OneSwitch, Cases, NoCase, OneCase, CaseView}
 use Rattle.process_check.specs.declared.readings.Edge.{Edge}
-use Rattle.process_check.specs.Readings.{AreBetween, HasEdge, HasEdges, assign_edges, bit_edges, case_edges, cases_edges, edges_from, edges_to, number_from, number_in, numbers_in, switches_edges}
+use Rattle.process_trees.specs.Numbers.{number_from, number_in}
+use Rattle.process_check.specs.Readings.{AreBetween, HasEdge, HasEdges, assign_edges, bit_edges, case_edges, cases_edges, edges_from, edges_to, numbers_in, switches_edges}
 use Rattle.process_check.specs.Search.{In, followers}
 use Rattle.process_check.proofs.Among.{Among, In-split, among-left, among-right, among-split, among_has, any_found, both, either, flat_map-append, found_any, found_number, has_among, number_found, or_left, or_right, same_bit-refl, same_bit-true}
 use Rattle.process_check.proofs.Searches.{In-left, In-right}

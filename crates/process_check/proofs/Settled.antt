@@ -1,6 +1,7 @@
 -- What is found of the values of updated bits is what the faults say.
-use Rattle.std.proofs.Common.{◌≡◌, ℕ, ◌≤◌, min, Bool, true, false, cond, ◌&&◌, ◌||◌, List, [], ◌∷◌, length, drop, Option, Some, refl, sym, ◌∙◌, ap, subst}
+use Rattle.std.proofs.Common.{◌≡◌, ℕ, ◌+◌, ◌<◌, ◌≤◌, min, Bool, true, false, cond, ◌&&◌, ◌||◌, List, [], ◌∷◌, length, get_or, drop, Option, Some, refl, sym, ◌∙◌, ap, subst}
 use Rattle.std.proofs.lemmas.Bool.{false≢true}
+use Rattle.std.proofs.lemmas.List.Folds.{list_all-append}
 use Rattle.std.specs.Bool.{beq}
 use Rattle.std.specs.List.{list_all}
 use Rattle.rtl_sig.specs.declared.sig.SigBit.{SigBit}
@@ -8,14 +9,15 @@ use Rattle.rtl_sig.specs.declared.sig.WireBit.{WireBit}
 use Rattle.rtl_ir.specs.declared.module.Module.{Module}
 use Rattle.rtl_ir.specs.EventTests.{differs, switch_test}
 use Rattle.rtl_ir.specs.Faults.TwoEdges.{EdgeBit, are_all, are_one_constant, is_tested, one_resets, resets_bit, resets_well}
-use Rattle.rtl_ir.specs.Follow.{Join, joins}
+use Rattle.rtl_ir.specs.Follow.{joins}
+use Rattle.rtl_ir.specs.declared.follow.Join.{Join}
 use Rattle.rtl_ir.specs.Tree.{CaseView}
 use Rattle.rtl_ir.specs.Types.{Ports}
-use Rattle.event_tests.specs.declared.tables.EventTests.{EventTests}
-use Rattle.event_tests.specs.Tables.{AreTests}
-use Rattle.tree_leaves.proofs.Leveled.{leveled_leaves}
-use Rattle.process_check.specs.Levels.{open_case}
-use Rattle.net_index.proofs.IndexPlaces.{places_all}
+use Rattle.process_trees.specs.declared.tables.EventTests.{EventTests}
+use Rattle.process_trees.specs.Tables.{AreTests}
+use Rattle.process_trees.proofs.Leveled.{leveled_leaves}
+use Rattle.process_trees.specs.Levels.{open_case}
+use Rattle.rtl_ir.proofs.JoinPlaces.{place_added, places_all}
 use Rattle.process_check.specs.Values.{WereAsked, is_settled}
 
 -- one constant
@@ -28,6 +30,29 @@ settled_itself a b itself r s f e i same = same ∙ ap (λ x. x && b) (sym i) �
 
 pub settled_neither : (a b itself : Bool) (r : Bool) → r ≡ false → r ≡ a → itself ≡ false → itself ≡ (a || (itself && b))
 settled_neither a b itself r f e i = i ∙ ap (λ x. x && b) (sym i) ∙ ap (λ x. x || (itself && b)) (sym f ∙ e)
+
+-- the next place and those behind it
+line_step : (f : Join → Bool) (left right : List SigBit) (i : ℕ) (d : SigBit) → i < min (length left) (length right) → (here all : Bool)
+    → here ≡ list_all f (joins (get_or left i d ∷ []) (get_or right i d ∷ [])) → list_all f (joins (drop i left) (drop i right)) ≡ all
+    → (here && list_all f (joins (drop (i + 1) left) (drop (i + 1) right))) ≡ all
+line_step f left right i d h here all e inv =
+    let one : List Join = joins (get_or left i d ∷ []) (get_or right i d ∷ []) in
+    let rest : List Join = joins (drop (i + 1) left) (drop (i + 1) right) in
+    ap (λ b. b && list_all f rest) e ∙ sym (list_all-append f one rest)
+    ∙ ap (list_all f) (place_added left right i d h [] one (joins (drop i left) (drop i right)) refl refl) ∙ inv
+
+-- a place that is settled
+pub line_goes_on : (f : Join → Bool) (left right : List SigBit) (i : ℕ) (d : SigBit) → i < min (length left) (length right) → (here all : Bool) → here ≡ true
+    → here ≡ list_all f (joins (get_or left i d ∷ []) (get_or right i d ∷ [])) → list_all f (joins (drop i left) (drop i right)) ≡ all
+    → list_all f (joins (drop (i + 1) left) (drop (i + 1) right)) ≡ all
+line_goes_on f left right i d h here all t e inv =
+    ap (λ b. b && list_all f (joins (drop (i + 1) left) (drop (i + 1) right))) (sym t) ∙ line_step f left right i d h here all e inv
+
+-- a place that is not
+pub line_stops : (f : Join → Bool) (left right : List SigBit) (i : ℕ) (d : SigBit) → i < min (length left) (length right) → (here all : Bool) → here ≡ false
+    → here ≡ list_all f (joins (get_or left i d ∷ []) (get_or right i d ∷ [])) → list_all f (joins (drop i left) (drop i right)) ≡ all → false ≡ all
+line_stops f left right i d h here all t e inv =
+    ap (λ b. b && list_all f (joins (drop (i + 1) left) (drop (i + 1) right))) (sym t) ∙ line_step f left right i d h here all e inv
 
 -- past the last place
 pub line_end : (f : Join → Bool) (left right : List SigBit) (i : ℕ) → min (length left) (length right) ≤ i → (all : Bool)

@@ -6,11 +6,11 @@ use Rattle.rtl_ir.specs.declared.process.SyncRule.{SyncRule}
 use Rattle.rtl_ir.specs.Assigns.{left_bits}
 use Rattle.rtl_ir.specs.Rules.{acting_rules, beyond, updated_bits, updated_by, without_bit}
 use Rattle.rtl_ir.specs.Signals.{same_bit}
-use Rattle.process_check.specs.Acting.{acts}
-use Rattle.process_check.specs.Readings.{ByBit}
+use Rattle.process_trees.specs.Acting.{acts}
+use Rattle.process_trees.specs.Numbers.{ByBit}
 use Rattle.process_check.specs.Updates.{AreCounts, AreGiven, AreRaised, count_in, counted, own_bits, times}
 use Rattle.process_check.proofs.Among.{same_bit-refl, same_bit-true}
-use Rattle.process_check.proofs.Fronts.{front}
+use Rattle.process_trees.proofs.Fronts.{front}
 
 pub times-append : (xs ys : List WireBit) (b : WireBit) → times (xs ++ ys) b ≡ times xs b + times ys b
 times-append [] ys b = omega arith

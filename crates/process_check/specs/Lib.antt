@@ -5,4 +5,3 @@ pub mod Readings
 pub mod Acting
 pub mod Updates
 pub mod Values
-pub mod Levels

@@ -6,8 +6,8 @@ use Rattle.rtl_sig.specs.declared.sig.WireBit.{WireBit}
 use Rattle.rtl_ir.specs.declared.process.SyncRule.{SyncRule}
 use Rattle.rtl_ir.specs.Assigns.{left_bits}
 use Rattle.rtl_ir.specs.Signals.{same_bit}
-use Rattle.process_check.specs.Acting.{acts}
-use Rattle.process_check.specs.Readings.{ByBit}
+use Rattle.process_trees.specs.Acting.{acts}
+use Rattle.process_trees.specs.Numbers.{ByBit}
 
 -- how often a bit stands in a list
 abbrev pub times : List WireBit → WireBit → ℕ

@@ -4,11 +4,11 @@ use Rattle.rtl_sig.specs.declared.sig.WireBit.{WireBit}
 use Rattle.rtl_ir.specs.declared.module.Module.{Module}
 use Rattle.rtl_ir.specs.Decisions.{expanded, leaves_of}
 use Rattle.rtl_ir.specs.Faults.TwoEdges.{are_all, are_one_constant}
-use Rattle.rtl_ir.specs.Follow.{Join}
+use Rattle.rtl_ir.specs.declared.follow.Join.{Join}
 use Rattle.rtl_ir.specs.Tree.{CaseView}
 use Rattle.rtl_ir.specs.Types.{Ports}
-use Rattle.event_tests.specs.declared.tables.EventTests.{EventTests}
-use Rattle.event_tests.specs.Tables.{AreTests}
+use Rattle.process_trees.specs.declared.tables.EventTests.{EventTests}
+use Rattle.process_trees.specs.Tables.{AreTests}
 
 -- whatever the decisions, a bit is given one constant, or itself where that may be
 abbrev pub is_settled : CaseView → List WireBit → Bool → Join → Bool

@@ -1,11 +1,8 @@
 //! Whether a process is one that can be taken.
 #![tactic(auto)]
 
-mod acting;
-mod assigned;
 mod ends;
 mod flaws;
-mod level;
 mod lines;
 mod process;
 mod readings;
@@ -17,8 +14,6 @@ mod two_edges;
 mod updates;
 mod values;
 
-pub use acting::writes;
-pub use assigned::tree_bits;
 pub use ends::{ending_places, is_recursive};
 pub use flaws::{gives_to_constant, has_uneven, is_too_wide};
 pub use lines::{has_constant, is_uneven};

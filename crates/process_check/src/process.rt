@@ -4,21 +4,18 @@ ghost use Rattle.std.specs.Prelude.{◌≡◌, IfOk, OnOk};
 ghost use Rattle.rtl_ir.specs.Faults.Processes as processes;
 ghost use Rattle.rtl_ir.specs.Types.{Ports};
 ghost use Rattle.net_index.specs.Types.{AreTypes};
-ghost use Rattle.event_tests.specs.Fitting.{DoCellsFit};
+ghost use Rattle.process_trees.specs.Fitting.{DoCellsFit};
 ghost use Rattle.process_check.specs.Values.{WereAsked};
 
-use crate::acting::acting_rules;
-use crate::assigned::tree_bits;
 use crate::rules::rules_stand;
 use crate::self_reading::reads_itself;
 use crate::starts::starts_stand;
 use crate::two_edges::{Tree, two_edges_stand};
-use event_tests::EventTests;
 use net_index::Types;
+use process_trees::{EventTests, acting_rules, ruled, tree_bits};
 use rtl_bits::Memory;
 use rtl_ir::{Module, Process};
 use std::alloc::Global;
-use tree_rules::ruled;
 
 /// Whether a process of the module is none that is taken: its rules do not stand together, a tree bit depends on itself,
 /// a start value is no constant, or neither of two edges is a reset. The tables of tests are made at the first process

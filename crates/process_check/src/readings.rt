@@ -8,8 +8,10 @@ ghost use Rattle.rtl_ir.specs.Assigns.{assigned, last_source};
 ghost use Rattle.rtl_ir.specs.Follow.{joins};
 ghost use Rattle.rtl_ir.specs.Signals.{same_bit, wire_bits};
 ghost use Rattle.std.specs.Option.{option_and_then, option_or, option_to_list};
-ghost use Rattle.process_check.specs.Readings.{AreNumbers, AreSources, bit_edges, case_edges, assign_edges, edges_to, number_at, numbers_in, place_edges, switch_edges};
+ghost use Rattle.process_trees.specs.Numbers.{AreNumbers};
+ghost use Rattle.process_check.specs.Readings.{AreSources, bit_edges, case_edges, assign_edges, edges_to, number_at, numbers_in, place_edges, switch_edges};
 
+use process_trees::{Numbers, numbers_of};
 use rtl_bits::Memory;
 use rtl_ir::{Case, Link, Switch};
 use rtl_sig::{SigBit, WireBit};
@@ -23,9 +25,6 @@ pub(crate) struct Edge {
     pub(crate) to: usize,
 }
 
-/// The numbers of the tree bits.
-type Numbers = HashMap<WireBit, usize>;
-
 /// What the assigns of a case give to bits.
 type Sources = HashMap<WireBit, SigBit>;
 
@@ -38,17 +37,6 @@ pub(crate) fn readings(alloc: Global, root: &Case, bits: &[WireBit]) -> Result<V
     let mut edges = Vec::new(alloc);
     put_case(alloc, &mut edges, &numbers, &[], root)?;
     Ok(edges)
-}
-
-/// The bits by their numbers. Of one that stands there more than once the first counts.
-fn numbers_of(alloc: Global, bits: &[WireBit]) -> Result<Numbers, Memory>
-    ensures numbers { IfOk result (λ numbers. AreNumbers numbers bits.now) }
-{
-    let mut numbers = HashMap::new(alloc);
-    for at in (0..bits.len()).rev() {
-        numbers.insert(bits[at], at)?;
-    }
-    Ok(numbers)
 }
 
 /// Puts last what bits read by a case, where these are the numbers of the signals of the switches around.

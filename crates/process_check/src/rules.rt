@@ -5,11 +5,11 @@ ghost use Rattle.std.specs.List.{list_any};
 ghost use Rattle.rtl_ir.specs.declared.process.SyncRule.{SyncRule};
 ghost use Rattle.rtl_ir.specs.Faults.RuleKinds as kinds;
 ghost use Rattle.rtl_ir.specs.Rules.{is_init};
-ghost use Rattle.process_check.specs.Acting.{Acts, acting_stand, is_level};
+ghost use Rattle.process_trees.specs.Acting.{Acts};
+ghost use Rattle.process_check.specs.Acting.{acting_stand, is_level};
 
-use crate::acting::{Acting, acting_rules, is_init, writes};
-use rtl_ir::{Event, SyncRule};
-use rtl_same::Same;
+use process_trees::{Acting, acting_rules, is_init, writes};
+use rtl_ir::{Event, Same, SyncRule};
 use rtl_sig::SigBit;
 
 /// Whether the rules of a process may stand together, and each of their events has one bit of a wire.

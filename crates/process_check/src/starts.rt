@@ -3,8 +3,8 @@
 ghost use Rattle.std.specs.Prelude.{◌≡◌, IfOk};
 ghost use Rattle.rtl_ir.specs.Faults.Processes as processes;
 
-use crate::acting::is_init;
 use crate::values::are_settled;
+use process_trees::is_init;
 use rtl_bits::Memory;
 use rtl_ir::{Case, Process};
 use rtl_sig::WireBit;

@@ -7,7 +7,7 @@ ghost use Rattle.rtl_ir.specs.Rules.{updated_bits};
 ghost use Rattle.rtl_ir.specs.Signals.{same_bit, wire_bits};
 ghost use Rattle.process_check.specs.Updates.{AreAlike, AreCounts, AreGiven, AreRaised, counted, own_bits};
 
-use crate::acting::acts;
+use process_trees::acts;
 use rtl_bits::Memory;
 use rtl_ir::{Link, SyncRule};
 use rtl_sig::{SigBit, WireBit};

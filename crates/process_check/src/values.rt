@@ -5,14 +5,14 @@ ghost use Rattle.std.specs.List.{list_all};
 ghost use Rattle.rtl_sig.specs.declared.sig.WireBit.{WireBit};
 ghost use Rattle.rtl_ir.specs.Follow.{all_joins, joins};
 ghost use Rattle.rtl_ir.specs.Tree.{CaseView};
-ghost use Rattle.tree_leaves.specs.Rounds.{AreLeaves};
+ghost use Rattle.process_trees.specs.Rounds.{AreLeaves};
 ghost use Rattle.process_check.specs.Values.{is_settled};
 
+use process_trees::Leaves;
 use rtl_bits::Memory;
 use rtl_ir::{Case, Link};
 use rtl_sig::{SigBit, WireBit};
 use std::alloc::Global;
-use tree_leaves::Leaves;
 
 /// Whether each bit on the left of these lines is given one constant, or itself where that may be, below a root whose
 /// switches are read by the rules and that drives these tree bits.

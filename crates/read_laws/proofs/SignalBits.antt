@@ -13,7 +13,7 @@ use Rattle.rtl_grammar.specs.declared.expect.Expect.{Expect}
 use Rattle.rtl_grammar.specs.declared.expect.Expect.TheVariants as expects
 use Rattle.rtl_grammar.specs.Uses.{Use, Action, run, ◌>>=◌}
 use Rattle.rtl_read.specs.declared.draft.Draft.{Draft}
-use Rattle.rtl_read.specs.declared.limits.TheConstants.{MAX_BITS, MAX_DEPTH}
+use Rattle.rtl_ir.specs.declared.limits.TheConstants.{MAX_BITS, MAX_DEPTH}
 use Rattle.rtl_read.specs.declared.read_fault.ReadFault.{ReadFault}
 use Rattle.rtl_read.specs.declared.read_fault.ReadFault.TheVariants as faults
 use Rattle.rtl_read.specs.declared.signal.OpenSignal.{OpenSignal}

@@ -8,7 +8,7 @@ use Rattle.rtl_ir.specs.declared.wire.Wire.{Wire}
 use Rattle.rtl_grammar.specs.declared.expect.Expect.{Expect}
 use Rattle.rtl_grammar.specs.declared.expect.Expect.TheVariants as expects
 use Rattle.rtl_grammar.specs.Uses.{Use}
-use Rattle.rtl_read.specs.declared.limits.TheConstants.{MAX_BITS}
+use Rattle.rtl_ir.specs.declared.limits.TheConstants.{MAX_BITS}
 use Rattle.rtl_read.specs.declared.draft.Draft.{Draft}
 use Rattle.rtl_read.specs.Signal.{plain_signal}
 use Rattle.rtl_read.specs.Meaning.Process.{with_address, with_value}

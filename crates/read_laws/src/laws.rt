@@ -6,7 +6,7 @@ ghost use Rattle.rtl_grammar.specs.declared.expect.Expect.{Expect};
 ghost use Rattle.rtl_grammar.specs.Grammar.{Derives};
 ghost use Rattle.rtl_grammar.specs.Uses.{Use, roles_of, items_of, run};
 ghost use Rattle.rtl_read.specs.declared.draft.Draft.{Draft};
-ghost use Rattle.rtl_read.specs.declared.limits.TheConstants.{MAX_DEPTH};
+ghost use Rattle.rtl_ir.specs.declared.limits.TheConstants.{MAX_DEPTH};
 ghost use Rattle.rtl_read.specs.declared.signal.OpenSignal.{OpenSignal};
 ghost use Rattle.rtl_read.specs.Act.{act};
 ghost use Rattle.read_laws.specs.SignalBits.{Written, IsWritten, StandsFor, depth_of, places_of, may_stand, expected_at, taken_at};

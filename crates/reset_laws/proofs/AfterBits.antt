@@ -11,7 +11,8 @@ use Rattle.rtl_ir.specs.Flat.Place.{Path}
 use Rattle.rtl_ir.specs.Tree.{CaseView}
 use Rattle.rtl_ir.specs.declared.module.Module.{Module}
 use Rattle.rtl_ir.specs.Flat.Process.{edge_trigger, level_trigger}
-use Rattle.rtl_ir.specs.Follow.{Join, all_joins, source_at}
+use Rattle.rtl_ir.specs.Follow.{all_joins, source_at}
+use Rattle.rtl_ir.specs.declared.follow.Join.{Join}
 use Rattle.rtl_ir.specs.Rules.{acting_rules, has_line}
 use Rattle.rtl_ir.specs.Signals.{same_bit}
 use Rattle.rtl_ir.specs.declared.module.Link.{Link}
@@ -21,8 +22,8 @@ use Rattle.rtl_ir.specs.declared.process.SyncRule.{SyncRule}
 use Rattle.net_model.proofs.Members.{In-cases, In-mapped}
 use Rattle.net_model.specs.Lists.{In}
 use Rattle.net_model.specs.Proc.Reset.{reset_places, reset_rule, with_reset}
-use Rattle.net_index.proofs.IndexTables.{same_bit-refl}
-use Rattle.proc_laws.specs.Rebuilds.{join_bits, loaded_bits, one_rule_bits, raced_bits, rules_bits, two_rules_bits}
+use Rattle.pass_laws.proofs.Once.{same_bit-refl}
+use Rattle.build_laws.specs.Rebuilds.{join_bits, loaded_bits, one_rule_bits, raced_bits, rules_bits, two_rules_bits}
 use Rattle.reset_laws.proofs.AfterRows.{acting_first, acting_last, at_edge, rule_level, rule_no_edge}
 use Rattle.reset_laws.proofs.AfterRules.{reset_joins}
 use Rattle.reset_laws.proofs.RaceRows.{trigger}

@@ -4,29 +4,20 @@ use Rattle.std.specs.Prelude.{if◌then◌else◌, map, take}
 use Rattle.std.specs.List.{list_all}
 use Rattle.std.proofs.lemmas.Bool.{and_parts}
 use Rattle.rtl_bits.specs.declared.bit.Bit.{Bit}
-use Rattle.rtl_bits.specs.declared.bit.Bit.TheVariants.{S0, S1, X, Z, M, Dash}
 use Rattle.rtl_sig.specs.declared.sig.SigBit.{SigBit}
 use Rattle.rtl_sig.specs.declared.sig.SigBit.TheVariants.{Fixed, Wire as OnWire}
 use Rattle.rtl_sig.specs.declared.sig.WireBit.{WireBit}
 use Rattle.rtl_ir.specs.EventTests.{is_bit}
 use Rattle.rtl_ir.specs.Faults.TwoEdges.{are_all, are_one_constant, is_value}
-use Rattle.rtl_ir.specs.Follow.{Join, source_at}
+use Rattle.rtl_ir.specs.Follow.{source_at}
+use Rattle.rtl_ir.specs.declared.follow.Join.{Join}
 use Rattle.rtl_ir.specs.Signals.{same_bit}
-use Rattle.rtl_ir.specs.WritePorts.{same_value}
 use Rattle.net_model.proofs.Members.{In-map, apart_at}
 use Rattle.net_model.specs.Lists.{Apart, Distinct, In}
 use Rattle.net_model.specs.Proc.Reset.{reset_places}
 use Rattle.follow_laws.proofs.Following.{same_bit-same}
-use Rattle.net_index.proofs.IndexTables.{same_bit-refl}
-
-value_is : (a b : Bit) → same_value a b ≡ true → a ≡ b
-value_is S0 S0 e = refl
-value_is S1 S1 e = refl
-value_is X X e = refl
-value_is Z Z e = refl
-value_is M M e = refl
-value_is Dash Dash e = refl
-value_is a b e = absurd (cc)
+use Rattle.pass_laws.proofs.Once.{same_bit-refl}
+use Rattle.pass_laws.proofs.SamePlaces.{value_is}
 
 pub all_in : {A : Type 0} (test : A → Bool) (xs : List A) → list_all test xs ≡ true → (x : A) → In x xs → test x ≡ true
 all_in test [] e x i = absurd i

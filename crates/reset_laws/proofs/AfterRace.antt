@@ -15,7 +15,8 @@ use Rattle.rtl_ir.specs.Faults.RuleKinds.{AtEdge, AtLevel, RuleKind, edges_agree
 use Rattle.rtl_ir.specs.Faults.TwoEdges.{EdgeBit, edge_bit, events_reset, is_tested, one_resets, resets_well, switches_test, two_edges_stand}
 use Rattle.rtl_ir.specs.Flat.Place.{Path}
 use Rattle.rtl_ir.specs.Flat.Process.{edge_trigger, no_modules, raced_row, raced_rows, rules_rows, two_rules_rows}
-use Rattle.rtl_ir.specs.Follow.{Join, all_joins}
+use Rattle.rtl_ir.specs.Follow.{all_joins}
+use Rattle.rtl_ir.specs.declared.follow.Join.{Join}
 use Rattle.rtl_ir.specs.Rules.{acting_rules, has_line}
 use Rattle.rtl_ir.specs.Signals.{same_bit}
 use Rattle.rtl_ir.specs.SwitchRules.{root_by_rules}
@@ -33,7 +34,7 @@ use Rattle.net_model.specs.Lists.{In}
 use Rattle.net_model.specs.Proc.Reset.{reset_by, reset_process, reset_rule, with_level, with_reset}
 use Rattle.follow_laws.proofs.Following.{same_bit-same}
 use Rattle.proc_laws.proofs.RebuildProcesses.{IsGoodProcess}
-use Rattle.proc_laws.specs.Rebuilds.{join_bits, rules_bits}
+use Rattle.build_laws.specs.Rebuilds.{join_bits, rules_bits}
 use Rattle.reset_laws.proofs.AfterBits.{edges_bits, first_bits, last_bits}
 use Rattle.reset_laws.proofs.AfterRows.{acting_first, acting_last, at_edge, register, reset_first, reset_last, updates_are}
 

@@ -5,7 +5,6 @@ use Rattle.std.specs.Cmp.Lexicographic.{pointwise}
 use Rattle.std.specs.Option.{is_some}
 use Rattle.std.proofs.lemmas.Bool.{and_parts, or_parts}
 use Rattle.rtl_bits.specs.declared.bit.Bit.{Bit}
-use Rattle.rtl_bits.specs.declared.bit.Bit.TheVariants.{S0, S1, X, Z, M, Dash}
 use Rattle.rtl_sig.specs.declared.sig.SigBit.{SigBit}
 use Rattle.rtl_sig.specs.declared.sig.SigBit.TheVariants.{Fixed, Wire as OnWire}
 use Rattle.rtl_sig.specs.declared.sig.WireBit.{WireBit}
@@ -14,11 +13,11 @@ use Rattle.rtl_ir.specs.Faults.TwoEdges.{EdgeBit, edge_bit}
 use Rattle.rtl_ir.specs.Flat.Driver.{Driven}
 use Rattle.rtl_ir.specs.Flat.Place.{Path}
 use Rattle.rtl_ir.specs.Flat.Process.{edge_row, edge_trigger, level_after, level_row, level_trigger, loaded_row, loaded_rows, one_rule_rows, rules_rows, two_rules_rows}
-use Rattle.rtl_ir.specs.Follow.{Join, all_joins, source_at}
+use Rattle.rtl_ir.specs.Follow.{all_joins, source_at}
+use Rattle.rtl_ir.specs.declared.follow.Join.{Join}
 use Rattle.rtl_ir.specs.Rules.{acting_rules, has_item, has_line}
-use Rattle.rtl_ir.specs.Signals.{same_bit}
+use Rattle.rtl_ir.specs.Signals.{same_bit, same_signal}
 use Rattle.rtl_ir.specs.Tree.{CaseView}
-use Rattle.rtl_ir.specs.WritePorts.{same_place, same_signal, same_value}
 use Rattle.rtl_ir.specs.declared.module.Link.{Link}
 use Rattle.rtl_ir.specs.declared.module.Module.{Module}
 use Rattle.rtl_ir.specs.declared.process.Event.{Event}
@@ -28,34 +27,10 @@ use Rattle.rtl_ir.specs.declared.wire.Wire.{Wire}
 use Rattle.net_model.proofs.Members.{In-left, In-map}
 use Rattle.net_model.specs.Lists.{In}
 use Rattle.net_model.specs.Proc.Reset.{is_edge_of, reset_rule, with_reset}
-use Rattle.follow_laws.proofs.Following.{same_bit-same}
-use Rattle.net_index.proofs.IndexTables.{same_bit-refl}
+use Rattle.pass_laws.proofs.Once.{same_bit-refl}
 use Rattle.reset_laws.proofs.AfterRules.{acting_after, kept, reset_plain}
 use Rattle.reset_laws.proofs.RaceRows.{trigger}
-
--- the rules of two edges have equal lines
-value_is : (a b : Bit) → same_value a b ≡ true → a ≡ b
-value_is S0 S0 e = refl
-value_is S1 S1 e = refl
-value_is X X e = refl
-value_is Z Z e = refl
-value_is M M e = refl
-value_is Dash Dash e = refl
-value_is a b e = absurd (cc)
-
-place_is : (a b : SigBit) → same_place a b ≡ true → a ≡ b
-place_is (Fixed a) (Fixed b) e = ap Fixed (value_is a b e)
-place_is (OnWire a) (OnWire b) e = ap OnWire (same_bit-same a b e)
-place_is (Fixed a) (OnWire b) e = absurd (cc)
-place_is (OnWire a) (Fixed b) e = absurd (cc)
-
-signal_is : (a b : List SigBit) → same_signal a b ≡ true → a ≡ b
-signal_is [] [] e = refl
-signal_is (s ∷ a) (t ∷ b) e =
-    let both = and_parts (same_place s t) (same_signal a b) e in
-    λ i. place_is s t both.0 i ∷ signal_is a b both.1 i
-signal_is [] (t ∷ b) e = absurd (cc)
-signal_is (s ∷ a) [] e = absurd (cc)
+use Rattle.pass_laws.proofs.SamePlaces.{signal_is}
 
 lines_are : (a b : List Link) → pointwise same_line a b ≡ true → a ≡ b
 lines_are [] [] e = refl

@@ -3,12 +3,13 @@ use Rattle.std.proofs.Common.{◌≡◌, ℕ, zero, suc, ◌+◌, ◌≤◌, Boo
 use Rattle.std.specs.Prelude.{if◌then◌else◌, map, not, take, ◌==◌}
 use Rattle.std.proofs.lemmas.Bool.{eq-eqb}
 use Rattle.rtl_sig.specs.declared.sig.SigBit.{SigBit}
-use Rattle.rtl_sig.specs.declared.sig.SigBit.TheVariants.{Fixed, Wire as OnWire}
+use Rattle.rtl_sig.specs.declared.sig.SigBit.TheVariants.{Wire as OnWire}
 use Rattle.rtl_sig.specs.declared.sig.WireBit.{WireBit}
 use Rattle.rtl_ir.specs.Assigns.{left_bits}
 use Rattle.rtl_ir.specs.Faults.Links.{is_uneven}
 use Rattle.rtl_ir.specs.Faults.TwoEdges.{EdgeBit, are_one_constant}
-use Rattle.rtl_ir.specs.Follow.{Join, all_joins, joins}
+use Rattle.rtl_ir.specs.Follow.{all_joins, joins}
+use Rattle.rtl_ir.specs.declared.follow.Join.{Join}
 use Rattle.rtl_ir.specs.Rules.{beyond, updated_by, without_bit}
 use Rattle.rtl_ir.specs.Signals.{has_constant, same_bit, wire_bits}
 use Rattle.rtl_ir.specs.declared.module.Link.{Link}
@@ -17,11 +18,12 @@ use Rattle.net_model.proofs.Members.{map-append}
 use Rattle.net_model.specs.Lists.{In}
 use Rattle.net_model.specs.Proc.Reset.{line_of_places, reset_places, reset_rule}
 use Rattle.pass_laws.proofs.Counting.{count, count_more}
-use Rattle.proc_laws.specs.Rebuilds.{join_bits}
+use Rattle.build_laws.specs.Rebuilds.{join_bits}
 use Rattle.follow_laws.proofs.Following.{same_bit-same}
 use Rattle.reset_laws.proofs.AfterRace.{ActsAfter}
 use Rattle.reset_laws.proofs.AfterRules.{places_more}
 use Rattle.reset_laws.proofs.ReadMemories.{from_flat}
+use Rattle.proc_laws.proofs.CountingRules.{lines_few}
 
 lengths : {A B C : Type 0} (f : A → B) (g : A → C) (xs : List A) → length (map f xs) ≡ length (map g xs)
 lengths f g [] = refl
@@ -87,20 +89,8 @@ module _ (leaves : Join → List SigBit) (reset : EdgeBit) where
         by true h = omega (arith, h, one (leaves j))
         by false h = omega (arith, h)
 
-    joins_few : (ls rs : List SigBit) → count x (join_bits (joins ls rs)) ≤ count x (wire_bits ls)
-    joins_few [] rs = omega arith
-    joins_few (l ∷ ls) [] = omega arith
-    joins_few (Fixed c ∷ ls) (r ∷ rs) = joins_few ls rs
-    joins_few (OnWire b ∷ ls) (r ∷ rs) = omega (arith, joins_few ls rs)
-
-    lines_few : (links : List Link) → count x (join_bits (all_joins links)) ≤ count x (left_bits links)
-    lines_few [] = omega arith
-    lines_few (l ∷ links) =
-        let here = ap (count x) (map-append (λ (j : Join). j.bit) (joins l.left l.right) (all_joins links)) ∙ count_more x (join_bits (joins l.left l.right)) (join_bits (all_joins links)) in
-        omega (arith, here, count_more x (wire_bits l.left) (left_bits links), joins_few l.left l.right, lines_few links)
-
     pub rule_few : (lines : List Link) → count x (left_bits (rule lines).updates) ≤ count x (left_bits lines)
-    rule_few lines = omega (arith, ap (count x) (rule_bits lines), places_few (all_joins lines), lines_few lines)
+    rule_few lines = omega (arith, ap (count x) (rule_bits lines), places_few (all_joins lines), lines_few x lines)
 
 -- what is beyond bits
 module _ (x : WireBit) where

@@ -18,11 +18,11 @@ use Rattle.net_model.specs.Proc.Reset.{proc_reset_of, reset_process, resets_step
 use Rattle.net_model.specs.Within.{Each, ProcessIn}
 use Rattle.pass_laws.proofs.Counting.{count, count_more}
 use Rattle.pass_laws.proofs.Faultless.{no_faults, none_left, none_right}
-use Rattle.proc_laws.proofs.CountingBits.{among, fewer}
+use Rattle.build_laws.proofs.CountingBits.{among, fewer}
 use Rattle.proc_laws.proofs.RebuildFaults.{still_ready}
 use Rattle.proc_laws.proofs.RebuildProcesses.{IsGoodProcess, good_of, of_good}
 use Rattle.proc_laws.specs.Ready.{AreRuled, HasItsBits, HaveNoStarts, IsReady}
-use Rattle.proc_laws.specs.Rebuilds.{AreAmong, Rebuilds, checked_bits, driven_bits, rebuilt}
+use Rattle.build_laws.specs.Rebuilds.{AreAmong, Rebuilds, checked_bits, driven_bits, rebuilt}
 use Rattle.reset_laws.specs.Trees.{TreesHaveBits}
 use Rattle.reset_laws.proofs.AfterRace.{edge_count}
 use Rattle.reset_laws.proofs.FormTurn.{IsTurn, stays, turn}

@@ -9,7 +9,8 @@ use Rattle.rtl_sig.specs.declared.sig.WireBit.{WireBit}
 use Rattle.rtl_ir.specs.Faults.RuleKinds.{AtEdge, AtLevel, edges_agree, has_one_bit, is_edge, is_one_edge, kind_of_event, kinds_of, may_stand, rules_stand, same_updates, writes, writes_stand}
 use Rattle.rtl_ir.specs.Faults.TwoEdges.{EdgeBit, edge_bit, events_reset, two_edges_stand}
 use Rattle.rtl_ir.specs.Flat.Process.{edge_trigger}
-use Rattle.rtl_ir.specs.Follow.{Join, all_joins}
+use Rattle.rtl_ir.specs.Follow.{all_joins}
+use Rattle.rtl_ir.specs.declared.follow.Join.{Join}
 use Rattle.rtl_ir.specs.Rules.{acting_rules, has_item, is_init}
 use Rattle.rtl_ir.specs.Tree.{CaseView}
 use Rattle.rtl_ir.specs.Types.{Ports}

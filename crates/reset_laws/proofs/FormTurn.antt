@@ -14,7 +14,8 @@ use Rattle.rtl_ir.specs.Faults.ProcessLimits.{memory_lines, passes_limit, switch
 use Rattle.rtl_ir.specs.Faults.Processes.{has_bad_line}
 use Rattle.rtl_ir.specs.Faults.SelfReading.{assigns_read, bits_read, reads_itself, switches_read}
 use Rattle.rtl_ir.specs.Faults.TwoEdges.{are_one_constant}
-use Rattle.rtl_ir.specs.Follow.{Join, all_joins, joins}
+use Rattle.rtl_ir.specs.Follow.{all_joins, joins}
+use Rattle.rtl_ir.specs.declared.follow.Join.{Join}
 use Rattle.rtl_ir.specs.Rules.{acting_rules, is_init, updated_bits, updated_by}
 use Rattle.rtl_ir.specs.Scope.{with_processes}
 use Rattle.rtl_ir.specs.Signals.{has_constant}
@@ -32,10 +33,10 @@ use Rattle.net_model.specs.Lists.{In}
 use Rattle.net_model.specs.Proc.Reset.{reset_places, with_level}
 use Rattle.net_model.specs.Within.{Each, ProcessIn}
 use Rattle.pass_laws.proofs.Counting.{count, count_more}
-use Rattle.proc_laws.proofs.CountingBits.{among, fewer}
+use Rattle.build_laws.proofs.CountingBits.{among, fewer}
 use Rattle.proc_laws.proofs.RebuildProcesses.{IsGoodProcess}
 use Rattle.proc_laws.specs.Ready.{HasItsBits, HaveNoStarts, IsBitOf, IsReady, UpdatesHaveBits}
-use Rattle.proc_laws.specs.Rebuilds.{AreAmong, checked_bits, driven_bits}
+use Rattle.build_laws.specs.Rebuilds.{AreAmong, checked_bits, driven_bits}
 use Rattle.reset_laws.specs.Trees.{TreesHaveBits}
 use Rattle.reset_laws.proofs.AfterBits.{place_from}
 use Rattle.reset_laws.proofs.AfterRace.{IsRace, edge_count}
@@ -52,7 +53,7 @@ use Rattle.reset_laws.proofs.StepOne
 use Rattle.reset_laws.proofs.StepOne.{IsKept, after_ruled, after_within, by_root, drives_among, root_ruled, rule_cases, starts_after, trees_among, writes_after, writes_before}
 use Rattle.reset_laws.proofs.StepWrites.{no_begin}
 use Rattle.reset_laws.proofs.TestOnce.{wire_bit}
-use Rattle.proc_laws.proofs.CountingBits.{among_in}
+use Rattle.build_laws.proofs.CountingBits.{among_in}
 
 -- a process that goes for another one of the module
 pub record IsTurn (ports : Ports) (m : Module) (q s : Process) : Type 0 where

@@ -20,10 +20,10 @@ use Rattle.net_model.proofs.Members.{In-cases, In-left, In-map, In-mapped, In-ri
 use Rattle.net_model.specs.Lists.{Distinct, In}
 use Rattle.net_model.specs.Refine.{IsWellDriven, places_of}
 use Rattle.pass_laws.proofs.Counting.{count, count_more}
-use Rattle.proc_laws.proofs.CountingBits.{AreBelow, among, among_distinct, among_in, fewer}
-use Rattle.proc_laws.proofs.RebuildBits.{distinct_before, distinct_map, one_place}
-use Rattle.proc_laws.proofs.RebuildPlaces.{cells_alike, memories_alike, processes_places}
-use Rattle.proc_laws.specs.Rebuilds.{AreAmong, driven_bits}
+use Rattle.build_laws.proofs.CountingBits.{AreBelow, among, among_distinct, among_in, fewer}
+use Rattle.build_laws.proofs.RebuildBits.{distinct_before, distinct_map, one_place}
+use Rattle.build_laws.proofs.RebuildPlaces.{cells_alike, memories_alike, processes_places}
+use Rattle.build_laws.specs.Rebuilds.{AreAmong, driven_bits}
 use Rattle.reset_laws.proofs.FrameRows.{with_all}
 
 flat_both : {A B : Type 0} (f : A → List B) (xs ys : List A) → flat_map f (xs ++ ys) ≡ flat_map f xs ++ flat_map f ys

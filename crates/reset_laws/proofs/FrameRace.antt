@@ -22,7 +22,8 @@ use Rattle.rtl_ir.specs.Flat.Place.{Path, Place}
 use Rattle.rtl_ir.specs.Flat.Point.{bit_place}
 use Rattle.rtl_ir.specs.Flat.Process.{edge_row, level_after, loaded_row, no_modules, raced_row, rules_rows, tree_bit_rows}
 use Rattle.rtl_ir.specs.Flat.Start.{start_of}
-use Rattle.rtl_ir.specs.Follow.{Join, all_joins, source_at}
+use Rattle.rtl_ir.specs.Follow.{all_joins, source_at}
+use Rattle.rtl_ir.specs.declared.follow.Join.{Join}
 use Rattle.rtl_ir.specs.Rules.{acting_rules}
 use Rattle.rtl_ir.specs.SwitchRules.{root_by_rules}
 use Rattle.rtl_ir.specs.Types.{Ports}
@@ -37,7 +38,7 @@ use Rattle.net_model.specs.Relate.{Reached, is_zero}
 use Rattle.net_model.specs.Run.{Start, Step, Time}
 use Rattle.net_model.specs.Valuation.{Valuation}
 use Rattle.net_model.specs.Value.{value_of}
-use Rattle.mux_laws.proofs.TreeLess.{SameAccesses}
+use Rattle.build_laws.proofs.Staying.{SameAccesses}
 use Rattle.pass_laws.proofs.Faultless.{AreFit}
 use Rattle.reset_laws.proofs.AfterPlaces.{all_in, constant_leaves, own_leaves, set_at, unset_at}
 use Rattle.reset_laws.proofs.AfterRace.{IsRace, SameTests}

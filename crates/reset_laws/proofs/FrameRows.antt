@@ -20,8 +20,8 @@ use Rattle.rtl_ir.specs.declared.wire.Wire.{Wire}
 use Rattle.net_model.proofs.Members.{In-cases, In-left, In-right}
 use Rattle.net_model.specs.Lists.{In}
 use Rattle.net_model.specs.Within.{Each}
-use Rattle.mux_laws.proofs.TreeBuilt.{process_among}
-use Rattle.mux_laws.proofs.TreeLess.{SameAccesses, memories_same, starts_same}
+use Rattle.build_laws.proofs.Built.{process_among}
+use Rattle.build_laws.proofs.Staying.{SameAccesses, memories_same, starts_same}
 
 -- a list of several parts
 flat_both : {A B : Type 0} (f : A → List B) (xs ys : List A) → flat_map f (xs ++ ys) ≡ flat_map f xs ++ flat_map f ys

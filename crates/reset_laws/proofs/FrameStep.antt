@@ -18,7 +18,8 @@ use Rattle.rtl_ir.specs.Flat.Process.{process_rows, raced_row, rules_rows, tree_
 use Rattle.rtl_ir.specs.Flat.Reads.{reads}
 use Rattle.rtl_ir.specs.Flat.Rows.{rows_of}
 use Rattle.rtl_ir.specs.Flat.Start.{start_of}
-use Rattle.rtl_ir.specs.Follow.{Join, all_joins}
+use Rattle.rtl_ir.specs.Follow.{all_joins}
+use Rattle.rtl_ir.specs.declared.follow.Join.{Join}
 use Rattle.rtl_ir.specs.Ports.{ports_of}
 use Rattle.rtl_ir.specs.Rules.{acting_rules}
 use Rattle.rtl_ir.specs.Signals.{has_bit, same_bit}
@@ -35,7 +36,7 @@ use Rattle.net_model.specs.Relate.{KeepsTo, Reached, Related, RowsRelate, SameMo
 use Rattle.net_model.specs.Run.{Time}
 use Rattle.net_model.specs.Valuation.{Valuation}
 use Rattle.net_model.specs.Value.{value_of}
-use Rattle.mux_laws.proofs.TreeLess.{SameAccesses}
+use Rattle.build_laws.proofs.Staying.{SameAccesses}
 use Rattle.pass_laws.proofs.Faultless.{AreFit}
 use Rattle.follow_laws.proofs.Following.{same_bit-same}
 use Rattle.reset_laws.proofs.AfterRace.{IsRace, SameTests}

@@ -32,16 +32,16 @@ use Rattle.net_model.specs.Lists.{Distinct, In}
 use Rattle.net_model.specs.Proc.Reset.{are_unread, cell_reads, outer_reads, output_bits, process_reads}
 use Rattle.net_model.specs.Refine.{places_of}
 use Rattle.net_model.specs.Within.{Each, IsWithin, ProcessIn}
-use Rattle.mux_laws.proofs.TreeLess.{SameAccesses}
+use Rattle.build_laws.proofs.Staying.{SameAccesses}
 use Rattle.pass_laws.specs.Bits.{cells_bits, pin_bits}
-use Rattle.proc_laws.proofs.CountingBits.{AreBelow}
-use Rattle.proc_laws.proofs.RebuildPlaces.{processes_places}
-use Rattle.proc_laws.specs.Rebuilds.{driven_bits}
+use Rattle.build_laws.proofs.CountingBits.{AreBelow}
+use Rattle.build_laws.proofs.RebuildPlaces.{processes_places}
+use Rattle.build_laws.specs.Rebuilds.{driven_bits}
 use Rattle.reset_laws.proofs.FrameRows.{IsOther, WriteNothing, start}
 use Rattle.reset_laws.proofs.FrameStep.{IsNone}
 use Rattle.reset_laws.proofs.FreedBits.{in_has}
 use Rattle.reset_laws.proofs.FreeReads.{IsClear, bit_clear, constant_clear, events_clear, in_flat, lines_clear, rights_clear, signal_clear, signals_clear, sources_clear, word_clear}
-use Rattle.reset_laws.proofs.ReadCells as cells
+use Rattle.pass_laws.proofs.CellReads as cells
 use Rattle.reset_laws.proofs.ReadMemories.{LineOk, link_free, memory_free}
 use Rattle.reset_laws.proofs.ReadProcess.{process_free}
 

@@ -8,7 +8,8 @@ use Rattle.rtl_sig.specs.declared.sig.WireBit.{WireBit}
 use Rattle.rtl_ir.specs.Assigns.{case_assigns, cases_assigns, switches_assigns}
 use Rattle.rtl_ir.specs.Flat.Place.{Path, Place, word_place}
 use Rattle.rtl_ir.specs.Flat.Point.{At, Constant, Point, bit_place, point}
-use Rattle.rtl_ir.specs.Follow.{Join, all_joins}
+use Rattle.rtl_ir.specs.Follow.{all_joins}
+use Rattle.rtl_ir.specs.declared.follow.Join.{Join}
 use Rattle.rtl_ir.specs.Rules.{acting_rules, has_item, has_line, is_init}
 use Rattle.rtl_ir.specs.Signals.{wire_bits}
 use Rattle.rtl_ir.specs.Tree.{Cases, NoCase, NoSwitch, OneCase, OneSwitch, Switches}
@@ -24,7 +25,7 @@ use Rattle.net_model.proofs.Members.{In-cases, In-left, In-right}
 use Rattle.net_model.specs.Lists.{Distinct, In}
 use Rattle.net_model.specs.Proc.Reset.{cases_signals, control_reads, event_signal, process_reads, switches_signals}
 use Rattle.net_model.specs.Within.{BitIn, CasesIn, Each, EventIn, LinkIn, ProcessIn, SigIn, SwitchesIn, WriteIn}
-use Rattle.proc_laws.proofs.RebuildBits.{one_place}
+use Rattle.build_laws.proofs.RebuildBits.{one_place}
 use Rattle.reset_laws.proofs.FrameStep.{IsNone, spot_of}
 use Rattle.reset_laws.proofs.ReadLeaves.{wires_in}
 use Rattle.reset_laws.proofs.ReadMemories.{LineOk}

@@ -22,7 +22,8 @@ use Rattle.rtl_ir.specs.Flat.Point.{At, Point, bit_place, point}
 use Rattle.rtl_ir.specs.Flat.Process.{no_modules, process_rows, rules_rows, tree_bit_rows}
 use Rattle.rtl_ir.specs.Flat.Reads.{read_points, reads}
 use Rattle.rtl_ir.specs.Flat.Start.{start_of}
-use Rattle.rtl_ir.specs.Follow.{Join, all_joins}
+use Rattle.rtl_ir.specs.Follow.{all_joins}
+use Rattle.rtl_ir.specs.declared.follow.Join.{Join}
 use Rattle.rtl_ir.specs.Ports.{ports_of}
 use Rattle.rtl_ir.specs.Rules.{acting_rules}
 use Rattle.rtl_ir.specs.Signals.{has_bit}
@@ -43,11 +44,11 @@ use Rattle.net_model.specs.Run.{Time}
 use Rattle.net_model.specs.Picked.{picked}
 use Rattle.net_model.specs.Valuation.{Valuation}
 use Rattle.net_model.specs.Within.{BitIn, Each, ProcessIn}
-use Rattle.mux_laws.proofs.TreeLess.{SameAccesses}
+use Rattle.build_laws.proofs.Staying.{SameAccesses}
 use Rattle.pass_laws.proofs.Faultless.{AreFit}
-use Rattle.proc_laws.proofs.CountingBits.{AreBelow}
-use Rattle.proc_laws.proofs.RebuildBits.{not_both}
-use Rattle.proc_laws.specs.Rebuilds.{driven_bits, join_bits, rules_bits}
+use Rattle.build_laws.proofs.CountingBits.{AreBelow}
+use Rattle.build_laws.proofs.RebuildBits.{not_both}
+use Rattle.build_laws.specs.Rebuilds.{driven_bits, join_bits, rules_bits}
 use Rattle.reset_laws.proofs.AfterRace.{IsRace, SameTests}
 use Rattle.reset_laws.proofs.ChoiceEven.{EvenSwitches}
 use Rattle.reset_laws.proofs.FrameRows.{process_there, rows_after, start}
@@ -56,7 +57,7 @@ use Rattle.reset_laws.proofs.FreeOthers.{IsUnread, others_clear, unread_apart}
 use Rattle.reset_laws.proofs.FreeReads.{IsClear, acting_in, bit_clear, clear, event_in, in_flat, root_links_in, signal_clear, signals_in}
 use Rattle.reset_laws.proofs.FreedBits.{in_has, in_tree, unnamed_unknown}
 use Rattle.reset_laws.proofs.FreedTrees.{switches_ruled}
-use Rattle.reset_laws.proofs.ReadCells as cells
+use Rattle.pass_laws.proofs.CellReads as cells
 use Rattle.reset_laws.proofs.ReadLeaves.{IsLast, leaves_last, wires_in}
 use Rattle.reset_laws.proofs.ReadSources.{join_source, source_reads}
 use Rattle.reset_laws.proofs.ReadSignals.{ReadsBranches, ReadsBy, pick_reads}

@@ -13,7 +13,8 @@ use Rattle.rtl_ir.specs.Decisions.{Choice, Decision, Leaf, after_assigns, after_
 use Rattle.rtl_ir.specs.Flat.Pick.{no_test, pick_of}
 use Rattle.rtl_ir.specs.Flat.Place.{Path}
 use Rattle.rtl_ir.specs.Flat.Point.{points}
-use Rattle.rtl_ir.specs.Follow.{Join, all_joins, joins}
+use Rattle.rtl_ir.specs.Follow.{all_joins, joins}
+use Rattle.rtl_ir.specs.declared.follow.Join.{Join}
 use Rattle.rtl_ir.specs.Signals.{has_bit, same_bit, wire_bits}
 use Rattle.rtl_ir.specs.SwitchRules.{root_by_rules}
 use Rattle.rtl_ir.specs.Tree.{CaseView, Cases, NoCase, NoSwitch, OneCase, OneSwitch, Switches}
@@ -24,12 +25,11 @@ use Rattle.net_model.specs.Lists.{Distinct, In}
 use Rattle.net_model.specs.Picked.{case_match, picked}
 use Rattle.net_model.specs.Valuation.{Valuation, read_all}
 use Rattle.follow_laws.proofs.Following.{same_bit-same}
-use Rattle.net_index.proofs.IndexTables.{same_bit-refl}
-use Rattle.proc_laws.proofs.CountingBits.{among, count_once}
-use Rattle.proc_laws.specs.Rebuilds.{AreAmong}
+use Rattle.pass_laws.proofs.Once.{same_bit-refl, count_in, count_or}
+use Rattle.build_laws.proofs.CountingBits.{among, count_once}
+use Rattle.build_laws.specs.Rebuilds.{AreAmong}
 use Rattle.reset_laws.proofs.ChoiceValue.{branch_by, chosen_within, had, picked_is, value_by}
 use Rattle.reset_laws.proofs.FrameStep.{has_in}
-use Rattle.reset_laws.proofs.TestOnce.{count_in, count_or}
 
 pub in_has : (bits : List WireBit) (b : WireBit) → In b bits → has_bit bits b ≡ true
 in_has [] b i = absurd i

@@ -24,7 +24,6 @@ pub mod ReadSignals
 pub mod ReadLeaves
 pub mod ReadSources
 pub mod ReadProcess
-pub mod ReadCells
 pub mod ReadMemories
 pub mod FreeReads
 pub mod FreeOthers

@@ -17,7 +17,7 @@ use Rattle.rtl_ir.specs.Flat.Pick.{Pick, pick_of}
 use Rattle.rtl_ir.specs.Flat.Place.{Path, Place}
 use Rattle.rtl_ir.specs.Flat.Point.{At, bit_place}
 use Rattle.rtl_ir.specs.Flat.Process.{Trigger, edge_row, level_after, loaded_row, no_modules, raced_row}
-use Rattle.rtl_ir.specs.Follow.{Join}
+use Rattle.rtl_ir.specs.declared.follow.Join.{Join}
 use Rattle.rtl_ir.specs.Tree.{CaseView}
 use Rattle.rtl_ir.specs.declared.module.Module.{Module}
 use Rattle.net_model.proofs.Choosing.{picked_kept}

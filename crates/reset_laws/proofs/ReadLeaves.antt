@@ -16,7 +16,7 @@ use Rattle.net_model.specs.Lists.{Distinct, In}
 use Rattle.net_model.specs.Proc.Reset.{switches_signals}
 use Rattle.net_model.specs.Within.{Each}
 use Rattle.follow_laws.proofs.Following.{same_bit-same}
-use Rattle.net_index.proofs.IndexTables.{same_bit-refl}
+use Rattle.pass_laws.proofs.Once.{same_bit-refl}
 use Rattle.reset_laws.proofs.FrameStep.{has_in}
 use Rattle.reset_laws.proofs.ReadSignals.{ReadsBy, case_reads, replaced_reads}
 

@@ -31,7 +31,7 @@ use Rattle.net_model.proofs.Members.{In-cases, In-mapped}
 use Rattle.net_model.specs.Lists.{In}
 use Rattle.net_model.specs.Proc.Reset.{event_signal}
 use Rattle.net_model.specs.Within.{Each}
-use Rattle.reset_laws.proofs.ReadCells.{joins_are}
+use Rattle.pass_laws.proofs.CellReads.{joins_are}
 
 pub from_flat : {A B : Type 0} (f : A → List B) (xs : List A) (y : B) → In y (flat_map f xs) → (x : A) × In x xs × In y (f x)
 from_flat f [] y i = absurd i

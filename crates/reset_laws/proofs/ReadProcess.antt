@@ -22,7 +22,8 @@ use Rattle.reset_laws.proofs.AfterRows.{at_edge}
 use Rattle.reset_laws.proofs.RaceRows.{trigger}
 use Rattle.rtl_ir.specs.Flat.Process.{Trigger, always_row, edge_row, edge_trigger, event_point, level_row, level_trigger, loaded_row, loaded_rows, may_hold, no_modules, no_pins, one_rule_rows, process_rows, raced_row, raced_rows, rule_row, rules_rows, tree_bit_rows, two_rules_rows}
 use Rattle.rtl_ir.specs.Flat.Reads.{read_points, store_list}
-use Rattle.rtl_ir.specs.Follow.{Join, all_joins, source_at}
+use Rattle.rtl_ir.specs.Follow.{all_joins, source_at}
+use Rattle.rtl_ir.specs.declared.follow.Join.{Join}
 use Rattle.rtl_ir.specs.Rules.{acting_rules}
 use Rattle.rtl_ir.specs.SwitchRules.{root_by_rules}
 use Rattle.rtl_ir.specs.Tree.{CaseView}

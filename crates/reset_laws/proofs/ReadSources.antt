@@ -9,7 +9,8 @@ use Rattle.rtl_sig.specs.declared.sig.WireBit.{WireBit}
 use Rattle.rtl_ir.specs.Assigns.{assigned, case_assigns, cases_assigns, last_source, switches_assigns}
 use Rattle.rtl_ir.specs.Decisions.{Leaf, case_decision, expanded_within, with_leaves}
 use Rattle.rtl_ir.specs.Faults.SelfReading.{assigns_read, cases_name, cases_read, switches_read}
-use Rattle.rtl_ir.specs.Follow.{Join, all_joins, joins}
+use Rattle.rtl_ir.specs.Follow.{all_joins, joins}
+use Rattle.rtl_ir.specs.declared.follow.Join.{Join}
 use Rattle.rtl_ir.specs.Signals.{has_bit, same_bit}
 use Rattle.rtl_ir.specs.Tree.{CaseView, Cases, NoCase, NoSwitch, OneCase, OneSwitch, Switches}
 use Rattle.rtl_ir.specs.declared.module.Link.{Link}

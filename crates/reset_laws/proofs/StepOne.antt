@@ -15,7 +15,8 @@ use Rattle.rtl_ir.specs.Faults.RuleKinds.{edges_agree, has_one_bit, kinds_of, ma
 use Rattle.rtl_ir.specs.Faults.TwoEdges.{EdgeBit, edge_bit}
 use Rattle.rtl_ir.specs.Flat.Cell as flat
 use Rattle.rtl_ir.specs.Flat.Cell.{cell_kind, instances}
-use Rattle.rtl_ir.specs.Follow.{Join, all_joins, joins}
+use Rattle.rtl_ir.specs.Follow.{all_joins, joins}
+use Rattle.rtl_ir.specs.declared.follow.Join.{Join}
 use Rattle.rtl_ir.specs.Rules.{acting_rules, is_init}
 use Rattle.rtl_ir.specs.Scope.{with_processes}
 use Rattle.rtl_ir.specs.SwitchRules.{root_by_rules}
@@ -33,10 +34,10 @@ use Rattle.net_model.specs.Refine.{AgreeOn, IsWellDriven, RefinesOver}
 use Rattle.net_model.specs.Within.{BitIn, Each, EventIn, LinkIn, ProcessIn, RuleIn, SwitchesIn}
 use Rattle.pass_laws.proofs.Counting.{count, count_more}
 use Rattle.pass_laws.proofs.Faultless.{AreFit, all_fine, fits, no_cell_faults, no_faults}
-use Rattle.proc_laws.proofs.CountingBits.{among, fewer}
+use Rattle.build_laws.proofs.CountingBits.{among, fewer}
 use Rattle.proc_laws.proofs.RebuildProcesses.{IsGoodProcess, each_good}
 use Rattle.proc_laws.specs.Ready.{HasItsBits, HaveNoStarts, IsReady}
-use Rattle.proc_laws.specs.Rebuilds.{AreAmong, driven_bits, rules_bits}
+use Rattle.build_laws.specs.Rebuilds.{AreAmong, driven_bits, rules_bits}
 use Rattle.reset_laws.specs.Trees.{TreesHaveBits}
 use Rattle.reset_laws.proofs.AfterRace.{IsRace, SameTests}
 use Rattle.reset_laws.proofs.AfterRules.{reset_plain, rule_after}

@@ -11,7 +11,7 @@ use Rattle.rtl_ir.specs.Assigns.{case_assigns, tree_bits}
 use Rattle.rtl_ir.specs.Decisions.{case_decision}
 use Rattle.rtl_ir.specs.Faults.SelfReading.{reads_itself}
 use Rattle.rtl_ir.specs.Faults.TwoEdges.{are_all}
-use Rattle.mux_laws.proofs.TreeLess.{SameAccesses}
+use Rattle.build_laws.proofs.Staying.{SameAccesses}
 use Rattle.pass_laws.proofs.Faultless.{AreFit}
 use Rattle.proc_laws.proofs.RebuildProcesses.{IsGoodProcess}
 use Rattle.reset_laws.proofs.AfterRace.{SameTests}
@@ -29,7 +29,8 @@ use Rattle.rtl_ir.specs.Flat.Process.{process_rows, processes_rows, rules_rows, 
 use Rattle.rtl_ir.specs.Flat.Rows.{plain_rows, rows_of}
 use Rattle.rtl_ir.specs.Flat.Start.{start_of}
 use Rattle.rtl_ir.specs.Flat.Tree.{design_ports}
-use Rattle.rtl_ir.specs.Follow.{Join, all_joins}
+use Rattle.rtl_ir.specs.Follow.{all_joins}
+use Rattle.rtl_ir.specs.declared.follow.Join.{Join}
 use Rattle.rtl_ir.specs.Ports.{ports_of}
 use Rattle.rtl_ir.specs.Rules.{acting_rules}
 use Rattle.rtl_ir.specs.Signals.{wire_bits}
@@ -52,25 +53,27 @@ use Rattle.net_model.specs.Within.{Each, ProcessIn}
 use Rattle.pass_laws.proofs.Alone.{links_even}
 use Rattle.pass_laws.proofs.Faultless.{no_faults}
 use Rattle.pass_laws.specs.Bits.{cells_bits}
-use Rattle.proc_laws.proofs.CountingBits.{AreBelow}
-use Rattle.proc_laws.proofs.RebuildBits.{driven_below, not_both}
+use Rattle.build_laws.proofs.CountingBits.{AreBelow}
+use Rattle.build_laws.proofs.RebuildBits.{driven_below, not_both}
 use Rattle.proc_laws.proofs.RebuildFaults.{drives_count}
 use Rattle.proc_laws.specs.Ready.{AreRuled, HasItsBits, HaveNoStarts, IsBitOf, IsReady}
-use Rattle.proc_laws.specs.Rebuilds.{checked_bits, driven_bits, rules_bits}
+use Rattle.build_laws.specs.Rebuilds.{checked_bits, driven_bits, rules_bits}
 use Rattle.reset_laws.specs.Trees.{TreesHaveBits}
 use Rattle.reset_laws.proofs.AfterRace.{IsRace, edge_count, race_or}
 use Rattle.reset_laws.proofs.FrameDriven.{bits_distinct, part_left, part_right, still_driven}
 use Rattle.reset_laws.proofs.FrameRows.{accesses_stay, among_process, starts_stay, with_all}
 use Rattle.reset_laws.proofs.FrameStep.{IsNone, nothing_goes, spot_of, step_refines}
 use Rattle.reset_laws.proofs.FreeOthers.{IsUnread, unread_apart}
-use Rattle.reset_laws.proofs.FreePorts.{ports_clear, single}
+use Rattle.reset_laws.proofs.FreePorts.{ports_clear}
 use Rattle.reset_laws.proofs.FreeReads.{in_flat}
 use Rattle.reset_laws.proofs.FreeStep.{trees_go}
 use Rattle.reset_laws.proofs.FreedBits.{tree_in}
 use Rattle.reset_laws.proofs.ReadMemories.{from_flat}
 use Rattle.reset_laws.proofs.StepOne.{IsGood, IsKept, after_ruled, after_within, agree_refl, drives_among, fit, good, starts_after, tests, writes_after, writes_before}
 use Rattle.reset_laws.proofs.StepWrites.{even_of, none_begun}
-use Rattle.reset_laws.proofs.TestOnce.{count_in, driven_once, wire_bit}
+use Rattle.reset_laws.proofs.TestOnce.{driven_once, wire_bit}
+use Rattle.pass_laws.proofs.Once.{count_in}
+use Rattle.pass_laws.proofs.Ports.{single}
 
 module _ (ports : Ports) (m : Module) (ready : IsReady with_processes ports m) (placed : HasItsBits m) (trees : TreesHaveBits m) (no_starts : HaveNoStarts m) (ruled_all : AreRuled m) where
   -- tree bits lie within their wires, and no cell drives one

@@ -8,16 +8,13 @@ use Rattle.rtl_sig.specs.declared.sig.SigBit.{SigBit}
 use Rattle.rtl_sig.specs.declared.sig.SigBit.TheVariants.{Fixed}
 use Rattle.rtl_ir.specs.Faults.ProcessLimits.{has_uneven, memory_lines, switches_uneven, update_lines}
 use Rattle.rtl_ir.specs.Faults.Links.{is_uneven}
-use Rattle.rtl_ir.specs.Assigns.{case_assigns, tree_bits}
-use Rattle.rtl_ir.specs.Decisions.{expanded, leaves_of}
+use Rattle.rtl_ir.specs.Assigns.{case_assigns}
 use Rattle.rtl_ir.specs.Faults.RuleKinds.{AtAll, AtBothEdges, AtEdge, AtLevel, AtStart, AtSteps, RuleKind, is_one_edge, kind_of_event, kinds_of, writes, writes_stand}
 use Rattle.rtl_ir.specs.Faults.TwoEdges.{SwitchTest, are_one_constant, cases_patterns, tested_bit}
-use Rattle.rtl_ir.specs.Flat.Start.{Begun, first_constant, process_starts}
-use Rattle.rtl_ir.specs.Follow.{Join, all_joins}
+use Rattle.rtl_ir.specs.Flat.Start.{process_starts}
+use Rattle.rtl_ir.specs.declared.follow.Join.{Join}
 use Rattle.rtl_ir.specs.Rules.{acting_rules, has_item, has_line, init_lines, is_init}
-use Rattle.rtl_ir.specs.SwitchRules.{root_by_rules}
 use Rattle.rtl_ir.specs.Tree.{Cases, NoCase, NoSwitch, OneCase, OneSwitch, Switches}
-use Rattle.rtl_ir.specs.declared.module.Link.{Link}
 use Rattle.rtl_ir.specs.declared.process.Process.{Process}
 use Rattle.rtl_ir.specs.declared.process.SyncRule.{SyncRule}
 use Rattle.rtl_ir.specs.declared.process.WriteLine.{WriteLine}
@@ -29,6 +26,7 @@ use Rattle.reset_laws.proofs.AfterPlaces.{constant_leaves}
 use Rattle.reset_laws.proofs.ChoiceEven.{EvenSwitches, even_from}
 use Rattle.reset_laws.proofs.FrameRows.{WriteNothing}
 use Rattle.reset_laws.proofs.FreeReads.{in_acting}
+use Rattle.build_laws.proofs.Staying.{starts_by}
 
 two_not_one : (k l : RuleKind) → is_one_edge (k ∷ l ∷ []) ≡ false
 two_not_one AtEdge l = refl
@@ -86,11 +84,6 @@ race_writes rules a b acting stand r i = by (has_item r.writes) refl
         at false f =
             let j = in_acting rules r i (λ k. line e k && not (f k)) in
             absurd (let no : true ≡ false = sym e ∙ none_any writes (acting_rules rules) acts r j in cc)
-
--- the start values that lines give
-abbrev starts_by : Process → List Link → List Begun
-starts_by s lines =
-    map (λ (j : Join). record { bit = j.bit; value = first_constant (leaves_of (expanded (root_by_rules s.root) (tree_bits s.root) j.source)) }) (all_joins lines)
 
 -- rules that give no start values
 pub no_begin : (rules : List SyncRule) → Each (λ (r : SyncRule). is_init r.event ≡ false) rules → init_lines rules ≡ []

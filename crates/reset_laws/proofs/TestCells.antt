@@ -20,7 +20,8 @@ use Rattle.rtl_ir.specs.Flat.Cell.{cell_shape}
 use Rattle.rtl_ir.specs.Flat.Driver.{Worked}
 use Rattle.rtl_ir.specs.Flat.Place.{Path, Place}
 use Rattle.rtl_ir.specs.Flat.Point.{pin_points, points}
-use Rattle.rtl_ir.specs.Follow.{Join, follow_joins}
+use Rattle.rtl_ir.specs.Follow.{follow_joins}
+use Rattle.rtl_ir.specs.declared.follow.Join.{Join}
 use Rattle.rtl_ir.specs.Parameters.{given_params}
 use Rattle.rtl_ir.specs.Signals.{is_constant}
 use Rattle.rtl_ir.specs.declared.cell.Cell.{Cell}

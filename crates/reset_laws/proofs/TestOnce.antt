@@ -1,14 +1,10 @@
 -- Each bit of a cell is driven once, and so the tests of a bit do not look at the ports of modules.
-use Rattle.std.proofs.Common.{◌≡◌, ℕ, zero, suc, ◌+◌, ◌<◌, ◌≤◌, Bool, true, false, cond, List, [], ◌∷◌, ◌++◌, Option, Some, None, ◌⊎◌, inl, inr, ⊎_elim, refl, sym, ◌∙◌, ap, subst, arith}
-use Rattle.std.specs.Prelude.{IsSomeAnd, find, flat_map, if◌then◌else◌, nat_lt, option_map, slice_get}
-use Rattle.std.specs.List.{range_with_len}
-use Rattle.std.proofs.lemmas.Bool.{ltb-false}
+use Rattle.std.proofs.Common.{◌≡◌, ◌+◌, ◌<◌, ◌≤◌, Bool, true, false, cond, List, [], ◌∷◌, ◌++◌, Option, Some, None, ◌⊎◌, inl, inr, ⊎_elim, refl, ap, subst, arith}
+use Rattle.std.specs.Prelude.{IsSomeAnd, find, if◌then◌else◌, option_map, slice_get}
 use Rattle.rtl_sig.specs.declared.sig.SigBit.{SigBit}
 use Rattle.rtl_sig.specs.declared.sig.SigBit.TheVariants.{Fixed, Wire as OnWire}
 use Rattle.rtl_sig.specs.declared.sig.WireBit.{WireBit}
-use Rattle.rtl_ir.specs.Drivers.{Drive, Source, drive_count, driver_in, drives_of, is_input}
-use Rattle.rtl_ir.specs.Fault.{BadPort, Fault, TwoDrivers, fault_if, spot}
-use Rattle.rtl_ir.specs.Faults.Bits.{bit_faults, bits_faults, faults_of_two}
+use Rattle.rtl_ir.specs.Drivers.{Drive, Source, drive_count, driver_in, drives_of}
 use Rattle.rtl_ir.specs.Outputs.{drives_pin}
 use Rattle.rtl_ir.specs.Scope.{with_processes}
 use Rattle.rtl_ir.specs.Signals.{same_bit, wire_bits}
@@ -20,68 +16,13 @@ use Rattle.rtl_ir.specs.declared.wire.Wire.{Wire}
 use Rattle.net_model.proofs.Members.{In-cases, In-map}
 use Rattle.net_model.specs.Lists.{In}
 use Rattle.net_model.specs.Within.{Each}
-use Rattle.follow_laws.proofs.Following.{same_bit-same}
-use Rattle.net_index.proofs.IndexTables.{same_bit-refl}
 use Rattle.pass_laws.proofs.Alone.{links_even}
 use Rattle.pass_laws.proofs.Counting.{bits_of, count}
-use Rattle.pass_laws.proofs.Faultless.{no_faults, none_left, none_right}
+use Rattle.pass_laws.proofs.Faultless.{no_faults}
 use Rattle.pass_laws.specs.Bits.{cells_bits, pin_bits}
 use Rattle.proc_laws.proofs.RebuildFaults.{drives_count}
 use Rattle.proc_laws.specs.Ready.{IsBitOf, IsReady, PinsHaveBits}
-use Rattle.reset_laws.proofs.TestSteps.{driver_found}
-
-pub count_in : (b : WireBit) (xs : List WireBit) → In b xs → 1 ≤ count b xs
-count_in b [] i = absurd i
-count_in b (x ∷ xs) (inl e) =
-    let one : ◌≡◌ {A = ℕ} (cond (same_bit x b) 1 0) 1 = ap {B = ℕ} (λ t. cond t 1 0) (ap (λ z. same_bit z b) (sym e) ∙ same_bit-refl b) in
-    omega (arith, one)
-count_in b (x ∷ xs) (inr i) = omega (arith, count_in b xs i)
-
-pub count_or : (b : WireBit) (xs : List WireBit) → (count b xs ≡ 0) ⊎ In b xs
-count_or b [] = inl refl
-count_or b (x ∷ xs) = by (same_bit x b) refl (count_or b xs)
-  where
-    by : (t : Bool) → same_bit x b ≡ t → (count b xs ≡ 0) ⊎ In b xs → (cond t 1 0 + count b xs ≡ 0) ⊎ In b (x ∷ xs)
-    by true e h = inr (inl (sym (same_bit-same x b e)))
-    by false e (inl h) = inl (omega (arith, h))
-    by false e (inr h) = inr (inr h)
-
-not_two : (id : List ℕ) (w : Wire) (at : ℕ) → faults_of_two id w at ≡ [] → ⊥
-not_two id w at e = more (fault_if (is_input w.role) (BadPort (spot id w.name))) (TwoDrivers id w.name at) e
-  where
-    more : (xs : List Fault) (x : Fault) → xs ++ x ∷ [] ≡ [] → ⊥
-    more [] x f = absurd (cc)
-    more (y ∷ ys) x f = absurd (cc)
-
-module _ (id : List ℕ) (ds : List Drive) where
-  once_here : (wire : ℕ) (w : Wire) (at : ℕ) → bit_faults id ds wire w at ≡ [] → drive_count ds (record { wire = wire; at = at }) ≤ 1
-  once_here wire w at e = ltb-false 1 (drive_count ds (record { wire = wire; at = at })) (one (nat_lt 1 (drive_count ds (record { wire = wire; at = at }))) e)
-    where
-      one : (t : Bool) → (if t then faults_of_two id w at else []) ≡ [] → t ≡ false
-      one false f = refl
-      one true f = absurd (not_two id w at f)
-
-  once_at : (wire : ℕ) (w : Wire) (a n k : ℕ) → k < n → flat_map (bit_faults id ds wire w) (range_with_len a n) ≡ [] → drive_count ds (record { wire = wire; at = a + k }) ≤ 1
-  once_at wire w a zero k h e = absurd (omega arith)
-  once_at wire w a (suc n) zero h e =
-      let z : a ≡ a + 0 = omega arith in
-      subst (λ at. drive_count ds (record { wire = wire; at = at }) ≤ 1) z (once_here wire w a (none_left (bit_faults id ds wire w a) (flat_map (bit_faults id ds wire w) (range_with_len (a + 1) n)) e))
-  once_at wire w a (suc n) (suc k) h e =
-      let z : a + 1 + k ≡ a + suc k = omega arith in
-      let lt : k < n = omega arith in
-      subst (λ at. drive_count ds (record { wire = wire; at = at }) ≤ 1) z (once_at wire w (a + 1) n k lt (none_right (bit_faults id ds wire w a) (flat_map (bit_faults id ds wire w) (range_with_len (a + 1) n)) e))
-
-  once_in : (first : ℕ) (ws : List Wire) (place : ℕ) (w : Wire) → bits_faults id ds first ws ≡ [] → slice_get ws place ≡ Some w → (at : ℕ) → at < w.width → drive_count ds (record { wire = first + place; at = at }) ≤ 1
-  once_in first [] place w e there at h = absurd (cc)
-  once_in first (v ∷ ws) zero w e there at h =
-      let same : v ≡ w = cc in
-      let z : first ≡ first + 0 = omega arith in
-      let y : 0 + at ≡ at = omega arith in
-      let lt : at < v.width = subst (λ (u : Wire). at < u.width) (sym same) h in
-      subst (λ k. drive_count ds (record { wire = k; at = at }) ≤ 1) z (subst (λ k. drive_count ds (record { wire = first; at = k }) ≤ 1) y (once_at first v 0 v.width at lt (none_left (flat_map (bit_faults id ds first v) (range_with_len 0 v.width)) (bits_faults id ds (first + 1) ws) e)))
-  once_in first (v ∷ ws) (suc place) w e there at h =
-      let z : first + 1 + place ≡ first + suc place = omega arith in
-      subst (λ k. drive_count ds (record { wire = k; at = at }) ≤ 1) z (once_in (first + 1) ws place w (none_right (flat_map (bit_faults id ds first v) (range_with_len 0 v.width)) (bits_faults id ds (first + 1) ws) e) there at h)
+use Rattle.pass_laws.proofs.Once.{count_in, count_or, once_in, driver_found}
 
 -- a bit that cells drive is one of a pin
 pub cell_bit : (ports : Ports) (cs : List Cell) (b : WireBit) → In b (cells_bits ports cs) → (c : Cell) × In c cs × In b (pin_bits (cell_type ports c.kind_name) c.pins)

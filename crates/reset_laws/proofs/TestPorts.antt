@@ -22,8 +22,9 @@ use Rattle.net_model.proofs.Members.{In-map}
 use Rattle.pass_laws.proofs.Counting.{bits_more, bits_of, cell_drives_bits, count, count_more}
 use Rattle.pass_laws.specs.Bits.{cells_bits}
 use Rattle.reset_laws.proofs.AfterRace.{SameTests}
-use Rattle.reset_laws.proofs.TestOnce.{count_in, driver_less, driver_more, driver_none}
-use Rattle.reset_laws.proofs.TestSteps.{driver_found, pins_from}
+use Rattle.reset_laws.proofs.TestOnce.{driver_less, driver_more, driver_none}
+use Rattle.pass_laws.proofs.Once.{count_in, driver_found}
+use Rattle.reset_laws.proofs.TestSteps.{pins_from}
 
 -- the kind of a combinational cell is that of its type, whatever the ports
 kind_alike : (ports : Ports) (name : List ℕ) → combinational_kind (cell_type ports name) ≡ combinational_kind (cell_type no_modules name)

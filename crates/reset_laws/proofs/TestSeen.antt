@@ -18,7 +18,8 @@ use Rattle.rtl_ir.specs.Flat.Driver.{Driven}
 use Rattle.rtl_ir.specs.Flat.Link.{link_rows}
 use Rattle.rtl_ir.specs.Flat.Place.{Path, Place}
 use Rattle.rtl_ir.specs.Flat.Point.{points}
-use Rattle.rtl_ir.specs.Follow.{Join, all_joins, back, follow_joins}
+use Rattle.rtl_ir.specs.Follow.{all_joins, back, follow_joins}
+use Rattle.rtl_ir.specs.declared.follow.Join.{Join}
 use Rattle.rtl_ir.specs.Signals.{is_all_constant}
 use Rattle.rtl_ir.specs.Types.{Ports, cell_type}
 use Rattle.rtl_ir.specs.declared.module.Module.{Module}

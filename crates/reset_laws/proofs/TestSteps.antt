@@ -21,10 +21,11 @@ use Rattle.rtl_ir.specs.Flat.Cell.{cell_kind, cell_rows, cell_shape, cells_rows,
 use Rattle.rtl_ir.specs.Flat.Driver.{Driven, Worked}
 use Rattle.rtl_ir.specs.Flat.Place.{Path}
 use Rattle.rtl_ir.specs.Flat.Point.{bit_place, pin_points, points}
-use Rattle.rtl_ir.specs.Follow.{Join, all_joins}
+use Rattle.rtl_ir.specs.Follow.{all_joins}
+use Rattle.rtl_ir.specs.declared.follow.Join.{Join}
 use Rattle.rtl_ir.specs.Outputs.{drives_pin}
 use Rattle.rtl_ir.specs.Parameters.{signal_at}
-use Rattle.rtl_ir.specs.Signals.{same_bit, wire_bits}
+use Rattle.rtl_ir.specs.Signals.{wire_bits}
 use Rattle.rtl_ir.specs.Types.{CellType, Instance, Library, Ports, Unknown, Unsupported, cell_type, type_by}
 use Rattle.rtl_ir.specs.declared.cell.Cell.{Cell}
 use Rattle.rtl_ir.specs.declared.cell.Pin.{Pin}
@@ -36,33 +37,9 @@ use Rattle.net_model.specs.Lists.{In}
 use Rattle.pass_laws.proofs.Faultless.{AreFit}
 use Rattle.pass_laws.proofs.Outputs.{output_bits}
 use Rattle.pass_laws.specs.Bits.{pin_bits}
-use Rattle.follow_laws.proofs.Following.{same_bit-same}
 use Rattle.reset_laws.proofs.TestCells.{IsCombinational}
-
-pub at_in : {A : Type 0} (xs : List A) (k : ℕ) (x : A) → slice_get xs k ≡ Some x → In x xs
-at_in [] k x e = absurd (cc)
-at_in (y ∷ xs) zero x e = let same : x ≡ y = cc in inl same
-at_in (y ∷ xs) (suc k) x e = inr (at_in xs k x e)
-
-find_in : (test : Drive → Bool) (ds : List Drive) (d : Drive) → find test ds ≡ Some d → In d ds × (test d ≡ true)
-find_in test [] d e = absurd (cc)
-find_in test (x ∷ ds) d e = by (find_in test ds d) (test x) refl e
-  where
-    by : (find test ds ≡ Some d → In d ds × (test d ≡ true)) → (t : Bool) → test x ≡ t → cond t (Some x) (find test ds) ≡ Some d → In d (x ∷ ds) × (test d ≡ true)
-    by later true f g = let same : d ≡ x = cc in (inl same, ap test same ∙ f)
-    by later false f g = let k = later g in (inr k.0, k.1)
-
--- what drives a bit first is one of the drives
-pub driver_found : (ds : List Drive) (b : WireBit) (s : Source) → driver_in ds b ≡ Some s → In (record { bit = b; source = s }) ds
-driver_found ds b s e = by (find (λ (d : Drive). same_bit d.bit b) ds) refl e
-  where
-    by : (o : Option Drive) → find (λ (d : Drive). same_bit d.bit b) ds ≡ o → option_map (λ (d : Drive). d.source) o ≡ Some s → In (record { bit = b; source = s }) ds
-    by None f g = absurd (cc)
-    by (Some d) f g =
-        let k = find_in (λ (d : Drive). same_bit d.bit b) ds d f in
-        let source : d.source ≡ s = cc in
-        let bit : d.bit ≡ b = same_bit-same d.bit b k.1 in
-        subst (λ (z : Drive). In z ds) (λ i. record { bit = bit i; source = source i }) k.0
+use Rattle.pass_laws.proofs.Finding.{in_place}
+use Rattle.pass_laws.proofs.Once.{driver_found}
 
 places_from : (source : ℕ → Source) (at : ℕ) (bits : List SigBit) (d : Drive) → In d (places_by source at bits) → In d.bit (wire_bits bits) × ((k : ℕ) × (d.source ≡ source k))
 places_from source at [] d i = absurd i
@@ -127,7 +104,7 @@ step_cell ports m b step e = by (driver_in (cell_drives ports 0 m.cells) b) refl
         let zero_place : 0 + d.place ≡ d.place = omega arith in
         let found : slice_get m.cells d.place ≡ Some c = ap (slice_get m.cells) (sym zero_place) ∙ ap (cell_in m.cells) (sym d.source) ∙ g in
         let same : d.cell ≡ c = (let k : Some d.cell ≡ Some c = sym d.there ∙ found in cc) in
-        kinds c (at_in m.cells d.place c found) (subst (λ (z : Cell). In b (pin_bits (cell_type ports z.kind_name) z.pins)) same d.driven) (combinational_kind (cell_type ports c.kind_name)) refl h
+        kinds c (in_place m.cells d.place c found) (subst (λ (z : Cell). In b (pin_bits (cell_type ports z.kind_name) z.pins)) same d.driven) (combinational_kind (cell_type ports c.kind_name)) refl h
 
     by : (o : Option Source) → driver_in (cell_drives ports 0 m.cells) b ≡ o → option_and_then (λ (c : Cell). option_and_then (step_through (all_joins m.links) c) (combinational_kind (cell_type ports c.kind_name))) (option_and_then (cell_in m.cells) o) ≡ Some step → IsThrough ports m b step
     by None f g = absurd (cc)

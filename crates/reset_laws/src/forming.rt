@@ -7,7 +7,7 @@ ghost use Rattle.net_model.specs.Proc.Reset.{proc_reset_of};
 ghost use Rattle.net_model.specs.Proc.Start.{proc_tree_of};
 ghost use Rattle.proc_laws.specs.Ready.{AreRuled, HasItsBits, HaveNoStarts, IsReady};
 ghost use Rattle.proc_laws.specs.Step.{StaysReady};
-ghost use Rattle.sync_laws.specs.Kinds.{HaveNoTwoEdges};
+ghost use Rattle.proc_laws.specs.Kinds.{HaveNoTwoEdges};
 ghost use Rattle.reset_laws.specs.Trees.{TreesHaveBits};
 
 use rtl_ir::{Module, PortTable};

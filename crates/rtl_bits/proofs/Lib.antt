@@ -2,4 +2,4 @@ pub mod Orders
 pub mod Tables
 pub mod Keeping
 pub mod Lists
-pub mod Numbers
+pub mod NumberLemmas

@@ -102,3 +102,9 @@ is_known_iff a = (is_known_true a, true_is_known a)
 
 pub all_known_iff : (bits : List Bit) → IsTrue (all_known bits) ↔ AreKnown bits
 all_known_iff bits = (all_known_true bits, true_all_known bits)
+
+-- for `lists_below_are_a_preorder`
+pub ruleset lists_below_are_a_preorder_laws = (AreBelow_refl, AreBelow_trans, AreBelow_known, AreBelow_length)
+
+-- for `lists_flat_below_are_an_order`
+pub ruleset lists_flat_below_are_an_order_laws = (AreFlatBelow_refl, AreFlatBelow_trans, AreFlatBelow_antisym, AreBelow_from_flat)

@@ -82,3 +82,12 @@ pub merge_flat_right : (a b : Bit) → FlatBelow (merge_of a b) b
 merge_flat_right S0 S0 = refl
 merge_flat_right S1 S1 = refl
 merge_flat_right a b = tt
+
+-- for `below_is_a_preorder`
+pub ruleset preorder = (Below_refl, Below_trans, Below_known)
+
+-- for `flat_below_is_an_order`
+pub ruleset flat_order = (FlatBelow_refl, FlatBelow_trans, FlatBelow_antisym, Below_from_flat)
+
+-- for `merge_is_greatest_below_both`
+pub ruleset merge_bounds = (merge_left, merge_right, merge_greatest, merge_flat_left, merge_flat_right)

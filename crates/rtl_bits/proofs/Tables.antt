@@ -164,3 +164,12 @@ xor_of_flat = flat_monotone2 xor_of xor_of_plain xor_of_mono
 
 pub mux_of_flat : IsMonotone3 FlatBelow mux_of
 mux_of_flat = flat_monotone3 mux_of mux_of_plain mux_of_mono
+
+-- for `functions_are_monotone`
+pub ruleset keep_knowledge = (seen_of_mono, merge_of_mono, not_of_mono, and_of_mono, or_of_mono, xor_of_mono, mux_of_mono)
+
+-- for `functions_are_flat_monotone`
+pub ruleset keep_flat_order = (seen_of_flat, merge_of_flat, not_of_flat, and_of_flat, or_of_flat, xor_of_flat, mux_of_flat)
+
+-- for `functions_give_plain_bits`
+pub ruleset give_plain_bits = (seen_of_plain, merge_of_plain, not_of_plain, and_of_plain, or_of_plain, xor_of_plain, mux_of_plain)

@@ -1,10 +1,11 @@
 //! Lists of bits as numbers.
 
 ghost use Rattle.std.specs.Prelude.{◌≡◌, ◌≤◌, ◌<◌, ◌*◌, ◌^◌, pos, ◌-ℤ◌, IfOk, SomeIff, length, replicate};
-ghost use Rattle.rtl_bits.specs.Numbers.{number_of, bits_of, integer_of, low_bit_of, top_of, is_one, HasNumber};
+ghost use Rattle.rtl_bits.specs.Numbers.{number_of, bits_of, integer_of, HasNumber};
 
 use crate::bit::Bit;
 use crate::memory::Memory;
+use crate::numbers::{is_one, low_bit_of, top_of};
 use crate::seq::Seq;
 use std::alloc::Global;
 
@@ -21,14 +22,14 @@ impl Seq<Bit> {
     }
 
     /// The low bits of the number, `width` of them. Above bit 127 they are 0.
-    #[tactic(auto, using(crate::proofs::Numbers::bits_of_step))]
+    #[tactic(auto, using(crate::proofs::NumberLemmas::bits_of_step))]
     pub fn from_number(alloc: Global, value: u128, width: u32) -> Result<Seq<Bit>, Memory>
         ensures value { IfOk result (λ bits. bits ≡ bits_of value width) }
     {
         let mut bits = Seq::make(alloc);
         let mut rest = value;
         for _ in 0..width {
-            bits.push(low_bit(rest))?;
+            bits.push(low_bit_of(rest))?;
             rest /= 2;
         }
         Ok(bits)
@@ -36,7 +37,7 @@ impl Seq<Bit> {
 
     /// The number that the bits stand for. There is none where a bit is unknown, or where there
     /// are more than 128 bits.
-    #[tactic(auto, using(crate::proofs::Numbers::digit_fits, crate::proofs::Numbers::drop_here, crate::proofs::Numbers::unknown_at))]
+    #[tactic(auto, using(crate::proofs::NumberLemmas::digits_read))]
     pub fn unsigned(&self) -> Option<u128>
         ensures value { SomeIff result (HasNumber self.now) (number_of self.now) }
     {
@@ -57,7 +58,7 @@ impl Seq<Bit> {
 
     /// The integer that the bits stand for in two's complement. There is none where a bit is
     /// unknown, where there are more than 128 bits, or where there is no bit.
-    #[tactic(auto, using(crate::proofs::Numbers::number_of_small, crate::proofs::Numbers::number_of_high, crate::proofs::Numbers::number_of_low, crate::proofs::Numbers::power_fits))]
+    #[tactic(auto, using(crate::proofs::NumberLemmas::integers_read))]
     pub fn signed(&self) -> Option<i128>
         ensures value { SomeIff result (HasNumber self.now × (0 < length self.now)) (integer_of self.now) }
     {
@@ -66,7 +67,7 @@ impl Seq<Bit> {
             return None;
         }
         let number = self.unsigned()?;
-        if is_negative(bits) {
+        if is_one(top_of(bits)) {
             Some(less_power(number, bits.len()))
         } else {
             Some(number as i128)
@@ -74,24 +75,8 @@ impl Seq<Bit> {
     }
 }
 
-/// 1 for an odd number, else 0.
-fn low_bit(number: u128) -> Bit
-    ensures value { result ≡ low_bit_of number }
-{
-    if number % 2 == 1 { Bit::S1 } else { Bit::S0 }
-}
-
-/// Whether the top bit is 1.
-#[tactic(auto, using(crate::proofs::Numbers::top_of_last))]
-fn is_negative(bits: &[Bit]) -> bool
-    requires not_empty { 0 < length bits.now }
-    ensures value { result ≡ is_one (top_of bits.now) }
-{
-    matches!(bits[bits.len() - 1], Bit::S1)
-}
-
 /// The number, less 2 to the width.
-#[tactic(auto, using(crate::proofs::Numbers::greatest_of, crate::proofs::Numbers::power_fits))]
+#[tactic(auto, using(crate::proofs::NumberLemmas::greatest_of, crate::proofs::NumberLemmas::power_fits))]
 fn less_power(number: u128, width: usize) -> i128
     requires width { width ≤ 128 }
     requires within { number < 2 ^ width }

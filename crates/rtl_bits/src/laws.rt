@@ -1,14 +1,26 @@
 //! Laws of the orders of knowledge, of the one-bit functions, and of numbers.
 
 ghost use Rattle.std.specs.Prelude.{◌≡◌, ℕ, pos, neg_ℤ, ◌≤ℤ◌, ◌<ℤ◌, ◌-◌, ◌%◌, ◌^◌, ◌<◌, IsTrue, ◌↔◌, List, length};
-ghost use Rattle.rtl_bits.specs.Knowledge.{IsKnown, is_known, AreKnown, all_known, Below, FlatBelow, AreBelow, AreFlatBelow, IsMonotone, IsMonotone2, IsMonotone3};
+ghost use Rattle.rtl_bits.specs.Knowledge.{
+  IsKnown,
+  is_known,
+  AreKnown,
+  all_known,
+  Below,
+  FlatBelow,
+  AreBelow,
+  AreFlatBelow,
+  IsMonotone,
+  IsMonotone2,
+  IsMonotone3,
+};
 ghost use Rattle.rtl_bits.specs.Tables.{seen_of, merge_of, not_of, and_of, or_of, xor_of, mux_of, IsPlain};
 ghost use Rattle.rtl_bits.specs.Numbers.{number_of, bits_of, integer_of};
 
 use crate::bit::Bit;
 
 /// The order of knowledge is a preorder, and nothing but a known bit itself lies above it.
-#[tactic(auto, using(crate::proofs::Orders::Below_refl, crate::proofs::Orders::Below_trans, crate::proofs::Orders::Below_known))]
+#[tactic(auto, using(crate::proofs::Orders::preorder))]
 pub fn below_is_a_preorder()
     ensures reflexive { (a : Bit) → Below a a }
     ensures transitive { (a b c : Bit) → Below a b → Below b c → Below a c }
@@ -16,7 +28,7 @@ pub fn below_is_a_preorder()
 {}
 
 /// The flat order is an order, and finer than the order of knowledge.
-#[tactic(auto, using(crate::proofs::Orders::FlatBelow_refl, crate::proofs::Orders::FlatBelow_trans, crate::proofs::Orders::FlatBelow_antisym, crate::proofs::Orders::Below_from_flat))]
+#[tactic(auto, using(crate::proofs::Orders::flat_order))]
 pub fn flat_below_is_an_order()
     ensures reflexive { (a : Bit) → FlatBelow a a }
     ensures transitive { (a b c : Bit) → FlatBelow a b → FlatBelow b c → FlatBelow a c }
@@ -26,7 +38,7 @@ pub fn flat_below_is_an_order()
 
 /// The merge is the greatest bit that is below both, in the order of knowledge. In the flat order
 /// it is below both; it is not the greatest there, since that of `z` and `z` is `z`.
-#[tactic(auto, using(crate::proofs::Orders::merge_left, crate::proofs::Orders::merge_right, crate::proofs::Orders::merge_greatest, crate::proofs::Orders::merge_flat_left, crate::proofs::Orders::merge_flat_right))]
+#[tactic(auto, using(crate::proofs::Orders::merge_bounds))]
 pub fn merge_is_greatest_below_both()
     ensures left { (a b : Bit) → Below (merge_of a b) a }
     ensures right { (a b : Bit) → Below (merge_of a b) b }
@@ -36,7 +48,7 @@ pub fn merge_is_greatest_below_both()
 {}
 
 /// Each function of bits keeps the order of knowledge.
-#[tactic(auto, using(crate::proofs::Tables::seen_of_mono, crate::proofs::Tables::merge_of_mono, crate::proofs::Tables::not_of_mono, crate::proofs::Tables::and_of_mono, crate::proofs::Tables::or_of_mono, crate::proofs::Tables::xor_of_mono, crate::proofs::Tables::mux_of_mono))]
+#[tactic(auto, using(crate::proofs::Tables::keep_knowledge))]
 pub fn functions_are_monotone()
     ensures seen { IsMonotone Below seen_of }
     ensures merge { IsMonotone2 Below merge_of }
@@ -48,7 +60,7 @@ pub fn functions_are_monotone()
 {}
 
 /// Each function of bits keeps the flat order.
-#[tactic(auto, using(crate::proofs::Tables::seen_of_flat, crate::proofs::Tables::merge_of_flat, crate::proofs::Tables::not_of_flat, crate::proofs::Tables::and_of_flat, crate::proofs::Tables::or_of_flat, crate::proofs::Tables::xor_of_flat, crate::proofs::Tables::mux_of_flat))]
+#[tactic(auto, using(crate::proofs::Tables::keep_flat_order))]
 pub fn functions_are_flat_monotone()
     ensures seen { IsMonotone FlatBelow seen_of }
     ensures merge { IsMonotone2 FlatBelow merge_of }
@@ -60,7 +72,7 @@ pub fn functions_are_flat_monotone()
 {}
 
 /// Each function of bits gives 0, 1 or x.
-#[tactic(auto, using(crate::proofs::Tables::seen_of_plain, crate::proofs::Tables::merge_of_plain, crate::proofs::Tables::not_of_plain, crate::proofs::Tables::and_of_plain, crate::proofs::Tables::or_of_plain, crate::proofs::Tables::xor_of_plain, crate::proofs::Tables::mux_of_plain))]
+#[tactic(auto, using(crate::proofs::Tables::give_plain_bits))]
 pub fn functions_give_plain_bits()
     ensures seen { (a : Bit) → IsPlain (seen_of a) }
     ensures merge { (a b : Bit) → IsPlain (merge_of a b) }
@@ -73,7 +85,7 @@ pub fn functions_give_plain_bits()
 
 /// The order of knowledge on lists is a preorder of lists of one length, and nothing but a list
 /// of known bits itself lies above it.
-#[tactic(auto, using(crate::proofs::Lists::AreBelow_refl, crate::proofs::Lists::AreBelow_trans, crate::proofs::Lists::AreBelow_known, crate::proofs::Lists::AreBelow_length))]
+#[tactic(auto, using(crate::proofs::Lists::lists_below_are_a_preorder_laws))]
 pub fn lists_below_are_a_preorder()
     ensures reflexive { (a : List Bit) → AreBelow a a }
     ensures transitive { (a b c : List Bit) → AreBelow a b → AreBelow b c → AreBelow a c }
@@ -82,7 +94,7 @@ pub fn lists_below_are_a_preorder()
 {}
 
 /// The flat order on lists is an order, and finer than the order of knowledge.
-#[tactic(auto, using(crate::proofs::Lists::AreFlatBelow_refl, crate::proofs::Lists::AreFlatBelow_trans, crate::proofs::Lists::AreFlatBelow_antisym, crate::proofs::Lists::AreBelow_from_flat))]
+#[tactic(auto, using(crate::proofs::Lists::lists_flat_below_are_an_order_laws))]
 pub fn lists_flat_below_are_an_order()
     ensures reflexive { (a : List Bit) → AreFlatBelow a a }
     ensures transitive { (a b c : List Bit) → AreFlatBelow a b → AreFlatBelow b c → AreFlatBelow a c }
@@ -98,7 +110,7 @@ pub fn tests_for_known_bits_agree()
 {}
 
 /// Numbers of a width and lists of as many known bits stand for each other.
-#[tactic(auto, using(crate::proofs::Numbers::number_of_bits_of, crate::proofs::Numbers::bits_of_number_of, crate::proofs::Numbers::number_of_small, crate::proofs::Numbers::bits_of_length, crate::proofs::Numbers::bits_of_known))]
+#[tactic(auto, using(crate::proofs::NumberLemmas::numbers_round_trip_laws))]
 pub fn numbers_round_trip()
     ensures number { (n width : ℕ) → number_of (bits_of n width) ≡ n % 2 ^ width }
     ensures bits { (a : List Bit) → AreKnown a → bits_of (number_of a) (length a) ≡ a }
@@ -108,7 +120,7 @@ pub fn numbers_round_trip()
 {}
 
 /// The integers of a width begin at minus the half of 2 to the width, and end below that half.
-#[tactic(auto, using(crate::proofs::Numbers::integer_of_least, crate::proofs::Numbers::integer_of_greatest))]
+#[tactic(auto, using(crate::proofs::NumberLemmas::integer_of_least, crate::proofs::NumberLemmas::integer_of_greatest))]
 pub fn integers_are_in_range()
     ensures least { (a : List Bit) → 0 < length a → neg_ℤ (pos (2 ^ (length a - 1))) ≤ℤ integer_of a }
     ensures greatest { (a : List Bit) → 0 < length a → integer_of a <ℤ pos (2 ^ (length a - 1)) }

@@ -3,13 +3,17 @@
 
 mod bit;
 mod bits;
+mod knowledge;
 pub mod laws;
 mod memory;
+mod numbers;
 mod seq;
 mod steps;
 
 pub use bit::{Bit, bit_and, bit_mux, bit_not, bit_or, bit_xor, merge};
+pub use knowledge::all_known;
 pub use memory::Memory;
+pub use numbers::{digit_of, is_one, low_bit_of, number_of, top_of};
 pub use seq::{Copied, Seq};
 pub use steps::Steps;
 

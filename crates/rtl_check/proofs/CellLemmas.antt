@@ -19,7 +19,7 @@ use Rattle.rtl_check.specs.Named.{Names}
 use Rattle.rtl_ir.specs.Rules.{has_item}
 use Rattle.std.specs.Option.{option_map_or}
 use Rattle.std.specs.Result.{OnOk}
-use Rattle.process_check.proofs.Fronts.{front}
+use Rattle.process_trees.proofs.Fronts.{front}
 use Rattle.rtl_sig.specs.declared.sig.SigBit.{SigBit}
 use Rattle.net_index.specs.declared.types.Port.{Port}
 use Rattle.net_index.specs.declared.types.CellType.TheVariants.{Instance, Library}
@@ -27,8 +27,8 @@ use Rattle.net_index.specs.Types.{Named, IsTable, IsType, at_name, port_of}
 use Rattle.rtl_ir.specs.Types as rtl_types
 use Rattle.rtl_ir.specs.Fault as rtl
 use Rattle.rtl_check.specs.declared.fault.CheckFault.{CheckFault}
-use Rattle.event_tests.specs.Fitting.{DoCellsFit}
-use Rattle.event_tests.proofs.Faultless.{faultless_cells}
+use Rattle.process_trees.specs.Fitting.{DoCellsFit}
+use Rattle.process_trees.proofs.Faultless.{faultless_cells}
 use Rattle.rtl_check.specs.Finds.{IsFirst}
 use Rattle.rtl_check.proofs.Firsts.{first_before}
 

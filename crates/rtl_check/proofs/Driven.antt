@@ -13,7 +13,8 @@ use Rattle.rtl_ir.specs.declared.process.Process.{Process}
 use Rattle.rtl_ir.specs.declared.wire.Wire.{Wire}
 use Rattle.rtl_ir.specs.Assigns.{tree_bits}
 use Rattle.rtl_ir.specs.Drivers.{Source, Drive, FromPort, FromCell, FromLink, FromTree, FromRules, all_by, port_drives, places_by, pin_drives, cell_drives, link_drives, drives_of, tree_drives, rule_drives, is_input}
-use Rattle.rtl_ir.specs.Follow.{Join, joins, all_joins}
+use Rattle.rtl_ir.specs.Follow.{joins, all_joins}
+use Rattle.rtl_ir.specs.declared.follow.Join.{Join}
 use Rattle.rtl_ir.specs.Outputs.{drives_pin}
 use Rattle.rtl_ir.specs.Rules.{updated_bits}
 use Rattle.rtl_ir.specs.Signals.{bits_of_wire, wire_bits}

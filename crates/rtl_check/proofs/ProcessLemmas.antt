@@ -17,7 +17,7 @@ use Rattle.rtl_check.specs.declared.fault.Spot.{Spot}
 use Rattle.rtl_check.specs.Words.{spot_of}
 use Rattle.rtl_check.specs.Finds.{IsFirst}
 use Rattle.rtl_check.proofs.Firsts.{first_before}
-use Rattle.process_check.proofs.Fronts.{front}
+use Rattle.process_trees.proofs.Fronts.{front}
 
 module _ (ports : Ports) (m : Module) (ps : List Process) (i : ℕ) (p : Process) (h : i < length ps) (is : p ≡ get_or ps i p) (all : List rtl.Fault)
     (so_far : process_faults everything ports m (take i ps) (drop i ps) ≡ all) where

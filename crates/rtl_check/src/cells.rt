@@ -14,7 +14,7 @@ ghost use Rattle.rtl_ir.specs.Flat.Cell.{cell_shape};
 ghost use Rattle.rtl_ir.specs.Scope.{everything};
 ghost use Rattle.rtl_ir.specs.Types as rtl;
 ghost use Rattle.net_index.specs.Types.{AreTypes, IsTable, IsType};
-ghost use Rattle.event_tests.specs.Fitting.{DoCellsFit};
+ghost use Rattle.process_trees.specs.Fitting.{DoCellsFit};
 ghost use Rattle.memory_check.specs.Memories.{KnowsCells};
 ghost use Rattle.memory_check.specs.Shapes.{HasShape};
 ghost use Rattle.rtl_check.specs.Finds.{Finds};
@@ -24,10 +24,10 @@ use crate::fault::CheckFault;
 use crate::wires::spot;
 use cell_types::{CellFault, CellKind, MemoryKind, Shape};
 use memory_check::Memories;
-use net_index::{CellType, PortNames, Types, cell_shape, drives_pin};
+use net_index::{CellType, PortNames, Types, drives_pin};
 use process_check::has_constant;
 use rtl_bits::Text;
-use rtl_ir::{Cell, Module, Pin};
+use rtl_ir::{Cell, Module, Pin, cell_shape};
 use std::alloc::Global;
 
 /// The first fault of the cells of a module, over the types of its design. Those of memories are noted.

@@ -7,17 +7,17 @@ ghost use Rattle.rtl_ir.specs.Scope.{everything};
 ghost use Rattle.rtl_ir.specs.Types.{Ports};
 ghost use Rattle.rtl_ir.specs.WritePorts.{EventLine, write_lines};
 ghost use Rattle.net_index.specs.Types.{AreTypes};
-ghost use Rattle.event_tests.specs.Fitting.{DoCellsFit};
+ghost use Rattle.process_trees.specs.Fitting.{DoCellsFit};
 ghost use Rattle.memory_check.specs.Memories.{KnowsCells, KnowsLines};
 ghost use Rattle.process_check.specs.Values.{WereAsked};
 ghost use Rattle.rtl_check.specs.Finds.{Finds};
 
 use crate::fault::CheckFault;
 use crate::wires::spot;
-use event_tests::EventTests;
 use memory_check::Memories;
 use net_index::Types;
 use process_check::{gives_to_constant, has_uneven, is_bad_process, is_too_wide};
+use process_trees::EventTests;
 use rtl_ir::{Module, Process};
 use std::alloc::Global;
 

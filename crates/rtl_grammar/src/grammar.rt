@@ -15,7 +15,7 @@ mod switch;
 mod sync;
 mod wire;
 
-ghost use Rattle.std.specs.Prelude.{◌≡◌, MatchOption, None, Some, reverse};
+ghost use Rattle.rtl_grammar.specs.Bodies.{IsBody};
 ghost use Rattle.rtl_grammar.specs.Grammar.{after};
 
 use crate::expect::Expect;
@@ -51,7 +51,7 @@ use wire::{after_port_number, after_wire_offset, after_wire_option, after_wire_w
 
 /// What is expected behind this token, the next of it last; nothing where the token cannot stand here.
 pub fn after(role: Expect, sort: Sort) -> Option<&'static [Expect]>
-    ensures { MatchOption result (after role sort ≡ None) (λ body. after role sort ≡ Some (reverse body.now)) }
+    ensures { IsBody (after role sort) result }
 {
     match role {
         Expect::Start => after_start(sort),

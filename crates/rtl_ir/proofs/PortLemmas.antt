@@ -116,7 +116,7 @@ map-insert_entry-module id m is (e ∷ es) n =
     by Equal ih = refl
     by Greater ih = ap (λ ms. e.1.now ∷ ms) ih
 
-same_name : (x y : List ℕ) → slice_cmp nat_cmp x y ≡ Equal → x ≡ y
+pub same_name : (x y : List ℕ) → slice_cmp nat_cmp x y ≡ Equal → x ≡ y
 same_name x y h = (bytes_eq-Decides x y).0 (sym (is_eq-slice_cmp x y) ∙ ap is_eq h)
 
 pub AreNamed-insert_entry : (id : Bor (List ℕ)) (m : Bor Module) → id.now ≡ m.now.id → (es : List NamedModule) → AreNamed es → AreNamed (insert_entry name_cmp es id m)
@@ -146,29 +146,3 @@ pub all_wires : (ws : List Wire) (at : ℕ) (es : List NumberedWire) → at ≤ 
 all_wires ws at es none found =
     let first : at ≡ 0 = omega arith in
     subst (λ n. map wire_of es ≡ in_number_order (filter (λ w. is_port w.role) (drop n ws))) first found
-
--- a step of the loop over the modules
-module _ (cells : List Cell) (ms : List Module) (at : ℕ) (m : Module) (es : List NamedModule) (some : 0 < at) (within : at ≤ length ms) (is : m ≡ get_or ms (at - 1) m)
-    (found : map module_of es ≡ instances_of (drop at ms) cells) where
-  pub with_instance : (id : Bor (List ℕ)) (b : Bor Module) → id.now ≡ m.id → b.now ≡ m → instantiates cells m.id ≡ true → AreNamed es
-      → map module_of (insert_entry name_cmp es id b) ≡ instances_of (drop (at - 1) ms) cells
-  with_instance id b name same instance n =
-      rw (drop-before ms at m some within is, instance, ← found, ← same) (map-insert_entry-module id b (name ∙ ap (λ m. m.id) (sym same)) es n)
-
-  pub with_other : instantiates cells m.id ≡ false → map module_of es ≡ instances_of (drop (at - 1) ms) cells
-  with_other other = rw (drop-before ms at m some within is, other) found
-
--- the loop over the modules has come to the first
-pub all_instances : (cells : List Cell) (ms : List Module) (at : ℕ) (es : List NamedModule) → at ≤ 0 → map module_of es ≡ instances_of (drop at ms) cells → map module_of es ≡ instances_of ms cells
-all_instances cells ms at es none found =
-    let first : at ≡ 0 = omega arith in
-    subst (λ n. map module_of es ≡ instances_of (drop n ms) cells) first found
-
--- a step of the loop over the cells
-pub types_next : (id : List ℕ) (names : List (List ℕ)) (cells : List Cell) (at : ℕ) (cell : Cell) → at < length cells → cell ≡ get_or cells at cell
-    → (name : List ℕ) → name ≡ cell.kind_name → (new : List (List ℕ)) → new ≡ with_name names name
-    → (has_name names id || list_any (λ c. bytes_eq id c.kind_name) (drop at cells)) ≡ list_any (λ c. bytes_eq id c.kind_name) cells
-    → (has_name new id || list_any (λ c. bytes_eq id c.kind_name) (drop (at + 1) cells)) ≡ list_any (λ c. bytes_eq id c.kind_name) cells
-types_next id names cells at cell inside is name named new seen before =
-    let left : drop at cells ≡ cell ∷ drop (at + 1) cells = drop-cons cells at cell inside ∙ (λ i. sym is i ∷ drop (sym (add-one at) i) cells) in
-    rw (seen, list_any-with_name id names name, named) (or_assoc (has_name names id) (bytes_eq id cell.kind_name) (list_any (λ c. bytes_eq id c.kind_name) (drop (at + 1) cells)) ∙ rw left at before)

@@ -21,7 +21,8 @@ use Rattle.rtl_sig.specs.declared.sig.WireBit.{WireBit}
 use Rattle.rtl_ir.specs.declared.cell.Cell.{Cell}
 use Rattle.rtl_ir.specs.declared.module.Module.{Module}
 use Rattle.rtl_ir.specs.Drivers.{Source, FromPort, FromCell, FromLink, FromTree, FromRules, cell_drives, driver_in}
-use Rattle.rtl_ir.specs.Follow.{Join, all_joins, back, follow_joins}
+use Rattle.rtl_ir.specs.Follow.{all_joins, back, follow_joins}
+use Rattle.rtl_ir.specs.declared.follow.Join.{Join}
 use Rattle.rtl_ir.specs.Parameters.{given_params, signal_at}
 use Rattle.rtl_ir.specs.Signals.{same_bit, is_constant, is_all_constant}
 use Rattle.rtl_ir.specs.Types.{Ports, CellType, Library, cell_type}

@@ -4,13 +4,9 @@ use Rattle.std.specs.Option.{option_map_or}
 use Rattle.rtl_sig.specs.declared.sig.SigBit.{SigBit}
 use Rattle.rtl_sig.specs.declared.sig.SigBit.TheVariants as sig
 use Rattle.rtl_sig.specs.declared.sig.WireBit.{WireBit}
+use Rattle.rtl_ir.specs.declared.follow.Join.{Join}
 use Rattle.rtl_ir.specs.declared.module.Link.{Link}
 use Rattle.rtl_ir.specs.Signals.{same_bit}
-
--- one place of a connection or an assign: a bit of a wire, and what is given to it
-pub record Join : Type 0 where
-  pub bit : WireBit
-  pub source : SigBit
 
 -- the places that both sides have, where the left is a bit of a wire
 abbrev pub joins : List SigBit → List SigBit → List Join

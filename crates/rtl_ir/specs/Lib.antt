@@ -4,7 +4,9 @@ pub mod Empty
 pub mod Ports
 pub mod Constants
 pub mod Signals
+pub mod Attributes
 pub mod Types
+pub mod ModuleTables
 pub mod Outputs
 pub mod Follow
 pub mod SwitchRules

@@ -1,12 +1,11 @@
 -- The ports of the modules that a module instantiates.
-use Rattle.std.specs.Prelude.{◌≡◌, ℕ, Bool, true, false, not, ◌&&◌, List, [], ◌∷◌, map, filter, slice_get, unwrap_or}
+use Rattle.std.specs.Prelude.{ℕ, Bool, true, false, not, ◌&&◌, List, [], ◌∷◌, map, filter, slice_get, unwrap_or}
 use Rattle.std.specs.Option.{option_map, is_some}
 use Rattle.std.specs.Ordering.{nat_cmp, int_cmp, match_ordering}
 use Rattle.std.specs.Cmp.Lexicographic.{slice_cmp}
 use Rattle.std.specs.List.{list_any}
 use Rattle.std.specs.Str.{bytes_eq}
 use Rattle.cell_types.specs.Kind.{kind_of}
-use Rattle.rtl_sig.specs.Names.{has_name}
 use Rattle.rtl_ir.specs.declared.cell.Cell.{Cell}
 use Rattle.rtl_ir.specs.declared.module.Module.{Module}
 use Rattle.rtl_ir.specs.declared.ports.ModulePorts.{ModulePorts}
@@ -73,7 +72,3 @@ cells_at modules at = unwrap_or (option_map (λ m. m.cells) (slice_get modules a
 -- the ports of each module that the module at a place instantiates
 abbrev pub port_table_of : List Module → ℕ → List ModulePorts
 port_table_of modules at = map ports_by_module (instances_of modules (cells_at modules at))
-
--- these are the names of the cells' types
-abbrev pub SameTypes : List (List ℕ) → List Cell → Type 0
-SameTypes names cells = (id : List ℕ) → has_name names id ≡ list_any (λ c. bytes_eq id c.kind_name) cells

@@ -2,10 +2,7 @@
 use Rattle.std.specs.Prelude.{ℕ, ◌+◌, max, Bool, true, false, ◌&&◌, not, List, [], ◌∷◌, ◌++◌, map, filter, flat_map, Option, Some}
 use Rattle.std.specs.List.{list_any}
 use Rattle.std.specs.Option.{option_map_or}
-use Rattle.std.specs.Cmp.Lexicographic.{pointwise}
 use Rattle.std.specs.Str.{bytes_eq}
-use Rattle.rtl_bits.specs.declared.bit.Bit.{Bit}
-use Rattle.rtl_bits.specs.declared.bit.Bit.TheVariants.{S0, S1, X, Z, M, Dash}
 use Rattle.cell_types.specs.declared.kind.CellKind.{CellKind}
 use Rattle.cell_types.specs.declared.kind.CellKind.TheVariants as Cells
 use Rattle.cell_types.specs.declared.memory.MemoryKind.TheVariants.{MemwrV2}
@@ -26,27 +23,7 @@ use Rattle.rtl_ir.specs.declared.process.SyncRule.{SyncRule}
 use Rattle.rtl_ir.specs.declared.process.WriteLine.{WriteLine}
 use Rattle.rtl_ir.specs.Follow.{follow}
 use Rattle.rtl_ir.specs.Parameters.{given_params, memory_name, signal_at}
-use Rattle.rtl_ir.specs.Signals.{same_bit}
-
--- the same of the six values of a constant
-abbrev pub same_value : Bit → Bit → Bool
-same_value S0 S0 = true
-same_value S1 S1 = true
-same_value X X = true
-same_value Z Z = true
-same_value M M = true
-same_value Dash Dash = true
-same_value a b = false
-
--- the same bit, or the same constant
-abbrev pub same_place : SigBit → SigBit → Bool
-same_place (sig.Fixed a) (sig.Fixed b) = same_value a b
-same_place (sig.Wire a) (sig.Wire b) = same_bit a b
-same_place a b = false
-
--- equal signals
-abbrev pub same_signal : List SigBit → List SigBit → Bool
-same_signal a b = pointwise same_place a b
+use Rattle.rtl_ir.specs.Signals.{same_signal}
 
 -- when a write port acts: its clock, followed, and whether the edge is a rising one
 pub record Clocking : Type 0 where

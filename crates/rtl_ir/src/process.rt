@@ -37,7 +37,14 @@ impl Model for Case {
 
     ghost coded = { coded_case };
 
-    ghost view = { λ c. record { patterns = c.patterns; assigns = c.assigns; switches = switches_of c.switches.items; attributes = c.attributes } };
+    ghost view = { λ c.
+        record {
+          patterns = c.patterns;
+          assigns = c.assigns;
+          switches = switches_of c.switches.items;
+          attributes =
+              c.attributes;
+        } };
 
     ghost size = { case_depth };
 

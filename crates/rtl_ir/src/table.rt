@@ -1,9 +1,10 @@
 //! The ports of the modules that a module instantiates.
 
-ghost use Rattle.std.specs.Prelude.{◌≡◌, ◌<◌, ◌&&◌, not, IfOk, length, map, filter};
+ghost use Rattle.std.specs.Prelude.{◌≡◌, ◌<◌, IfOk, List, length, map, filter, option_map};
 ghost use Rattle.std.specs.BTreeMap.{values};
-ghost use Rattle.rtl_sig.specs.Names.{has_name};
-ghost use Rattle.rtl_ir.specs.Ports.{is_port, is_library_cell, ports_of, in_number_order, instances_of, port_table_of, SameTypes};
+ghost use Rattle.rtl_ir.specs.declared.module.Module.{Module};
+ghost use Rattle.rtl_ir.specs.ModuleTables.{AreByName, instance_of};
+ghost use Rattle.rtl_ir.specs.Ports.{is_port, is_library_cell, ports_of, in_number_order, instances_of, port_table_of};
 
 use crate::cell::Cell;
 use crate::module::{Design, Module};
@@ -11,29 +12,63 @@ use crate::ports::{ModulePorts, PortLine, PortTable};
 use crate::wire::{Role, Wire};
 use cell_types::kind_of;
 use rtl_bits::{Copied, Memory, Seq};
-use rtl_sig::Names;
 use std::alloc::Global;
-use std::collections::BTreeMap;
+use std::collections::{BTreeMap, HashMap};
+
+/// The modules of a design by their names. The table is made once and serves all modules of the design.
+#[derive(Drop)]
+pub struct DesignPorts<'a> {
+    modules: &'a [Module],
+    by_name: HashMap<&'a [u8], &'a Module>,
+    ghost named: { AreByName by_name modules.now },
+}
+
+impl<'a> DesignPorts<'a> {
+    ghost use Rattle.std.specs.Prelude.{◌≡◌, ◌<◌, IfOk, length};
+    ghost use Rattle.rtl_ir.specs.Ports.{port_table_of};
+
+    /// The modules of this design. Of two modules of one name the first counts.
+    pub fn of(alloc: Global, design: &'a Design) -> Result<DesignPorts<'a>, Memory>
+        ensures value { IfOk result (λ ports. ports.modules.now ≡ design.now.modules) }
+    {
+        let modules = design.modules.as_slice();
+        let mut by_name = HashMap::new(alloc);
+        for at in (0..modules.len()).rev() {
+            let module = &modules[at];
+            by_name.insert(module.id.as_slice(), module)?;
+        }
+        Ok(DesignPorts { modules, by_name })
+    }
+
+    /// The ports of the modules of the design that the module at this place instantiates: each once, in order of its name,
+    /// with its ports in order of their numbers. Of two ports of one number the one that is declared first comes first.
+    pub fn table_of(&self, alloc: Global, at: u32) -> Result<PortTable, Memory>
+        requires in_range { at < length self.now.modules.now }
+        ensures value { IfOk result (λ table. table.modules ≡ port_table_of self.now.modules.now at) }
+    {
+        let cells = self.modules[at as usize].cells.as_slice();
+        let mut tables = Vec::new(alloc);
+        for instance in instances(alloc, &self.by_name, cells)?.as_slice() {
+            tables.push(ModulePorts {
+                id: instance.id.copy()?,
+                ports: ports(alloc, instance.wires.as_slice())?,
+            })?;
+        }
+        Ok(PortTable {
+            modules: Seq::from_vec(tables),
+        })
+    }
+}
 
 /// The ports of the modules of the design that the module at this place instantiates: each once, in
 /// order of its name, with its ports in order of their numbers. Of two ports of one number the one that
-/// is declared first comes first; of two modules of one name the first counts.
+/// is declared first comes first; of two modules of one name the first counts. For several modules of a
+/// design `DesignPorts` goes over its modules once.
 pub fn port_table(alloc: Global, design: &Design, at: u32) -> Result<PortTable, Memory>
     requires in_range { at < length design.now.modules }
     ensures value { IfOk result (λ table. table.modules ≡ port_table_of design.now.modules at) }
 {
-    let modules = design.modules.as_slice();
-    let cells = modules[at as usize].cells.as_slice();
-    let mut tables = Vec::new(alloc);
-    for instance in instances(alloc, modules, cells)?.as_slice() {
-        tables.push(ModulePorts {
-            id: instance.id.copy()?,
-            ports: ports(alloc, instance.wires.as_slice())?,
-        })?;
-    }
-    Ok(PortTable {
-        modules: Seq::from_vec(tables),
-    })
+    DesignPorts::of(alloc, design)?.table_of(alloc, at)
 }
 
 /// The ports among the wires, in order of their numbers.
@@ -52,14 +87,15 @@ fn ports(alloc: Global, wires: &[Wire]) -> Result<Seq<PortLine>, Memory>
     Ok(Seq::from_vec(lines))
 }
 
-/// The wires that are ports, in order of their numbers.
-fn port_wires<'a>(alloc: Global, wires: &'a [Wire]) -> Result<Vec<&'a Wire>, Memory>
-    ensures value { IfOk result (λ ports. map (λ w. w.now) ports.items ≡ in_number_order (filter (λ w. is_port w.role) wires.now)) }
+/// The wires that are ports, in order of their numbers; those of one number in the order of the list.
+pub fn port_wires<'a>(alloc: Global, wires: &'a [Wire]) -> Result<Vec<&'a Wire>, Memory>
+    ensures value { IfOk result (λ ports. map (λ w. w.now) ports.items ≡
+        in_number_order (filter (λ w. is_port w.role) wires.now)) }
 {
     let mut ports = BTreeMap::new(alloc);
     for at in (0..wires.len()).rev() {
         let wire = &wires[at];
-        if outer(wire.role) {
+        if is_port(wire.role) {
             ports.insert(key_of(wire, at), wire)?;
         }
     }
@@ -82,7 +118,7 @@ fn key_of(wire: &Wire, at: usize) -> (i32, usize)
 }
 
 /// Whether other modules see a wire of this role.
-fn outer(role: Role) -> bool
+pub fn is_port(role: Role) -> bool
     ensures value { result ≡ is_port role }
 {
     match role {
@@ -94,44 +130,37 @@ fn outer(role: Role) -> bool
 /// The modules that the cells are instances of, in order of their names.
 fn instances<'a>(
     alloc: Global,
-    modules: &'a [Module],
+    by_name: &HashMap<&'a [u8], &'a Module>,
     cells: &[Cell],
 ) -> Result<Vec<&'a Module>, Memory>
-    ensures value { IfOk result (λ found. map (λ m. m.now) found.items ≡ instances_of modules.now cells.now) }
+    ensures value { (modules : List Module) → AreByName by_name.now modules →
+        IfOk result (λ found. map (λ m. m.now) found.items ≡ instances_of modules cells.now) }
 {
-    let types = types_of(alloc, cells)?;
     let mut found = BTreeMap::new(alloc);
-    for at in (0..modules.len()).rev() {
-        let module = &modules[at];
-        let id = module.id.as_slice();
-        if is_instance(&types, id) {
-            found.insert(id, module)?;
+    for cell in cells {
+        if let Some(module) = instance_of(by_name, cell.kind_name.as_slice()) {
+            found.insert(module.id.as_slice(), module)?;
         }
     }
     values_of(alloc, &found)
 }
 
-/// Whether one of these types is the module of this name, and no cell of the library.
-fn is_instance(types: &Names, id: &[u8]) -> bool
-    ensures value { result ≡ (not (is_library_cell id.now) && has_name types.now id.now) }
+/// The module that a cell of this type is an instance of, none of a cell of the library.
+fn instance_of<'a>(by_name: &HashMap<&'a [u8], &'a Module>, name: &[u8]) -> Option<&'a Module>
+    ensures value { (modules : List Module) → AreByName by_name.now modules →
+        option_map (λ m. m.now) result ≡ instance_of modules name.now }
 {
-    !in_library(id) && types.find(id).is_some()
+    let module = by_name.get(name)?;
+    if is_library_cell(name) {
+        None
+    } else {
+        Some(*module)
+    }
 }
 
 /// Whether a cell of the library has the name.
-fn in_library(name: &[u8]) -> bool
+pub fn is_library_cell(name: &[u8]) -> bool
     ensures value { result ≡ is_library_cell name.now }
 {
     kind_of(name).is_some()
-}
-
-/// The names of the types of the cells.
-fn types_of(alloc: Global, cells: &[Cell]) -> Result<Names, Memory>
-    ensures value { IfOk result (λ names. SameTypes names cells.now) }
-{
-    let mut names = Names::make(alloc);
-    for cell in cells {
-        names.intern(cell.kind_name.as_slice())?;
-    }
-    Ok(names)
 }

@@ -1,7 +1,17 @@
 //! Tokens as the grammar sees them.
 
 ghost use Rattle.std.specs.Prelude.{◌≡◌, ◌<◌, ◌≤◌, ◌&&◌, ◌==◌, List, length, drop, None, IfSome};
-ghost use Rattle.rtl_lex.specs.Items.{number_of, as_seen, item_of, Seen, AreItems, Leads, is_line, last_item, remaining};
+ghost use Rattle.rtl_lex.specs.Items.{
+  number_of,
+  as_seen,
+  item_of,
+  Seen,
+  AreItems,
+  Leads,
+  is_line,
+  last_item,
+  remaining,
+};
 ghost use Rattle.rtl_lex.specs.Place.{IsPlaceIn};
 ghost use Rattle.rtl_lex.specs.Tokens.{piece};
 

@@ -5,6 +5,7 @@ ghost use Rattle.std.specs.List.{prefix_len};
 ghost use Rattle.rtl_lex.specs.Bytes.{is_lower, is_digit, is_name, is_bit};
 ghost use Rattle.rtl_lex.specs.Gaps.{gap, in_gap, note_after};
 
+/// How many lower-case letters stand first.
 pub fn letters(bytes: &[u8]) -> usize
     ensures run { result ≡ prefix_len is_lower bytes.now }
     ensures within { result ≤ length bytes.now }
@@ -15,6 +16,7 @@ pub fn letters(bytes: &[u8]) -> usize
         .count()
 }
 
+/// How many digits stand first.
 pub fn digits(bytes: &[u8]) -> usize
     ensures run { result ≡ prefix_len is_digit bytes.now }
     ensures within { result ≤ length bytes.now }
@@ -25,6 +27,7 @@ pub fn digits(bytes: &[u8]) -> usize
         .count()
 }
 
+/// How many bytes of a name stand first: all above the blank.
 pub fn name_bytes(bytes: &[u8]) -> usize
     ensures run { result ≡ prefix_len is_name bytes.now }
     ensures within { result ≤ length bytes.now }
@@ -41,6 +44,7 @@ fn is_bit(byte: u8) -> bool
     }
 }
 
+/// How many characters of bits stand first.
 pub fn bits(bytes: &[u8]) -> usize
     ensures run { result ≡ prefix_len is_bit bytes.now }
     ensures within { result ≤ length bytes.now }

@@ -2,7 +2,15 @@
 
 ghost use Rattle.std.specs.Prelude.{◌≡◌};
 ghost use Rattle.std.specs.Str.{bytes_eq};
-ghost use Rattle.rtl_lex.specs.Sorts.{module_word, option_word, process_word, event_word, word_sort, mark_sort, sort_of};
+ghost use Rattle.rtl_lex.specs.Sorts.{
+  module_word,
+  option_word,
+  process_word,
+  event_word,
+  word_sort,
+  mark_sort,
+  sort_of,
+};
 
 use crate::token::TokenKind;
 

@@ -12,7 +12,7 @@ use Rattle.rtl_sig.specs.declared.sig.SigBit.{SigBit}
 use Rattle.rtl_sig.specs.declared.sig.SigBit.TheVariants.{Fixed}
 use Rattle.rtl_ir.specs.declared.value.Value.{Value}
 use Rattle.rtl_ir.specs.declared.value.Value.TheVariants as values
-use Rattle.rtl_read.specs.declared.limits.TheConstants.{MAX_WIDTH}
+use Rattle.rtl_ir.specs.declared.limits.TheConstants.{MAX_WIDTH}
 use Rattle.rtl_read.specs.declared.read_fault.ReadFault.{ReadFault}
 use Rattle.rtl_read.specs.declared.read_fault.ReadFault.TheVariants as faults
 use Rattle.rtl_grammar.specs.Uses.{◌>>=◌}

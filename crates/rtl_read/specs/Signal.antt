@@ -9,7 +9,7 @@ use Rattle.rtl_sig.specs.declared.sig.SigBit.{SigBit}
 use Rattle.rtl_sig.specs.declared.sig.SigBit.TheVariants as bits
 use Rattle.rtl_sig.specs.Names.{number_of}
 use Rattle.rtl_ir.specs.declared.wire.Wire.{Wire}
-use Rattle.rtl_read.specs.declared.limits.TheConstants.{MAX_BITS, MAX_DEPTH}
+use Rattle.rtl_ir.specs.declared.limits.TheConstants.{MAX_BITS, MAX_DEPTH}
 use Rattle.rtl_read.specs.declared.read_fault.ReadFault.{ReadFault}
 use Rattle.rtl_read.specs.declared.read_fault.ReadFault.TheVariants as faults
 use Rattle.rtl_read.specs.declared.signal.OpenSignal.{OpenSignal}

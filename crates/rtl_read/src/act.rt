@@ -27,7 +27,12 @@ use std::alloc::Global;
 
 impl Draft {
     /// What a token does that stands here. After a fault nothing is promised of the draft.
-    pub fn act(&mut self, alloc: Global, role: Expect, item: &Item<'_>) -> Result<(), ReadFault>
+    pub(crate) fn act(
+        &mut self,
+        alloc: Global,
+        role: Expect,
+        item: &Item<'_>,
+    ) -> Result<(), ReadFault>
         ensures { Sets result self.new (act role (as_seen item.now) self.old) }
     {
         match role {

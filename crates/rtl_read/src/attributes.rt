@@ -17,7 +17,7 @@ pub struct Attributes {
 }
 
 /// No attributes.
-pub fn no_attributes(alloc: Global) -> Attributes
+pub(crate) fn no_attributes(alloc: Global) -> Attributes
     ensures { result ≡ no_attributes }
 {
     Attributes {
@@ -41,7 +41,7 @@ fn put_at(at: usize, attribute: Attribute, items: Seq<Attribute>) -> Result<Seq<
 
 impl Attributes {
     /// Adds an attribute; a name that is there keeps its place, with the new value.
-    pub fn put(&mut self, alloc: Global, name: Text, value: Value) -> Result<(), Memory>
+    pub(crate) fn put(&mut self, alloc: Global, name: Text, value: Value) -> Result<(), Memory>
         ensures { OnOk result (self.new ≡ with_attribute name value self.old) }
     {
         let id = self.names.intern(name.as_slice())?;
@@ -51,7 +51,7 @@ impl Attributes {
     }
 
     /// Gives the attributes to their item; none are left.
-    pub fn take(&mut self, alloc: Global) -> Seq<Attribute>
+    pub(crate) fn take(&mut self, alloc: Global) -> Seq<Attribute>
         ensures items { result ≡ self.old.items }
         ensures none { self.new ≡ no_attributes }
     {

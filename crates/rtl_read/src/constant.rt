@@ -9,16 +9,16 @@ ghost use Rattle.rtl_sig.specs.declared.sig.SigBit.TheVariants.{Fixed};
 ghost use Rattle.rtl_read.specs.Constant.{integer, value, string, constant, low_bits, unsigned, constant_bits, fixed};
 ghost use Rattle.rtl_read.specs.Gives.{Gives};
 
-use crate::limits::MAX_WIDTH;
 use crate::read_fault::ReadFault;
 use rtl_bits::{Bit, Bits, Copied, Memory};
 use rtl_ir::Value;
+use rtl_ir::limits::MAX_WIDTH;
 use rtl_lex::{Item, Sort, bits_of, chars_of, is_signed, value_width};
 use rtl_sig::{SigBit, SigSpec};
 use std::alloc::Global;
 
 /// The integer of an item, where it is in range.
-pub fn integer(item: &Item<'_>) -> Result<i32, ReadFault>
+pub(crate) fn integer(item: &Item<'_>) -> Result<i32, ReadFault>
     ensures { Gives result (integer item.now.number (as_seen item.now)) }
 {
     match item.number {
@@ -52,7 +52,7 @@ fn string(alloc: Global, item: &Item<'_>) -> Result<Value, ReadFault>
 }
 
 /// The constant that an item writes.
-pub fn constant(alloc: Global, item: &Item<'_>) -> Result<Value, ReadFault>
+pub(crate) fn constant(alloc: Global, item: &Item<'_>) -> Result<Value, ReadFault>
     ensures { Gives result (constant item.now.sort (as_seen item.now)) }
 {
     match item.sort {
@@ -120,7 +120,7 @@ fn all_fixed(alloc: Global, bits: &[Bit]) -> Result<SigSpec, Memory>
 }
 
 /// A constant as a signal.
-pub fn fixed(alloc: Global, value: &Value) -> Result<SigSpec, Memory>
+pub(crate) fn fixed(alloc: Global, value: &Value) -> Result<SigSpec, Memory>
     ensures { IfOk result (λ sig. sig ≡ fixed value.now) }
 {
     let bits = constant_bits(alloc, value)?;

@@ -45,7 +45,7 @@ pub struct Draft {
 }
 
 /// Nothing read. It takes no memory.
-pub fn nothing(alloc: Global) -> Draft
+pub(crate) fn nothing(alloc: Global) -> Draft
     ensures { result ≡ nothing }
 {
     Draft {

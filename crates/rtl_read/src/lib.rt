@@ -6,7 +6,6 @@ mod attributes;
 mod constant;
 mod draft;
 mod laws;
-mod limits;
 mod open_cell;
 mod open_module;
 mod open_process;

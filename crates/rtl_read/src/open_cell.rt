@@ -3,7 +3,15 @@
 ghost use Rattle.std.specs.Prelude.{◌≡◌, OnOk};
 ghost use Rattle.rtl_lex.specs.Items.{as_seen};
 ghost use Rattle.rtl_read.specs.Gives.{Sets};
-ghost use Rattle.rtl_read.specs.Meaning.Cell.{plain_cell, with_kind, with_cell_name, with_param_name, with_pin_name, with_param, with_pin};
+ghost use Rattle.rtl_read.specs.Meaning.Cell.{
+  plain_cell,
+  with_kind,
+  with_cell_name,
+  with_param_name,
+  with_pin_name,
+  with_param,
+  with_pin,
+};
 
 use crate::read_fault::ReadFault;
 use crate::signal::find;
@@ -27,7 +35,7 @@ pub struct OpenCell {
 }
 
 /// A cell with these attributes, in which there is nothing yet.
-pub fn plain_cell(alloc: Global, attributes: Seq<Attribute>) -> OpenCell
+pub(crate) fn plain_cell(alloc: Global, attributes: Seq<Attribute>) -> OpenCell
     ensures { result ≡ plain_cell attributes }
 {
     OpenCell {
@@ -47,7 +55,7 @@ pub fn plain_cell(alloc: Global, attributes: Seq<Attribute>) -> OpenCell
 
 impl OpenCell {
     /// Its type.
-    pub fn set_kind(&mut self, alloc: Global, item: &Item<'_>) -> Result<(), Memory>
+    pub(crate) fn set_kind(&mut self, alloc: Global, item: &Item<'_>) -> Result<(), Memory>
         ensures { OnOk result (self.new ≡ with_kind (as_seen item.now) self.old) }
     {
         self.cell.kind_name = Text::from_slice(alloc, item.text)?;
@@ -55,7 +63,7 @@ impl OpenCell {
     }
 
     /// Its name.
-    pub fn set_name(&mut self, alloc: Global, item: &Item<'_>) -> Result<(), Memory>
+    pub(crate) fn set_name(&mut self, alloc: Global, item: &Item<'_>) -> Result<(), Memory>
         ensures { OnOk result (self.new ≡ with_cell_name (as_seen item.now) self.old) }
     {
         self.cell.name = Text::from_slice(alloc, item.text)?;
@@ -63,7 +71,7 @@ impl OpenCell {
     }
 
     /// The name of a parameter.
-    pub fn param_name(&mut self, alloc: Global, item: &Item<'_>) -> Result<(), ReadFault>
+    pub(crate) fn param_name(&mut self, alloc: Global, item: &Item<'_>) -> Result<(), ReadFault>
         ensures { Sets result self.new (with_param_name (as_seen item.now) self.old) }
     {
         if find(&self.params, item.text).is_some() {
@@ -75,7 +83,7 @@ impl OpenCell {
     }
 
     /// The name of a pin.
-    pub fn pin_name(&mut self, alloc: Global, item: &Item<'_>) -> Result<(), ReadFault>
+    pub(crate) fn pin_name(&mut self, alloc: Global, item: &Item<'_>) -> Result<(), ReadFault>
         ensures { Sets result self.new (with_pin_name (as_seen item.now) self.old) }
     {
         if find(&self.pins, item.text).is_some() {
@@ -87,7 +95,7 @@ impl OpenCell {
     }
 
     /// The value of the parameter whose name stands last.
-    pub fn add_param(&mut self, alloc: Global, value: Value) -> Result<(), Memory>
+    pub(crate) fn add_param(&mut self, alloc: Global, value: Value) -> Result<(), Memory>
         ensures { OnOk result (self.new ≡ with_param value self.old) }
     {
         let name = mem::replace(&mut self.name, Text::make(alloc));
@@ -100,7 +108,7 @@ impl OpenCell {
     }
 
     /// The signal of the pin whose name stands last.
-    pub fn add_pin(&mut self, alloc: Global, sig: SigSpec) -> Result<(), Memory>
+    pub(crate) fn add_pin(&mut self, alloc: Global, sig: SigSpec) -> Result<(), Memory>
         ensures { OnOk result (self.new ≡ with_pin sig self.old) }
     {
         let name = mem::replace(&mut self.name, Text::make(alloc));

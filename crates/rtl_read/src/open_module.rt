@@ -3,12 +3,22 @@
 ghost use Rattle.std.specs.Prelude.{◌≡◌, IfOk, OnOk, Ok};
 ghost use Rattle.rtl_lex.specs.Items.{as_seen};
 ghost use Rattle.rtl_read.specs.Gives.{Sets};
-ghost use Rattle.rtl_read.specs.Meaning.Module.{fresh_module, is_taken, with_item_name, with_wire, with_store, with_parameter, with_cell, with_process, with_link};
+ghost use Rattle.rtl_read.specs.Meaning.Module.{
+  fresh_module,
+  is_taken,
+  with_item_name,
+  with_wire,
+  with_store,
+  with_parameter,
+  with_cell,
+  with_process,
+  with_link,
+};
 
-use crate::limits::MAX_BITS;
 use crate::read_fault::ReadFault;
 use crate::signal::find;
 use rtl_bits::{Memory, Seq, Text};
+use rtl_ir::limits::MAX_BITS;
 use rtl_ir::{Attribute, Cell, Link, Module, Parameter, Process, Store, Value, Wire};
 use rtl_lex::Item;
 use rtl_sig::Names;
@@ -27,7 +37,7 @@ pub struct OpenModule {
 }
 
 /// A module of this name with these attributes, in which there is nothing yet.
-pub fn fresh_module(alloc: Global, id: Text, attributes: Seq<Attribute>) -> OpenModule
+pub(crate) fn fresh_module(alloc: Global, id: Text, attributes: Seq<Attribute>) -> OpenModule
     ensures { result ≡ fresh_module id attributes }
 {
     OpenModule {
@@ -56,7 +66,7 @@ impl OpenModule {
     }
 
     /// Takes the name of a memory, a cell or a process.
-    pub fn take_name(&mut self, item: &Item<'_>) -> Result<(), ReadFault>
+    pub(crate) fn take_name(&mut self, item: &Item<'_>) -> Result<(), ReadFault>
         ensures { Sets result self.new (with_item_name (as_seen item.now) self.old) }
     {
         if self.is_taken(item.text) {
@@ -67,7 +77,12 @@ impl OpenModule {
     }
 
     /// Adds a wire, by its name.
-    pub fn add_wire(&mut self, alloc: Global, item: &Item<'_>, wire: Wire) -> Result<(), ReadFault>
+    pub(crate) fn add_wire(
+        &mut self,
+        alloc: Global,
+        item: &Item<'_>,
+        wire: Wire,
+    ) -> Result<(), ReadFault>
         ensures { Sets result self.new (with_wire (as_seen item.now) wire self.old) }
     {
         if self.is_taken(item.text) {
@@ -86,7 +101,7 @@ impl OpenModule {
     }
 
     /// Adds a memory, by its name.
-    pub fn add_store(
+    pub(crate) fn add_store(
         &mut self,
         alloc: Global,
         item: &Item<'_>,
@@ -103,25 +118,25 @@ impl OpenModule {
         Ok(())
     }
 
-    pub fn add_parameter(&mut self, name: Text, value: Option<Value>) -> Result<(), Memory>
+    pub(crate) fn add_parameter(&mut self, name: Text, value: Option<Value>) -> Result<(), Memory>
         ensures { OnOk result (self.new ≡ with_parameter name value self.old) }
     {
         self.body.parameters.push(Parameter { name, value })
     }
 
-    pub fn add_cell(&mut self, cell: Cell) -> Result<(), Memory>
+    pub(crate) fn add_cell(&mut self, cell: Cell) -> Result<(), Memory>
         ensures { OnOk result (self.new ≡ with_cell cell self.old) }
     {
         self.body.cells.push(cell)
     }
 
-    pub fn add_process(&mut self, process: Process) -> Result<(), Memory>
+    pub(crate) fn add_process(&mut self, process: Process) -> Result<(), Memory>
         ensures { OnOk result (self.new ≡ with_process process self.old) }
     {
         self.body.processes.push(process)
     }
 
-    pub fn add_link(&mut self, link: Link) -> Result<(), Memory>
+    pub(crate) fn add_link(&mut self, link: Link) -> Result<(), Memory>
         ensures { OnOk result (self.new ≡ with_link link self.old) }
     {
         self.body.links.push(link)

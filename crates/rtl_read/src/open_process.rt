@@ -2,7 +2,24 @@
 
 ghost use Rattle.std.specs.Prelude.{◌≡◌, [], OnOk};
 ghost use Rattle.rtl_lex.specs.Items.{as_seen};
-ghost use Rattle.rtl_read.specs.Meaning.Process.{event_of, event_with, plain_rule, plain_write, plain_process, with_process_name, open_rule, with_event, close_rule, with_update, open_write, with_memory, with_address, with_value, close_write, process_of};
+ghost use Rattle.rtl_read.specs.Meaning.Process.{
+  event_of,
+  event_with,
+  plain_rule,
+  plain_write,
+  plain_process,
+  with_process_name,
+  open_rule,
+  with_event,
+  close_rule,
+  with_update,
+  open_write,
+  with_memory,
+  with_address,
+  with_value,
+  close_write,
+  process_of,
+};
 
 use crate::tree::{OpenTree, case_of, plain_tree};
 use rtl_bits::{Memory, Seq, Text};
@@ -80,7 +97,7 @@ fn plain_write(alloc: Global, attributes: Seq<Attribute>) -> WriteLine
 }
 
 /// A process with these attributes, in which there is nothing yet.
-pub fn plain_process(alloc: Global, attributes: Seq<Attribute>) -> OpenProcess
+pub(crate) fn plain_process(alloc: Global, attributes: Seq<Attribute>) -> OpenProcess
     ensures { result ≡ plain_process attributes }
 {
     OpenProcess {
@@ -94,7 +111,7 @@ pub fn plain_process(alloc: Global, attributes: Seq<Attribute>) -> OpenProcess
 }
 
 /// A process that is whole.
-pub fn process_of(process: OpenProcess) -> Process
+pub(crate) fn process_of(process: OpenProcess) -> Process
     ensures { result ≡ process_of process }
 {
     let OpenProcess {
@@ -115,7 +132,7 @@ pub fn process_of(process: OpenProcess) -> Process
 
 impl OpenProcess {
     /// Its name.
-    pub fn set_name(&mut self, alloc: Global, item: &Item<'_>) -> Result<(), Memory>
+    pub(crate) fn set_name(&mut self, alloc: Global, item: &Item<'_>) -> Result<(), Memory>
         ensures { OnOk result (self.new ≡ with_process_name (as_seen item.now) self.old) }
     {
         self.name = Text::from_slice(alloc, item.text)?;
@@ -123,14 +140,14 @@ impl OpenProcess {
     }
 
     /// A rule begins.
-    pub fn open_rule(&mut self, alloc: Global, sort: Sort)
+    pub(crate) fn open_rule(&mut self, alloc: Global, sort: Sort)
         ensures { self.new ≡ open_rule sort self.old }
     {
         self.rule = plain_rule(alloc, event_of(alloc, sort));
     }
 
     /// The rule has its signal.
-    pub fn set_event(&mut self, signal: SigSpec)
+    pub(crate) fn set_event(&mut self, signal: SigSpec)
         ensures { self.new ≡ with_event signal self.old }
     {
         let event = mem::replace(&mut self.rule.event, Event::Always);
@@ -138,28 +155,28 @@ impl OpenProcess {
     }
 
     /// The rule is whole.
-    pub fn close_rule(&mut self, alloc: Global) -> Result<(), Memory>
+    pub(crate) fn close_rule(&mut self, alloc: Global) -> Result<(), Memory>
         ensures { OnOk result (self.new ≡ close_rule self.old) }
     {
         let rule = mem::replace(&mut self.rule, plain_rule(alloc, Event::Always));
         self.syncs.push(rule)
     }
 
-    pub fn add_update(&mut self, link: Link) -> Result<(), Memory>
+    pub(crate) fn add_update(&mut self, link: Link) -> Result<(), Memory>
         ensures { OnOk result (self.new ≡ with_update link self.old) }
     {
         self.rule.updates.push(link)
     }
 
     /// A `memwr` line begins.
-    pub fn open_write(&mut self, alloc: Global, attributes: Seq<Attribute>)
+    pub(crate) fn open_write(&mut self, alloc: Global, attributes: Seq<Attribute>)
         ensures { self.new ≡ open_write attributes self.old }
     {
         self.write = plain_write(alloc, attributes);
     }
 
     /// It has its memory.
-    pub fn set_memory(&mut self, alloc: Global, item: &Item<'_>) -> Result<(), Memory>
+    pub(crate) fn set_memory(&mut self, alloc: Global, item: &Item<'_>) -> Result<(), Memory>
         ensures { OnOk result (self.new ≡ with_memory (as_seen item.now) self.old) }
     {
         self.write.memory = Text::from_slice(alloc, item.text)?;
@@ -167,21 +184,26 @@ impl OpenProcess {
     }
 
     /// It has its address.
-    pub fn set_address(&mut self, signal: SigSpec)
+    pub(crate) fn set_address(&mut self, signal: SigSpec)
         ensures { self.new ≡ with_address signal self.old }
     {
         self.write.address = signal;
     }
 
     /// It has its value.
-    pub fn set_value(&mut self, signal: SigSpec)
+    pub(crate) fn set_value(&mut self, signal: SigSpec)
         ensures { self.new ≡ with_value signal self.old }
     {
         self.write.value = signal;
     }
 
     /// It has its enable and its mask, with which it is whole.
-    pub fn close_write(&mut self, alloc: Global, enable: SigSpec, mask: Value) -> Result<(), Memory>
+    pub(crate) fn close_write(
+        &mut self,
+        alloc: Global,
+        enable: SigSpec,
+        mask: Value,
+    ) -> Result<(), Memory>
         ensures { OnOk result (self.new ≡ close_write enable mask self.old) }
     {
         let write = plain_write(alloc, Seq::make(alloc));

@@ -3,12 +3,24 @@
 ghost use Rattle.std.specs.Prelude.{◌≡◌};
 ghost use Rattle.rtl_lex.specs.Items.{as_seen};
 ghost use Rattle.rtl_read.specs.Gives.{Gives, Sets};
-ghost use Rattle.rtl_read.specs.Meaning.Wire.{some_width, within_limit, plain_wire, plain_store, with_option, with_width, with_offset, with_number, store_width, store_size, store_offset};
+ghost use Rattle.rtl_read.specs.Meaning.Wire.{
+  some_width,
+  within_limit,
+  plain_wire,
+  plain_store,
+  with_option,
+  with_width,
+  with_offset,
+  with_number,
+  store_width,
+  store_size,
+  store_offset,
+};
 
 use crate::constant::integer;
-use crate::limits::MAX_WIDTH;
 use crate::read_fault::ReadFault;
 use rtl_bits::{Seq, Text};
+use rtl_ir::limits::MAX_WIDTH;
 use rtl_ir::{Attribute, Role, Store, Wire};
 use rtl_lex::{Item, Sort};
 use std::alloc::Global;
@@ -24,7 +36,7 @@ fn some_width(item: &Item<'_>) -> Result<u32, ReadFault>
 }
 
 /// A wire without options.
-pub fn plain_wire(alloc: Global, attributes: Seq<Attribute>) -> Wire
+pub(crate) fn plain_wire(alloc: Global, attributes: Seq<Attribute>) -> Wire
     ensures { result ≡ plain_wire attributes }
 {
     Wire {
@@ -40,7 +52,7 @@ pub fn plain_wire(alloc: Global, attributes: Seq<Attribute>) -> Wire
 }
 
 /// A memory without options.
-pub fn plain_store(alloc: Global, attributes: Seq<Attribute>) -> Store
+pub(crate) fn plain_store(alloc: Global, attributes: Seq<Attribute>) -> Store
     ensures { result ≡ plain_store attributes }
 {
     Store {
@@ -53,7 +65,7 @@ pub fn plain_store(alloc: Global, attributes: Seq<Attribute>) -> Store
 }
 
 /// The word of an option of a wire.
-pub fn set_option(wire: &mut Wire, sort: Sort)
+pub(crate) fn set_option(wire: &mut Wire, sort: Sort)
     ensures { wire.new ≡ with_option sort wire.old }
 {
     match sort {
@@ -67,7 +79,7 @@ pub fn set_option(wire: &mut Wire, sort: Sort)
 }
 
 /// The number of `width` of a wire.
-pub fn set_width(wire: &mut Wire, item: &Item<'_>) -> Result<(), ReadFault>
+pub(crate) fn set_width(wire: &mut Wire, item: &Item<'_>) -> Result<(), ReadFault>
     ensures { Sets result wire.new (with_width (as_seen item.now) wire.old) }
 {
     match some_width(item) {
@@ -81,7 +93,7 @@ pub fn set_width(wire: &mut Wire, item: &Item<'_>) -> Result<(), ReadFault>
 }
 
 /// The number of `offset` of a wire.
-pub fn set_offset(wire: &mut Wire, item: &Item<'_>) -> Result<(), ReadFault>
+pub(crate) fn set_offset(wire: &mut Wire, item: &Item<'_>) -> Result<(), ReadFault>
     ensures { Sets result wire.new (with_offset (as_seen item.now) wire.old) }
 {
     match integer(item) {
@@ -94,7 +106,7 @@ pub fn set_offset(wire: &mut Wire, item: &Item<'_>) -> Result<(), ReadFault>
 }
 
 /// The number of a port.
-pub fn set_number(wire: &mut Wire, item: &Item<'_>) -> Result<(), ReadFault>
+pub(crate) fn set_number(wire: &mut Wire, item: &Item<'_>) -> Result<(), ReadFault>
     ensures { Sets result wire.new (with_number (as_seen item.now) wire.old) }
 {
     match integer(item) {
@@ -107,7 +119,7 @@ pub fn set_number(wire: &mut Wire, item: &Item<'_>) -> Result<(), ReadFault>
 }
 
 /// The number of `width` of a memory.
-pub fn set_store_width(store: &mut Store, item: &Item<'_>) -> Result<(), ReadFault>
+pub(crate) fn set_store_width(store: &mut Store, item: &Item<'_>) -> Result<(), ReadFault>
     ensures { Sets result store.new (store_width (as_seen item.now) store.old) }
 {
     match some_width(item) {
@@ -120,7 +132,7 @@ pub fn set_store_width(store: &mut Store, item: &Item<'_>) -> Result<(), ReadFau
 }
 
 /// The number of `size` of a memory.
-pub fn set_store_size(store: &mut Store, item: &Item<'_>) -> Result<(), ReadFault>
+pub(crate) fn set_store_size(store: &mut Store, item: &Item<'_>) -> Result<(), ReadFault>
     ensures { Sets result store.new (store_size (as_seen item.now) store.old) }
 {
     match integer(item) {
@@ -133,7 +145,7 @@ pub fn set_store_size(store: &mut Store, item: &Item<'_>) -> Result<(), ReadFaul
 }
 
 /// The number of `offset` of a memory.
-pub fn set_store_offset(store: &mut Store, item: &Item<'_>) -> Result<(), ReadFault>
+pub(crate) fn set_store_offset(store: &mut Store, item: &Item<'_>) -> Result<(), ReadFault>
     ensures { Sets result store.new (store_offset (as_seen item.now) store.old) }
 {
     match integer(item) {

@@ -82,7 +82,7 @@ fn range_between(wire: u32, from: u32, to: u32, low: usize, high: usize) -> Part
 
 impl Part {
     /// The bits of a signal.
-    pub fn of(sig: SigSpec) -> Part
+    pub(crate) fn of(sig: SigSpec) -> Part
         ensures { result ≡ sig }
     {
         Part {
@@ -92,7 +92,7 @@ impl Part {
 
     /// All bits of a wire of this width.
     #[tactic(auto, using(crate::proofs::Parts::whole_wire))]
-    pub fn whole(wire: u32, width: u32) -> Part
+    pub(crate) fn whole(wire: u32, width: u32) -> Part
         ensures { result ≡ wire_bits wire width }
     {
         Part {
@@ -106,7 +106,7 @@ impl Part {
 
     /// How many bits there are.
     #[tactic(auto, using(crate::proofs::Parts::range_length))]
-    pub fn len(&self) -> usize
+    pub(crate) fn len(&self) -> usize
         ensures { result ≡ length self.now }
     {
         match &self.piece {
@@ -117,7 +117,7 @@ impl Part {
 
     /// The bits from place `low` up to place `high`.
     #[tactic(auto, using(crate::proofs::Parts::range_length))]
-    pub fn between(&self, alloc: Global, low: usize, high: usize) -> Result<Part, Memory>
+    pub(crate) fn between(&self, alloc: Global, low: usize, high: usize) -> Result<Part, Memory>
         requires order { low ≤ high }
         requires within { high < length self.now }
         ensures { IfOk result (λ part. part ≡ take (high + 1 - low) (drop low self.now)) }
@@ -132,7 +132,7 @@ impl Part {
     }
 
     /// The bits as a signal.
-    pub fn into_sig(self, alloc: Global) -> Result<SigSpec, Memory>
+    pub(crate) fn into_sig(self, alloc: Global) -> Result<SigSpec, Memory>
         ensures { IfOk result (λ sig. sig ≡ self) }
     {
         match self.piece {
@@ -142,7 +142,7 @@ impl Part {
     }
 
     /// The bits go on top, the lowest last.
-    pub fn cover(&self, brace: &mut Stack<SigBit>) -> Result<(), Memory>
+    pub(crate) fn cover(&self, brace: &mut Stack<SigBit>) -> Result<(), Memory>
         ensures { OnOk result (brace.new ≡ self.now ++ brace.old) }
     {
         match &self.piece {

@@ -99,7 +99,8 @@ impl Reader {
     /// The design that all items of the text give.
     #[tactic(auto, using(crate::proofs::Faults::fails_on))]
     fn design(&mut self, alloc: Global, text: &[u8]) -> Result<Design, ReadFault>
-        ensures { (items : List Seen) → AreItemsOf text.now items → Gives result (design_read (reading items self.old.expected self.old.draft)) }
+        ensures { (items : List Seen) → AreItemsOf text.now items →
+            Gives result (design_read (reading items self.old.expected self.old.draft)) }
     {
         match self.take_all(alloc, text) {
             Ok(()) => self.finish(alloc),
@@ -110,7 +111,8 @@ impl Reader {
 
 /// What all items of the text give.
 fn read_all(alloc: Global, text: &[u8]) -> Result<Design, ReadFault>
-    ensures { (items : List Seen) → AreItemsOf text.now items → Gives result (design_read (reading items (Start ∷ []) nothing)) }
+    ensures { (items : List Seen) → AreItemsOf text.now items →
+        Gives result (design_read (reading items (Start ∷ []) nothing)) }
 {
     let mut reader = Reader::make(alloc)?;
     reader.design(alloc, text)

@@ -3,16 +3,32 @@
 ghost use Rattle.std.specs.Prelude.{◌≡◌, ◌<◌, ◌≤◌, ◌+◌, ◌++◌, List, length, IfOk, take, drop, ◌-◌};
 ghost use Rattle.rtl_lex.specs.Items.{as_seen};
 ghost use Rattle.rtl_sig.specs.Names.{number_of};
-ghost use Rattle.rtl_read.specs.Signal.{no_signal, width_at, wire_signal, plain_signal, begin, close_brace, inside, put_below, open_index, behind_inside, set_high, set_low, slice, behind_index, some_bits};
+ghost use Rattle.rtl_read.specs.Signal.{
+  no_signal,
+  width_at,
+  wire_signal,
+  plain_signal,
+  begin,
+  close_brace,
+  inside,
+  put_below,
+  open_index,
+  behind_inside,
+  set_high,
+  set_low,
+  slice,
+  behind_index,
+  some_bits,
+};
 ghost use Rattle.rtl_read.specs.Gives.{Gives, Sets};
 
 use crate::constant::{constant, fixed, integer};
-use crate::limits::{MAX_BITS, MAX_DEPTH};
 use crate::part::Part;
 use crate::read_fault::ReadFault;
 use crate::stack::Stack;
 use rtl_bits::Memory;
 use rtl_ir::Wire;
+use rtl_ir::limits::{MAX_BITS, MAX_DEPTH};
 use rtl_lex::{Item, Place, Sort};
 use rtl_sig::{Names, SigBit, SigSpec};
 use std::alloc::Global;
@@ -32,7 +48,7 @@ pub struct OpenSignal {
 }
 
 /// The signal in which nothing was read.
-pub fn no_signal(alloc: Global) -> OpenSignal
+pub(crate) fn no_signal(alloc: Global) -> OpenSignal
     ensures { result ≡ no_signal }
 {
     OpenSignal {
@@ -46,7 +62,7 @@ pub fn no_signal(alloc: Global) -> OpenSignal
 }
 
 /// The number of the name, where it was seen.
-pub fn find(names: &Names, text: &[u8]) -> Option<usize>
+pub(crate) fn find(names: &Names, text: &[u8]) -> Option<usize>
     ensures { result ≡ number_of names.now text.now }
 {
     match names.find(text) {
@@ -96,7 +112,7 @@ fn plain_signal(
 }
 
 /// The bits of a signal that may not be empty.
-pub fn some_bits(part: SigSpec, item: &Item<'_>) -> Result<SigSpec, ReadFault>
+pub(crate) fn some_bits(part: SigSpec, item: &Item<'_>) -> Result<SigSpec, ReadFault>
     ensures { Gives result (some_bits part (as_seen item.now)) }
 {
     if part.as_slice().is_empty() {
@@ -107,7 +123,7 @@ pub fn some_bits(part: SigSpec, item: &Item<'_>) -> Result<SigSpec, ReadFault>
 
 impl OpenSignal {
     /// A signal begins.
-    pub fn begin(
+    pub(crate) fn begin(
         &mut self,
         alloc: Global,
         wires: &[Wire],
@@ -144,7 +160,7 @@ impl OpenSignal {
     }
 
     /// A token behind an opening brace.
-    pub fn inside(
+    pub(crate) fn inside(
         &mut self,
         alloc: Global,
         wires: &[Wire],
@@ -177,7 +193,7 @@ impl OpenSignal {
     }
 
     /// A bracket opens behind the part.
-    pub fn open_index(&mut self, item: &Item<'_>)
+    pub(crate) fn open_index(&mut self, item: &Item<'_>)
         ensures { self.new ≡ open_index (as_seen item.now) self.old }
     {
         self.bracket = item.place;
@@ -185,7 +201,7 @@ impl OpenSignal {
 
     /// A token behind a signal in braces.
     #[tactic(auto, using(crate::proofs::Faults::fails_on, crate::proofs::Faults::goes_on))]
-    pub fn behind_inside(
+    pub(crate) fn behind_inside(
         &mut self,
         alloc: Global,
         wires: &[Wire],
@@ -205,7 +221,7 @@ impl OpenSignal {
     }
 
     /// The first number in brackets.
-    pub fn set_high(&mut self, item: &Item<'_>) -> Result<(), ReadFault>
+    pub(crate) fn set_high(&mut self, item: &Item<'_>) -> Result<(), ReadFault>
         ensures { Sets result self.new (set_high (as_seen item.now) self.old) }
     {
         match integer(item) {
@@ -218,7 +234,7 @@ impl OpenSignal {
     }
 
     /// The second number in brackets.
-    pub fn set_low(&mut self, item: &Item<'_>) -> Result<(), ReadFault>
+    pub(crate) fn set_low(&mut self, item: &Item<'_>) -> Result<(), ReadFault>
         ensures { Sets result self.new (set_low (as_seen item.now) self.old) }
     {
         match integer(item) {
@@ -231,7 +247,7 @@ impl OpenSignal {
     }
 
     /// The bits from one number up to another.
-    pub fn slice(
+    pub(crate) fn slice(
         &mut self,
         alloc: Global,
         low: i32,
@@ -252,7 +268,7 @@ impl OpenSignal {
     }
 
     /// A token behind the first number in brackets.
-    pub fn behind_index(&mut self, alloc: Global, item: &Item<'_>) -> Result<(), ReadFault>
+    pub(crate) fn behind_index(&mut self, alloc: Global, item: &Item<'_>) -> Result<(), ReadFault>
         ensures { Sets result self.new (behind_index item.now.sort (as_seen item.now) self.old) }
     {
         if item.sort == Sort::CloseIndex {

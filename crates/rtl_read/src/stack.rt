@@ -22,7 +22,7 @@ impl<T> Model for Stack<T> {
 
 impl<T> Stack<T> {
     /// The empty stack. It takes no memory.
-    pub fn make(alloc: Global) -> Stack<T>
+    pub(crate) fn make(alloc: Global) -> Stack<T>
         ensures value { result ≡ [] }
     {
         Stack {
@@ -31,7 +31,7 @@ impl<T> Stack<T> {
     }
 
     /// How many items there are.
-    pub fn depth(&self) -> usize
+    pub(crate) fn depth(&self) -> usize
         ensures value { result ≡ length self.now }
     {
         self.items.len()
@@ -39,7 +39,7 @@ impl<T> Stack<T> {
 
     /// Puts an item on top.
     #[tactic(auto, using(crate::proofs::Stacks::reverse_last))]
-    pub fn push(&mut self, item: T) -> Result<(), Memory>
+    pub(crate) fn push(&mut self, item: T) -> Result<(), Memory>
     where
         T: Drop,
         ensures ok { OnOk result (self.new ≡ item ∷ self.old) }
@@ -50,14 +50,14 @@ impl<T> Stack<T> {
 
     /// Takes the top off, if there is one.
     #[tactic(auto, using(crate::proofs::Stacks::reverse_last, crate::proofs::Stacks::none_left))]
-    pub fn pop(&mut self) -> Option<T>
+    pub(crate) fn pop(&mut self) -> Option<T>
         ensures value { MatchOption result ((self.old ≡ []) × (self.new ≡ [])) (λ top. self.old ≡ top ∷ self.new) }
     {
         self.items.pop()
     }
 
     /// The items from the top down, without taking memory.
-    pub fn into_vec(self) -> Vec<T>
+    pub(crate) fn into_vec(self) -> Vec<T>
         ensures value { result.items ≡ self }
     {
         let Stack { mut items } = self;
@@ -69,7 +69,7 @@ impl<T> Stack<T> {
 impl<T: Copy + Drop> Stack<T> {
     /// Puts these items on top, the first of them last.
     #[tactic(auto, using(crate::proofs::Stacks::drop_here))]
-    pub fn cover(&mut self, items: &[T]) -> Result<(), Memory>
+    pub(crate) fn cover(&mut self, items: &[T]) -> Result<(), Memory>
         ensures ok { OnOk result (self.new ≡ items.now ++ self.old) }
     {
         for at in (0..items.len()).rev() {
@@ -80,7 +80,7 @@ impl<T: Copy + Drop> Stack<T> {
 
     /// Puts these items on top, one after another.
     #[tactic(auto, using(crate::proofs::Stacks::reverse_both))]
-    pub fn raise(&mut self, items: &[T]) -> Result<(), Memory>
+    pub(crate) fn raise(&mut self, items: &[T]) -> Result<(), Memory>
         ensures ok { OnOk result (self.new ≡ reverse items.now ++ self.old) }
     {
         self.items.extend_from_slice(items)?;

@@ -3,12 +3,24 @@
 ghost use Rattle.std.specs.Prelude.{◌≡◌, [], OnOk};
 ghost use Rattle.rtl_lex.specs.Items.{as_seen};
 ghost use Rattle.rtl_read.specs.Gives.{Sets};
-ghost use Rattle.rtl_read.specs.Meaning.Tree.{plain_case, plain_tree, case_of, switch_of, deeper, enter_switch, open_case, close_case, close_switch, with_pattern, with_assign};
+ghost use Rattle.rtl_read.specs.Meaning.Tree.{
+  plain_case,
+  plain_tree,
+  case_of,
+  switch_of,
+  deeper,
+  enter_switch,
+  open_case,
+  close_case,
+  close_switch,
+  with_pattern,
+  with_assign,
+};
 
-use crate::limits::MAX_DEPTH;
 use crate::read_fault::ReadFault;
 use crate::stack::Stack;
 use rtl_bits::{Memory, Seq};
+use rtl_ir::limits::MAX_DEPTH;
 use rtl_ir::{Attribute, Case, Link, Switch};
 use rtl_lex::Item;
 use rtl_sig::SigSpec;
@@ -56,7 +68,7 @@ fn plain_case(alloc: Global, attributes: Seq<Attribute>) -> OpenCase
 }
 
 /// A tree of one case in which there is nothing yet.
-pub fn plain_tree(alloc: Global) -> OpenTree
+pub(crate) fn plain_tree(alloc: Global) -> OpenTree
     ensures { result ≡ plain_tree }
 {
     OpenTree {
@@ -67,7 +79,7 @@ pub fn plain_tree(alloc: Global) -> OpenTree
 }
 
 /// A case that is whole.
-pub fn case_of(case: OpenCase) -> Case
+pub(crate) fn case_of(case: OpenCase) -> Case
     ensures { result ≡ case_of case }
 {
     let OpenCase {
@@ -86,7 +98,11 @@ pub fn case_of(case: OpenCase) -> Case
 
 impl OpenTree {
     /// The word `switch`, with the attributes of the switch.
-    pub fn deeper(&mut self, item: &Item<'_>, attributes: Seq<Attribute>) -> Result<(), ReadFault>
+    pub(crate) fn deeper(
+        &mut self,
+        item: &Item<'_>,
+        attributes: Seq<Attribute>,
+    ) -> Result<(), ReadFault>
         ensures { Sets result self.new (deeper (as_seen item.now) attributes self.old) }
     {
         if self.outer.depth() >= MAX_DEPTH {
@@ -97,7 +113,7 @@ impl OpenTree {
     }
 
     /// The innermost case so far; an empty one takes its place.
-    pub fn take_case(&mut self, alloc: Global) -> OpenCase
+    pub(crate) fn take_case(&mut self, alloc: Global) -> OpenCase
         ensures case { result ≡ self.old.case }
         ensures left { self.new ≡ open_case [] self.old }
     {
@@ -105,7 +121,7 @@ impl OpenTree {
     }
 
     /// The end of the line of a switch with this signal.
-    pub fn enter_switch(&mut self, alloc: Global, signal: SigSpec) -> Result<(), Memory>
+    pub(crate) fn enter_switch(&mut self, alloc: Global, signal: SigSpec) -> Result<(), Memory>
         ensures { OnOk result (self.new ≡ enter_switch signal self.old) }
     {
         let case = self.take_case(alloc);
@@ -119,14 +135,14 @@ impl OpenTree {
     }
 
     /// A case begins.
-    pub fn open_case(&mut self, alloc: Global, attributes: Seq<Attribute>)
+    pub(crate) fn open_case(&mut self, alloc: Global, attributes: Seq<Attribute>)
         ensures { self.new ≡ open_case attributes self.old }
     {
         self.case = plain_case(alloc, attributes);
     }
 
     /// The open case is whole.
-    pub fn close_case(&mut self, alloc: Global) -> Result<(), Memory>
+    pub(crate) fn close_case(&mut self, alloc: Global) -> Result<(), Memory>
         ensures { OnOk result (self.new ≡ close_case self.old) }
     {
         let case = case_of(self.take_case(alloc));
@@ -138,7 +154,7 @@ impl OpenTree {
     }
 
     /// The innermost switch is whole.
-    pub fn close_switch(&mut self) -> Result<(), Memory>
+    pub(crate) fn close_switch(&mut self) -> Result<(), Memory>
         ensures { OnOk result (self.new ≡ close_switch self.old) }
     {
         if let Some(switch) = self.outer.pop() {
@@ -158,13 +174,13 @@ impl OpenTree {
         Ok(())
     }
 
-    pub fn add_pattern(&mut self, pattern: SigSpec) -> Result<(), Memory>
+    pub(crate) fn add_pattern(&mut self, pattern: SigSpec) -> Result<(), Memory>
         ensures { OnOk result (self.new ≡ with_pattern pattern self.old) }
     {
         self.case.patterns.push(pattern)
     }
 
-    pub fn add_assign(&mut self, link: Link) -> Result<(), Memory>
+    pub(crate) fn add_assign(&mut self, link: Link) -> Result<(), Memory>
         ensures { OnOk result (self.new ≡ with_assign link self.old) }
     {
         self.case.assigns.push(link)

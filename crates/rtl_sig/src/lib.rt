@@ -7,4 +7,4 @@ mod sig;
 
 pub use fault::SigFault;
 pub use names::{NameId, Names};
-pub use sig::{SigBit, SigSpec, WireBit};
+pub use sig::{SigBit, SigSpec, WireBit, extended, fill_of, fixed};

@@ -1,7 +1,26 @@
 //! Signals.
 
-ghost use Rattle.std.specs.Prelude.{◌≡◌, ◌<◌, ◌≤◌, ◌+◌, ◌↔◌, List, [], ◌∷◌, ◌++◌, IfOk, OnErr, OnOk, length, take, drop, Err};
-ghost use Rattle.rtl_sig.specs.Signal.{extended};
+ghost use Rattle.std.specs.Prelude.{
+  ◌≡◌,
+  ◌<◌,
+  ◌≤◌,
+  ◌+◌,
+  ◌↔◌,
+  List,
+  [],
+  ◌∷◌,
+  ◌++◌,
+  IfOk,
+  OnErr,
+  OnOk,
+  length,
+  map,
+  take,
+  drop,
+  Err,
+};
+ghost use Rattle.rtl_sig.specs.declared.sig.SigBit.TheVariants.{Fixed};
+ghost use Rattle.rtl_sig.specs.Signal.{extended, fill_of};
 
 use crate::fault::SigFault;
 use rtl_bits::{Bit, Copied, Memory, Seq};
@@ -156,13 +175,47 @@ impl SigSpec {
     pub fn extend(&self, width: u32, signed: bool) -> Result<SigSpec, Memory>
         ensures value { IfOk result (λ sig. sig ≡ extended self.now width signed) }
     {
-        let bits = self.bits.as_slice();
-        let fill = match bits.last() {
-            Some(top) if signed => *top,
-            _ => SigBit::Fixed(Bit::S0),
-        };
-        let mut wide = Vec::from_slice(self.bits.allocator(), bits)?;
-        wide.resize(width as usize, fill)?;
-        Ok(SigSpec::from_vec(wide))
+        extended(
+            self.bits.allocator(),
+            self.as_slice(),
+            width as usize,
+            signed,
+        )
     }
+}
+
+/// The signal of these constants.
+pub fn fixed(alloc: Global, bits: &[Bit]) -> Result<SigSpec, Memory>
+    ensures value { IfOk result (λ sig. sig ≡ map Fixed bits.now) }
+{
+    let mut sig = Vec::with_capacity(alloc, bits.len())?;
+    for bit in bits {
+        sig.push(SigBit::Fixed(*bit))?;
+    }
+    Ok(SigSpec::from_vec(sig))
+}
+
+/// What fills a signal up: its top bit where it is signed, else 0.
+pub fn fill_of(bits: &[SigBit], signed: bool) -> SigBit
+    ensures value { result ≡ fill_of bits.now signed }
+{
+    match bits.last() {
+        Some(top) if signed => *top,
+        _ => SigBit::Fixed(Bit::S0),
+    }
+}
+
+/// A signal cut to a width, or filled up with its top bit where it is signed, else with zeros. A signal of no bits is
+/// filled with zeros.
+pub fn extended(
+    alloc: Global,
+    bits: &[SigBit],
+    width: usize,
+    signed: bool,
+) -> Result<SigSpec, Memory>
+    ensures value { IfOk result (λ sig. sig ≡ extended bits.now width signed) }
+{
+    let mut wide = Vec::from_slice(alloc, bits)?;
+    wide.resize(width, fill_of(bits, signed))?;
+    Ok(SigSpec::from_vec(wide))
 }

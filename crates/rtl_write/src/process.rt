@@ -3,7 +3,15 @@
 ghost use Rattle.std.specs.Prelude.{◌≡◌, ◌++◌, OnOk, IfOk};
 ghost use Rattle.std.specs.List.{flat_map};
 ghost use Rattle.rtl_write.specs.Signal.{signal_text};
-ghost use Rattle.rtl_write.specs.Text.{indent, event_text, update_text, write_signals, write_text, sync_text, process_text};
+ghost use Rattle.rtl_write.specs.Text.{
+  indent,
+  event_text,
+  update_text,
+  write_signals,
+  write_text,
+  sync_text,
+  process_text,
+};
 
 use crate::constant::put_value;
 use crate::signal::put_signal;

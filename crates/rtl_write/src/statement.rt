@@ -2,7 +2,27 @@
 
 ghost use Rattle.std.specs.Prelude.{◌≡◌, ◌++◌, OnOk, length, take};
 ghost use Rattle.std.specs.List.{flat_map};
-ghost use Rattle.rtl_write.specs.Text.{indent, attribute_text, attributes_text, parameter_text, width_option, size_option, offset_option, upto_option, signed_option, role_option, wire_options, wire_text, store_text, cell_param_head, cell_param_text, pin_head, pin_text, cell_text, link_text};
+ghost use Rattle.rtl_write.specs.Text.{
+  indent,
+  attribute_text,
+  attributes_text,
+  parameter_text,
+  width_option,
+  size_option,
+  offset_option,
+  upto_option,
+  signed_option,
+  role_option,
+  wire_options,
+  wire_text,
+  store_text,
+  cell_param_head,
+  cell_param_text,
+  pin_head,
+  pin_text,
+  cell_text,
+  link_text,
+};
 
 use crate::constant::{put_integer, put_number, put_value};
 use crate::signal::put_signal;

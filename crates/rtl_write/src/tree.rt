@@ -3,7 +3,15 @@
 ghost use Rattle.std.specs.Prelude.{◌≡◌, ◌++◌, OnOk, IfOk, codes};
 ghost use Rattle.std.specs.List.{flat_map};
 ghost use Rattle.rtl_write.specs.Signal.{signal_text};
-ghost use Rattle.rtl_write.specs.Text.{assign_text, patterns_text, case_head, switch_head, deeper, switches_text, cases_text};
+ghost use Rattle.rtl_write.specs.Text.{
+  assign_text,
+  patterns_text,
+  case_head,
+  switch_head,
+  deeper,
+  switches_text,
+  cases_text,
+};
 
 use crate::signal::put_signal;
 use crate::statement::put_attributes;
@@ -35,7 +43,8 @@ fn put_assigns(out: &mut Text, wires: &[Wire], blanks: &[u8], links: &[Link]) ->
 
 /// Writes the patterns that follow the first one.
 fn put_more_patterns(out: &mut Text, wires: &[Wire], patterns: &[SigSpec]) -> Result<(), Memory>
-    ensures ok { OnOk result (out.new ≡ out.old ++ flat_map (λ pattern. codes " , " ++ signal_text wires.now pattern) patterns.now) }
+    ensures ok { OnOk result (out.new ≡ out.old
+        ++ flat_map (λ pattern. codes " , " ++ signal_text wires.now pattern) patterns.now) }
 {
     for pattern in patterns {
         out.extend(b" , ")?;
@@ -60,7 +69,8 @@ fn put_patterns(out: &mut Text, wires: &[Wire], patterns: &[SigSpec]) -> Result<
 
 #[tactic(auto, unfolding(crate::specs::Text::case_head))]
 fn put_case_head(out: &mut Text, wires: &[Wire], blanks: &[u8], case: &Case) -> Result<(), Memory>
-    ensures ok { OnOk result (out.new ≡ out.old ++ case_head wires.now blanks.now case.now.patterns case.now.attributes) }
+    ensures ok { OnOk result (out.new ≡ out.old
+        ++ case_head wires.now blanks.now case.now.patterns case.now.attributes) }
 {
     put_attributes(out, blanks, case.attributes.as_slice())?;
     out.extend(blanks)?;
@@ -103,7 +113,9 @@ pub fn put_case_body(
     blanks: &[u8],
     case: &Case,
 ) -> Result<(), Memory>
-    ensures ok { OnOk result (out.new ≡ out.old ++ (flat_map (assign_text wires.now blanks.now) case.now.assigns ++ switches_text wires.now blanks.now case.now.switches)) }
+    ensures ok { OnOk result (out.new ≡ out.old
+        ++ (flat_map (assign_text wires.now blanks.now) case.now.assigns
+        ++ switches_text wires.now blanks.now case.now.switches)) }
 {
     put_assigns(out, wires, blanks, case.assigns.as_slice())?;
     for switch in &case.switches {
@@ -115,7 +127,9 @@ pub fn put_case_body(
 /// Writes a switch with its cases.
 #[cycle(tree)]
 fn put_switch(out: &mut Text, wires: &[Wire], blanks: &[u8], switch: &Switch) -> Result<(), Memory>
-    ensures ok { OnOk result (out.new ≡ out.old ++ (switch_head wires.now blanks.now switch.now.signal switch.now.attributes ++ cases_text wires.now (deeper blanks.now) switch.now.cases ++ blanks.now ++ codes "end\n")) }
+    ensures ok { OnOk result (out.new ≡ out.old
+        ++ (switch_head wires.now blanks.now switch.now.signal switch.now.attributes
+        ++ cases_text wires.now (deeper blanks.now) switch.now.cases ++ blanks.now ++ codes "end\n")) }
 {
     let alloc = out.allocator();
     put_switch_head(

@@ -2,7 +2,18 @@
 
 ghost use Rattle.std.specs.Prelude.{◌≡◌, ◌++◌, OnOk, IfOk};
 ghost use Rattle.std.specs.List.{flat_map};
-ghost use Rattle.rtl_write.specs.Text.{parameter_text, wire_text, store_text, cell_text, process_text, link_text, inner_text, module_text, body_text, text_of};
+ghost use Rattle.rtl_write.specs.Text.{
+  parameter_text,
+  wire_text,
+  store_text,
+  cell_text,
+  process_text,
+  link_text,
+  inner_text,
+  module_text,
+  body_text,
+  text_of,
+};
 
 use crate::process::put_process;
 use crate::statement::{put_attributes, put_cell, put_link, put_parameter, put_store, put_wire};

@@ -1,15 +1,6 @@
 //! The program: reads a design from standard input, and writes its netlist to standard output.
 #![tactic(auto)]
 
-mod cold;
-mod laws;
-mod over;
-mod program;
-mod reply;
-#[cfg(test)]
-mod tests;
-
-use program::{Status, run};
 use rtl_bits::Steps;
 use std::alloc::Global;
 use std::io::ErrorKind;
@@ -17,6 +8,7 @@ use std::process::ExitCode;
 use std::rt::Env;
 use std::{env, io};
 use synth_io::{StdSink, StdSource};
+pub use synth_run::{Mode, Status, run};
 
 /// The program's arguments without its own name. One that is no text has no meaning.
 fn words_of(rt: &(impl Env + AllocGlobal)) -> Result<Vec<String>, Status> {

@@ -19,7 +19,7 @@ use Rattle.rtl_ir.specs.declared.process.WriteLine.{WriteLine}
 use Rattle.rtl_ir.specs.Tree.{Switches, NoSwitch, OneSwitch, Cases, NoCase, OneCase}
 use Rattle.rtl_sig.specs.declared.sig.SigBit.{SigBit}
 use Rattle.rtl_sig.specs.declared.sig.SigBit.TheVariants as sig
-use Rattle.rtl_trip.specs.Readable.{AreCases, AreSwitches, IsBitOf, IsCell, IsEvent, IsLink, IsPin, IsProcess, IsReadable, IsReadableModule, IsRule, IsSomeSignal, IsWrite}
+use Rattle.rtl_write.specs.Readable.{AreCases, AreSwitches, IsBitOf, IsCell, IsEvent, IsLink, IsPin, IsProcess, IsReadable, IsReadableModule, IsRule, IsSomeSignal, IsWrite}
 use Rattle.net_model.specs.Lists.{In}
 use Rattle.net_model.specs.Within.{BitIn, CasesIn, CellIn, Each, EventIn, IsWithin, LinkIn, ProcessIn, RuleIn, SigIn, SwitchesIn, WriteIn}
 use Rattle.proc_laws.specs.Ready as laws
@@ -28,7 +28,7 @@ use Rattle.check_laws.proofs.Readable.{sound}
 use Rattle.script_core.specs.Cold.{table_of}
 use Rattle.proc_laws.proofs.Taking.{accepted_faultless}
 use Rattle.script_core.specs.Fold.{MayStart}
-use Rattle.write_laws.specs.Lines.{WritesHaveBits}
+use Rattle.sync_laws.specs.Lines.{WritesHaveBits}
 use Rattle.rtl_ir.specs.Types.{table_ports}
 use Rattle.reset_laws.specs.Trees.{TreesHaveBits}
 use Rattle.rtl_ir.specs.Assigns.{case_assigns, cases_assigns, switches_assigns}

@@ -154,3 +154,6 @@ turn xs t y r u x is step road = YieldsList-turn road xs t y r u x is step
 
 pub end : {S A B : Type 0} {steps : S → Option A → S → Type 0} {v : A → B} {s : S} {all : List B} (xs : List A) (t : S) (y : Yields steps s xs t) → (r : Option A) (u : S) → r ≡ None → steps t r u → YieldsList steps v s all → length xs ≡ length all
 end xs t y r u is step road = (YieldsList-end road xs t y r u is step).1
+
+-- what a text is read as
+pub ruleset texts = (no_script, bad_script, good_script)

@@ -12,10 +12,10 @@ use Rattle.rtl_ir.specs.Flat.Place.{Frame}
 use Rattle.rtl_ir.specs.Flat.Tree.{design_ports}
 use Rattle.rtl_ir.specs.Flat.Tree.{table_ports as flat_ports}
 use Rattle.rtl_ir.specs.Ports.{instances_of, ports_by_module, port_table_of}
-use Rattle.rtl_trip.specs.Readable.{IsReadable, IsReadableModule}
-use Rattle.rtl_trip.specs.PortTables.{ArePorts}
-use Rattle.rtl_trip.proofs.BodyLaws.{readable_named, body_kept}
-use Rattle.rtl_trip.proofs.PortTableLemmas.{readable_table}
+use Rattle.rtl_write.specs.Readable.{IsReadable, IsReadableModule}
+use Rattle.rtl_write.specs.PortTables.{ArePorts}
+use Rattle.rtl_write.proofs.BodyLaws.{readable_named, body_kept}
+use Rattle.rtl_write.proofs.PortTableLemmas.{readable_table}
 use Rattle.rtl_write.specs.Text.{body_text}
 use Rattle.rtl_write.specs.Ports.{ports_text}
 use Rattle.net_model.specs.Lists.{In}
@@ -23,7 +23,7 @@ use Rattle.net_model.specs.Refine.{AgreeOn, Refines, RefinesIn, RefinesOver, Eac
 use Rattle.net_model.proofs.Composing.{each_refines}
 use Rattle.check_laws.proofs.Accepted.{accepted}
 use Rattle.check_laws.proofs.Readable.{sound}
-use Rattle.proc_laws.specs.Step.{IsStep}
+use Rattle.pass_laws.specs.Pass.{IsPass}
 use Rattle.script_core.specs.declared.outcome.Outcome.{Outcome}
 use Rattle.script_core.specs.declared.outcome.Outcome.TheVariants.{Done}
 use Rattle.script_core.specs.declared.word.Word.{Word}
@@ -33,7 +33,7 @@ use Rattle.script_core.specs.Fold.{fold_script, StartsWithProc}
 use Rattle.script_core.specs.Keys.{key_of}
 use Rattle.script_core.proofs.BuildLemmas.{readable_in}
 use Rattle.script_core.proofs.Given.{given_first}
-use Rattle.script_core.proofs.Stepping.{fold_step}
+use Rattle.script_core.proofs.Stepping.{fold_passes}
 use Rattle.script_core.proofs.Gating.{fold_gates}
 use Rattle.script_core.specs.Mapping.{maps_all}
 use Rattle.gate_laws.specs.Instances.{HaveSameInstances}
@@ -59,31 +59,31 @@ refines_over b c ports over agrees h = record {
 
 module _ (d : Design) (readable : IsReadable d) (none : check_faults d.modules ≡ []) (script : List Word) (stage : StartsWithProc script) where
   -- the module of a design under any name, and what the script makes of it
-  module_step : (m : Module) → In m d.modules → (name : List ℕ) (n : Module) → fold_script script (table_of d.modules m) (record m { id = name }) ≡ Done n → IsStep (table_of d.modules m) (record m { id = name }) n
-  module_step m i name n e =
-      fold_step script (table_of d.modules m) (record m { id = name }) n stage (given_first d readable none m i name) e
+  module_pass : (m : Module) → In m d.modules → (name : List ℕ) (n : Module) → fold_script script (table_of d.modules m) (record m { id = name }) ≡ Done n → IsPass (table_of d.modules m) (record m { id = name }) n
+  module_pass m i name n e =
+      fold_passes script (table_of d.modules m) (record m { id = name }) n stage (given_first d readable none m i name) e
 
   -- under its own name
-  own_step : (m : Module) → In m d.modules → (n : Module) → outcome_of script d.modules m ≡ Done n → IsStep (table_of d.modules m) m n
-  own_step m i n e =
-      module_step m i m.id n (fold_renamed m.id script (table_of d.modules m) (unnamed m) ∙ e)
+  own_pass : (m : Module) → In m d.modules → (n : Module) → outcome_of script d.modules m ≡ Done n → IsPass (table_of d.modules m) m n
+  own_pass m i n e =
+      module_pass m i m.id n (fold_renamed m.id script (table_of d.modules m) (unnamed m) ∙ e)
 
-  each_step : (bs cs : List Module) → ((b : Module) → In b bs → In b d.modules) → map (outcome_of script d.modules) bs ≡ map Done cs → EachRefines (design_ports d) bs cs
-  each_step [] [] h e = tt
-  each_step [] (c ∷ cs) h e = absurd cc
-  each_step (b ∷ bs) [] h e = absurd cc
-  each_step (b ∷ bs) (c ∷ cs) h e =
+  each_pass : (bs cs : List Module) → ((b : Module) → In b bs → In b d.modules) → map (outcome_of script d.modules) bs ≡ map Done cs → EachRefines (design_ports d) bs cs
+  each_pass [] [] h e = tt
+  each_pass [] (c ∷ cs) h e = absurd cc
+  each_pass (b ∷ bs) [] h e = absurd cc
+  each_pass (b ∷ bs) (c ∷ cs) h e =
       let first : outcome_of script d.modules b ≡ Done c = cc in
       let rest : map (outcome_of script d.modules) bs ≡ map Done cs = cc in
-      let step = own_step b (h b (inl refl)) c first in
+      let pass = own_pass b (h b (inl refl)) c first in
       let well = (accepted everything d (sound d readable) none).modules b (h b (inl refl)) in
       let ports : Ports = flat_ports (table_of d.modules b) in
       let same = agree d.modules b in
-      ((step.id, step.ports, well, step.driven (design_ports d) same well, refines_over b c ports (design_ports d) same step.refines), each_step bs cs (λ x i. h x (inr i)) rest)
+      ((pass.id, pass.ports, well, pass.driven (design_ports d) same well, refines_over b c ports (design_ports d) same pass.refines), each_pass bs cs (λ x i. h x (inr i)) rest)
 
   pub cold_refines : (n : Design) → IsNetlist (cold script d) n → Refines d n
   cold_refines n e =
-      each_refines d.modules n.modules (accepted everything d (sound d readable) none).ids (each_step d.modules n.modules (λ b i. i) e)
+      each_refines d.modules n.modules (accepted everything d (sound d readable) none).ids (each_pass d.modules n.modules (λ b i. i) e)
 
   -- nothing but gates and instances is left, where the script maps all
   own_gates : maps_all script ≡ true → (m : Module) → In m d.modules → (n : Module) → outcome_of script d.modules m ≡ Done n → HasGatesAlone n
@@ -98,10 +98,10 @@ module _ (d : Design) (readable : IsReadable d) (none : check_faults d.modules �
   each_gates all (b ∷ bs) (c ∷ cs) h e =
       let first : outcome_of script d.modules b ≡ Done c = cc in
       let rest : map (outcome_of script d.modules) bs ≡ map Done cs = cc in
-      let step = own_step b (h b (inl refl)) c first in
+      let pass = own_pass b (h b (inl refl)) c first in
       let gates = own_gates all b (h b (inl refl)) c first in
       let later = each_gates all bs cs (λ x i. h x (inr i)) rest in
-      ((step.id, step.instances, later.0), λ n i. ⊎_elim (λ same. subst HasGatesAlone (sym same) gates) (λ j. later.1 n j) i)
+      ((pass.id, pass.instances, later.0), λ n i. ⊎_elim (λ same. subst HasGatesAlone (sym same) gates) (λ j. later.1 n j) i)
 
   pub cold_gates : maps_all script ≡ true → (n : Design) → IsNetlist (cold script d) n → is_gate_netlist n ≡ true
   cold_gates all n e =
@@ -145,4 +145,4 @@ module _ (d : Design) (readable : IsReadable d) (at : ℕ) (m : Module) (here : 
   value_refines none stage after h name =
       let e : fold_script script (table_of d.modules m) (record m { id = name }) ≡ Done (record after { id = name }) =
       fold_renamed name script (table_of d.modules m) (unnamed m) ∙ ap (named name) (sym (value_is (Done after) h)) in
-      (module_step d readable none script stage m stands_in name (record after { id = name }) e).refines
+      (module_pass d readable none script stage m stands_in name (record after { id = name }) e).refines

@@ -24,3 +24,6 @@ six_words = record { first = refl; count = omega arith }
 
 pub is_script : IsScript (Proc ∷ Opt ∷ Fsm ∷ Opt ∷ Memory ∷ Opt ∷ Techmap ∷ Opt ∷ [])
 is_script = record { first = refl; count = omega arith }
+
+-- all of these
+pub ruleset scripts = (one_word, two_words, three_words, four_words, five_words, six_words, is_script)

@@ -1,7 +1,5 @@
 -- What the pass of each word keeps.
 use Rattle.std.proofs.Common.{◌≡◌, ◌⊎◌, ⊎_elim, ℕ, zero, suc, Bool, true, false, cond, Option, Some, None, List, [], ◌∷◌, inl, inr, refl, sym, ◌∙◌, ap, subst}
-use Rattle.rtl_ir.specs.Flat.Tree as flat
-use Rattle.rtl_ir.specs.Ports.{ports_of}
 use Rattle.rtl_ir.specs.Types.{Ports, table_ports}
 use Rattle.rtl_ir.specs.declared.module.Module.{Module}
 use Rattle.rtl_ir.specs.declared.ports.PortTable.{PortTable}
@@ -9,16 +7,16 @@ use Rattle.net_index.specs.Builder.{IsInLimits}
 use Rattle.rtl_ir.specs.declared.process.Process.{Process}
 use Rattle.rtl_ir.specs.declared.store.Store.{Store}
 use Rattle.net_model.specs.Lists.{Distinct}
-use Rattle.memory_laws.specs.Named.{HaveOwnNames}
+use Rattle.pass_laws.specs.OwnNames.{HaveOwnNames}
 use Rattle.fsm_steps.specs.Within.{fsm_within}
-use Rattle.fsm_steps.proofs.Giving.{fsm_passes, fsm_stores}
+use Rattle.fsm_steps.proofs.Giving.{fsm_gives}
 use Rattle.mem_steps.specs.Within.{memory_within}
-use Rattle.mem_steps.proofs.Giving.{memory_gives, memory_passes}
+use Rattle.mem_steps.proofs.Giving.{memory_gives}
 use Rattle.std.specs.Prelude.{map}
-use Rattle.proc_laws.specs.Step.{IsStep}
-use Rattle.proc_laws.proofs.Turns.{IsStep_refl, IsStep_trans}
+use Rattle.proc_laws.proofs.Turns.{step_passes}
 use Rattle.pass_laws.specs.Pass.{IsPass}
 use Rattle.pass_laws.proofs.Faultless.{plain}
+use Rattle.pass_laws.proofs.Passes.{IsPass_refl, IsPass_trans}
 use Rattle.opt_expr.specs.Sweep.{expr_of}
 use Rattle.opt_merge.specs.Merge.{drives_own, merge_of, merging_of, with_merging}
 use Rattle.opt_clean.specs.Clean.{clean_of, is_all_inside, reduced}
@@ -30,9 +28,9 @@ use Rattle.opt_merge.proofs.Refining.{merge_pass}
 use Rattle.opt_clean.proofs.Cleaning.{clean_pass}
 use Rattle.opt_rounds.proofs.Rounding.{opt_pass}
 use Rattle.tech_map.specs.Techmap.{beside, techmap_of}
-use Rattle.tech_map.proofs.Driving.{techmap_driven}
-use Rattle.tech_map.proofs.Forming.{takable, techmap_ready}
-use Rattle.tech_map.proofs.Standing.{swapped_children, swapped_is, swapped_ports, techmap_refines}
+use Rattle.tech_map.proofs.Forming.{takable}
+use Rattle.tech_map.proofs.Promised.{techmap_passes}
+use Rattle.tech_map.proofs.Standing.{swapped_is}
 use Rattle.script_core.specs.declared.outcome.Outcome.TheVariants.{Done}
 use Rattle.script_core.specs.declared.word.Word.{Word}
 use Rattle.script_core.specs.declared.word.Word.TheVariants.{Proc, OptExpr, OptMerge, OptClean, Opt, Fsm, Memory, Techmap}
@@ -43,9 +41,9 @@ use Rattle.proc_steps.specs.Steps.{proc_result, proc_within}
 use Rattle.proc_steps.proofs.Limits.{within_limits}
 use Rattle.proc_steps.proofs.Giving.{proc_gives, stays}
 
--- what the pass of a word gives: a step, a module that may be given on, and the same memories or none
+-- what the pass of a word gives: it is a pass, its module may be given on, and has the same memories or none
 pub record GoesOn (table : PortTable) (m n : Module) : Type 0 where
-  pub step : IsStep table m n
+  pub pass : IsPass table m n
   pub next : MayGoOn table n
   pub stores : (n.memories ≡ m.memories) ⊎ (n.memories ≡ [])
 
@@ -57,14 +55,10 @@ still_none table m n g e = ⊎_elim (λ same. same ∙ e) (λ none. none) g.stor
 same_names : (m n : Module) → n.memories ≡ m.memories → HaveOwnNames m → HaveOwnNames n
 same_names m n e named = subst (λ (ss : List Store). Distinct (map (λ (s : Store). s.name) ss)) (sym e) named
 
--- what a pass promises is what a step does
-as_step : (table : PortTable) (m n : Module) → IsPass table m n → IsStep table m n
-as_step table m n h = record { id = h.id; ports = h.ports; instances = h.instances; driven = h.driven; refines = h.refines }
-
 -- a pass that keeps the memories
 goes : (table : PortTable) (m n : Module) → MayGoOn table m → IsPass table m n → n.memories ≡ m.memories → GoesOn table m n
 goes table m n h pass e =
-    record { step = as_step table m n pass; next = record { ready = pass.ready h.ready; named = same_names m n e h.named }; stores = inl e }
+    record { pass = pass; next = record { ready = pass.ready h.ready; named = same_names m n e h.named }; stores = inl e }
 
 goes_to : (table : PortTable) (m k n : Module) → GoesOn table m k → Some k ≡ Some n → GoesOn table m n
 goes_to table m k n g e = let same : k ≡ n = cc in subst (GoesOn table m) same g
@@ -103,33 +97,27 @@ opt_stores ports m = rounds_stores ports 32 m
 -- `techmap` within the limits
 techmap_goes : (table : PortTable) (m : Module) → MayGoOn table m → IsInLimits (beside m) → GoesOn table m (techmap_of m)
 techmap_goes table m h limits =
-    let fine = takable (table_ports table.modules) m h.ready in
-    goes table m (techmap_of m) h
-    (record {
-      id = sym (ap (λ (n : Module). n.id) (swapped_is m fine));
-      ports = swapped_ports m fine ∙ sym (ap (λ (n : Module). ports_of n.wires) (swapped_is m fine));
-      instances = swapped_children m fine;
-      driven = λ over agree w. techmap_driven m fine limits.names over w;
-      ready = λ r. techmap_ready (table_ports table.modules) m r limits.names;
-      refines = techmap_refines m fine (flat.table_ports table);
-    })
-    (ap (λ (n : Module). n.memories) (swapped_is m fine))
+    goes table m (techmap_of m) h (techmap_passes table m h.ready limits)
+    (ap (λ (n : Module). n.memories) (swapped_is m (takable (table_ports table.modules) m h.ready)))
 
 -- `memory` leaves none
 memory_goes : (table : PortTable) (m n : Module) → MayGoOn table m → memory_within m ≡ Some n → GoesOn table m n
 memory_goes table m n h e =
+    let all = memory_gives table m h.ready h.named n e in
     record {
-      step = as_step table m n (memory_passes table m h.ready h.named n e);
+      pass = all.pass;
       next = record {
-        ready = (memory_gives table m h.ready h.named n e).ready;
-        named = subst (λ (ss : List Store). Distinct (map (λ (s : Store). s.name) ss)) (sym (memory_gives table m h.ready h.named n e).memories) tt;
+        ready = all.pass.ready h.ready;
+        named = subst (λ (ss : List Store). Distinct (map (λ (s : Store). s.name) ss)) (sym all.memories) tt;
       };
-      stores = inr (memory_gives table m h.ready h.named n e).memories;
+      stores = inr all.memories;
     }
 
 -- `fsm` keeps the memories
 fsm_goes : (table : PortTable) (m n : Module) → MayGoOn table m → fsm_within (table_ports table.modules) m ≡ Some n → GoesOn table m n
-fsm_goes table m n h e = goes table m n h (fsm_passes table m h.ready n e) (fsm_stores table m h.ready n e)
+fsm_goes table m n h e =
+    let all = fsm_gives table m h.ready n e in
+    goes table m n h all.pass all.memories
 
 no_process : (table : PortTable) (m n : Module) (p : Process) (ps : List Process) → m.processes ≡ p ∷ ps → MayGoOn table m → GoesOn table m n
 no_process table m n p ps e h = let none = (plain (table_ports table.modules) m h.ready.faultless).processes in absurd cc
@@ -137,18 +125,18 @@ no_process table m n p ps e h = let none = (plain (table_ports table.modules) m 
 stays_on : (table : PortTable) (m : Module) → m.processes ≡ [] → MayStart table m → GoesOn table m m
 stays_on table m e h =
     let g = stays table m h.begins e in
-    record { step = g.step; next = record { ready = g.ready; named = h.named }; stores = inl refl }
+    record { pass = step_passes table m m g.step g.ready; next = record { ready = g.ready; named = h.named }; stores = inl refl }
 
 proc_goes : (table : PortTable) (m n : Module) → MayStart table m → proc_result (table_ports table.modules) m ≡ Some n → GoesOn table m n
 proc_goes table m n h e =
     let g = proc_gives table m n h.begins e in
-    record { step = g.step; next = record { ready = g.ready; named = same_names m n g.stores h.named }; stores = inl g.stores }
+    record { pass = step_passes table m n g.step g.ready; next = record { ready = g.ready; named = same_names m n g.stores h.named }; stores = inl g.stores }
 
 proc_word : (table : PortTable) (m n : Module) → MayBeGiven table Proc m → proc_within (table_ports table.modules) m m.processes ≡ Some n → GoesOn table m n
 proc_word table m n h e = by m.processes refl h e
   where
     by : (ps : List Process) → m.processes ≡ ps → MayBeGiven table Proc m → proc_within (table_ports table.modules) m ps ≡ Some n → GoesOn table m n
-    by [] f (inr k) g = goes_to table m m n (record { step = IsStep_refl table m; next = k; stores = inl refl }) g
+    by [] f (inr k) g = goes_to table m m n (record { pass = IsPass_refl table m; next = k; stores = inl refl }) g
     by [] f (inl k) g = goes_to table m m n (stays_on table m f k) g
     by (p ∷ ps) f (inr k) g = no_process table m n p ps f k
     by (p ∷ ps) f (inl k) g = proc_goes table m n k g
@@ -181,7 +169,7 @@ given_word table Fsm m h = h
 given_word table Memory m h = h
 given_word table Techmap m h = h
 
--- words may be applied to a module that may be given to each pass, and make of it what one step could
+-- words may be applied to a module that may be given to each pass, and make of it what one pass could
 module _ (table : PortTable) where
   behind : (w : Word) (ws : List Word) (m : Module) → MayBeGiven table w m → ((n : Module) → MayGoOn table n → AreApplicable ws table n) → AfterWord (AreApplicable ws table) (pass_of table w m)
   behind w ws m given rest = by (pass_of table w m) refl
@@ -194,18 +182,18 @@ module _ (table : PortTable) where
   applicable_from [] m h = tt
   applicable_from (w ∷ ws) m h = (given_word table w m h, behind w ws m (given_word table w m h) (λ n k. applicable_from ws n k))
 
-  then_step : (w : Word) (ws : List Word) (m n : Module) → MayBeGiven table w m → ((k : Module) → MayGoOn table k → fold_script ws table k ≡ Done n → IsStep table k n) → fold_script (w ∷ ws) table m ≡ Done n → IsStep table m n
-  then_step w ws m n given rest e = by (pass_of table w m) refl e
+  then_pass : (w : Word) (ws : List Word) (m n : Module) → MayBeGiven table w m → ((k : Module) → MayGoOn table k → fold_script ws table k ≡ Done n → IsPass table k n) → fold_script (w ∷ ws) table m ≡ Done n → IsPass table m n
+  then_pass w ws m n given rest e = by (pass_of table w m) refl e
     where
-      by : (o : Option Module) → pass_of table w m ≡ o → after_word w (fold_script ws table) o ≡ Done n → IsStep table m n
+      by : (o : Option Module) → pass_of table w m ≡ o → after_word w (fold_script ws table) o ≡ Done n → IsPass table m n
       by None f g = absurd cc
       by (Some k) f g =
           let first = word_goes table w m k given f in
-          IsStep_trans table m k n first.step (rest k first.next g)
+          IsPass_trans table m k n first.pass (rest k first.next g)
 
-  step_from : (words : List Word) (m n : Module) → MayGoOn table m → fold_script words table m ≡ Done n → IsStep table m n
-  step_from [] m n h e = let same : m ≡ n = cc in subst (IsStep table m) same (IsStep_refl table m)
-  step_from (w ∷ ws) m n h e = then_step w ws m n (given_word table w m h) (λ k r f. step_from ws k n r f) e
+  passes_from : (words : List Word) (m n : Module) → MayGoOn table m → fold_script words table m ≡ Done n → IsPass table m n
+  passes_from [] m n h e = let same : m ≡ n = cc in subst (IsPass table m) same (IsPass_refl table m)
+  passes_from (w ∷ ws) m n h e = then_pass w ws m n (given_word table w m h) (λ k r f. passes_from ws k n r f) e
 
 -- a script starts with `proc`
 pub starts : (words : List Word) → IsScript words → StartsWithProc words
@@ -218,8 +206,8 @@ stage_applicable [] table m is h = absurd is
 stage_applicable (w ∷ ws) table m is h =
     subst (λ (v : Word). AreApplicable (v ∷ ws) table m) (sym is) (inl h, behind table Proc ws m (inl h) (λ n k. applicable_from table ws n k))
 
--- what it makes of the module is what one step could
-pub fold_step : (script : List Word) (table : PortTable) (m n : Module) → StartsWithProc script → MayStart table m → fold_script script table m ≡ Done n → IsStep table m n
-fold_step [] table m n is h e = absurd is
-fold_step (w ∷ ws) table m n is h e =
-    then_step table Proc ws m n (inl h) (λ k r f. step_from table ws k n r f) (subst (λ (v : Word). fold_script (v ∷ ws) table m ≡ Done n) is e)
+-- what it makes of the module is what one pass could
+pub fold_passes : (script : List Word) (table : PortTable) (m n : Module) → StartsWithProc script → MayStart table m → fold_script script table m ≡ Done n → IsPass table m n
+fold_passes [] table m n is h e = absurd is
+fold_passes (w ∷ ws) table m n is h e =
+    then_pass table Proc ws m n (inl h) (λ k r f. passes_from table ws k n r f) (subst (λ (v : Word). fold_script (v ∷ ws) table m ≡ Done n) is e)

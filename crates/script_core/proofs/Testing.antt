@@ -18,7 +18,8 @@ use Rattle.rtl_ir.specs.Faults.Processes.{is_bad_process, starts_stand}
 use Rattle.rtl_ir.specs.Faults.RuleKinds.{rules_stand}
 use Rattle.rtl_ir.specs.Faults.SelfReading.{reads_itself}
 use Rattle.rtl_ir.specs.Faults.TwoEdges.{EdgeBit, SwitchTest, is_tested, one_resets, resets_well, are_all, are_one_constant, decided, edge_bit, events_reset, switches_test, two_edges_stand}
-use Rattle.rtl_ir.specs.Follow.{Join, all_joins, follow_joins}
+use Rattle.rtl_ir.specs.Follow.{all_joins, follow_joins}
+use Rattle.rtl_ir.specs.declared.follow.Join.{Join}
 use Rattle.rtl_ir.specs.Rules.{acting_rules}
 use Rattle.rtl_ir.specs.Signals.{is_all_constant}
 use Rattle.rtl_ir.specs.SwitchRules.{root_by_rules}

@@ -4,8 +4,8 @@ use Rattle.rtl_ir.specs.declared.module.Design.{Design}
 use Rattle.rtl_ir.specs.declared.module.Module.{Module}
 use Rattle.rtl_ir.specs.declared.ports.PortTable.{PortTable}
 use Rattle.rtl_ir.specs.Faults.{check_faults}
-use Rattle.rtl_trip.specs.Readable.{IsReadable, IsReadableModule}
-use Rattle.rtl_trip.specs.PortTables.{ArePorts}
+use Rattle.rtl_write.specs.Readable.{IsReadable, IsReadableModule}
+use Rattle.rtl_write.specs.PortTables.{ArePorts}
 use Rattle.rtl_write.specs.Text.{body_text}
 use Rattle.rtl_write.specs.Ports.{ports_text}
 use Rattle.script_core.specs.declared.key.Key.{Key}

@@ -3,7 +3,7 @@ use Rattle.std.specs.Prelude.{◌≡◌, ◌⊎◌, List, [], ◌∷◌, Option,
 use Rattle.rtl_ir.specs.declared.module.Module.{Module}
 use Rattle.rtl_ir.specs.declared.ports.PortTable.{PortTable}
 use Rattle.rtl_ir.specs.Types.{table_ports}
-use Rattle.memory_laws.specs.Named.{HaveOwnNames}
+use Rattle.pass_laws.specs.OwnNames.{HaveOwnNames}
 use Rattle.fsm_steps.specs.Within.{fsm_within}
 use Rattle.mem_steps.specs.Within.{memory_within}
 use Rattle.pass_laws.specs.Ready.{IsReady}

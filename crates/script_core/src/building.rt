@@ -9,7 +9,7 @@ use crate::fold::fold;
 use crate::key::Key;
 use crate::outcome::Outcome;
 use rtl_bits::{Copied, Memory, Steps};
-use rtl_trip::{read_body, read_ports};
+use rtl_write::{read_body, read_ports};
 use std::alloc::Global;
 
 /// The name that a module has while it is built, since a body has none.

@@ -2,7 +2,7 @@
 
 ghost use Rattle.std.specs.Prelude.{◌≡◌, ◌<◌, ◌^◌, ◌++◌, IfOk, OnOk, length, map};
 ghost use Rattle.rtl_ir.specs.Faults.{faults_within};
-ghost use Rattle.rtl_trip.specs.Readable.{IsReadable};
+ghost use Rattle.rtl_write.specs.Readable.{IsReadable};
 ghost use Rattle.script_core.specs.declared.key.Key.{Key};
 ghost use Rattle.script_core.specs.Built.{IsAcceptedKey};
 ghost use Rattle.script_core.specs.Keys.{key_of, key_text, part_text};

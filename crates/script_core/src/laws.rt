@@ -7,7 +7,7 @@ ghost use Rattle.rtl_ir.specs.declared.ports.PortTable.{PortTable};
 ghost use Rattle.rtl_ir.specs.Faults.{check_faults};
 ghost use Rattle.rtl_ir.specs.Flat.Cell.{instances};
 ghost use Rattle.rtl_ir.specs.Flat.Tree.{design_ports, table_ports};
-ghost use Rattle.rtl_trip.specs.Readable.{IsReadable};
+ghost use Rattle.rtl_write.specs.Readable.{IsReadable};
 ghost use Rattle.net_model.specs.Gates.{is_gate_netlist};
 ghost use Rattle.net_model.specs.Lists.{In};
 ghost use Rattle.net_model.specs.Refine.{AgreeOn, Refines, RefinesIn};
@@ -23,7 +23,8 @@ ghost use Rattle.script_core.specs.Mapping.{maps_all};
 /// The table of a module has the ports that the design has for each of its instances; so a module of an
 /// accepted design may be given to a script over its table, whatever its name is.
 pub fn tables_have_the_ports()
-    ensures ports { (d : Design) (m : Module) → AgreeOn (table_ports (table_of d.modules m)) (design_ports d) (instances m.cells) }
+    ensures ports { (d : Design) (m : Module) →
+        AgreeOn (table_ports (table_of d.modules m)) (design_ports d) (instances m.cells) }
     ensures given { (d : Design) → IsReadable d → check_faults d.modules ≡ [] → (m : Module) → In m d.modules →
         MayStart (table_of d.modules m) (unnamed m) }
 {}

@@ -67,7 +67,7 @@ fn read_words(alloc: Global, text: &[u8]) -> Result<Seq<Word>, ScriptFault>
 }
 
 /// The script of a text, whose words stand between spaces, tabs and semicolons.
-#[tactic(auto, using(crate::proofs::ParseLemmas::no_script, crate::proofs::ParseLemmas::bad_script, crate::proofs::ParseLemmas::good_script))]
+#[tactic(auto, using(crate::proofs::ParseLemmas::texts))]
 pub fn parse_script(alloc: Global, text: &[u8]) -> Result<Script, ScriptFault>
     ensures reads { IfOk result (λ script. script_of text.now ≡ Ok script) }
     ensures first_fault { (n : ℕ) → result ≡ Err (ScriptFault.Bad n) → script_of text.now ≡ Err n }

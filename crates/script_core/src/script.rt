@@ -72,7 +72,7 @@ impl Copied for Script {
 }
 
 /// The default script: `proc opt fsm opt memory opt techmap opt`.
-#[tactic(auto, using(crate::proofs::ScriptLemmas::one_word, crate::proofs::ScriptLemmas::two_words, crate::proofs::ScriptLemmas::three_words, crate::proofs::ScriptLemmas::four_words, crate::proofs::ScriptLemmas::five_words, crate::proofs::ScriptLemmas::six_words, crate::proofs::ScriptLemmas::is_script))]
+#[tactic(auto, using(crate::proofs::ScriptLemmas::scripts))]
 pub fn default_script(alloc: Global) -> Result<Script, Memory>
     ensures value { IfOk result (λ script. script ≡ default_script) }
 {

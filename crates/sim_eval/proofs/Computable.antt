@@ -55,7 +55,8 @@ use Rattle.rtl_ir.specs.Flat.Rows.{plain_rows, rows_of}
 use Rattle.rtl_ir.specs.Flat.Start.{start_of}
 use Rattle.rtl_ir.specs.Flat.Tree as tree
 use Rattle.rtl_ir.specs.Flat.Tree.{named, in_module, in_instances, in_tree, given_rows, driven_rows, role_points, places, root}
-use Rattle.rtl_ir.specs.Follow.{Join, all_joins, source_at}
+use Rattle.rtl_ir.specs.Follow.{all_joins, source_at}
+use Rattle.rtl_ir.specs.declared.follow.Join.{Join}
 use Rattle.rtl_ir.specs.Parameters.{signal_at}
 use Rattle.rtl_ir.specs.Ports.{ports_of}
 use Rattle.rtl_ir.specs.Rules.{acting_rules}

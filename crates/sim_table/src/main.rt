@@ -13,23 +13,8 @@ use rtl_read::{ReadFault, read};
 use sim_eval::Sim;
 use sim_text::{StepFault, read_step, write_step};
 use std::alloc::Global;
-use std::fs::File;
-use std::io::Read;
 use std::process::ExitCode;
-use synth_io::{StdSource, read_input};
-
-/// The byte between two rows, and that between two fields of a row.
-const BETWEEN_ROWS: u8 = 254;
-
-const BETWEEN_FIELDS: u8 = 255;
-
-/// What the rows come to.
-#[derive(Drop)]
-struct Tally {
-    rows: u32,
-    /// How many rows do not hold.
-    bad: u32,
-}
+use table_rows::{TEXTS, Tally, report};
 
 /// The design of the text, where it is one and has no fault.
 fn design_of(alloc: Global, text: &[u8]) -> Result<Option<Checked>, Memory> {
@@ -110,10 +95,9 @@ fn place_of(design: &Checked, id: &[u8]) -> u32 {
     at
 }
 
-/// Whether a row holds: a design, a module, the lines of a stimulus, and those of its trace.
-fn holds(alloc: Global, row: &[u8]) -> Result<bool, Memory> {
-    let fields: Vec<&[u8]> = row.split(|byte| *byte == BETWEEN_FIELDS).collect(alloc)?;
-    let [text, id, steps, wanted] = fields.as_slice() else {
+/// Whether a design, a module, the lines of a stimulus, and those of its trace belong together.
+fn holds(alloc: Global, fields: &[&[u8]]) -> Result<bool, Memory> {
+    let [text, id, steps, wanted] = fields else {
         return Ok(false);
     };
     let Some(design) = design_of(alloc, text)? else {
@@ -129,38 +113,15 @@ fn holds(alloc: Global, row: &[u8]) -> Result<bool, Memory> {
     }
 }
 
-/// The rows of the table.
-fn tally_of(alloc: Global, table: &[u8]) -> Result<Tally, Memory> {
-    let mut tally = Tally { rows: 0, bad: 0 };
-    for row in table.split(|byte| *byte == BETWEEN_ROWS) {
-        let bad = !holds(alloc, row)?;
-        tally.rows = tally.rows.saturating_add(1);
-        tally.bad = tally.bad.saturating_add(u32::from(bad));
-    }
+/// Counts the rows at standard input and those of memories.
+fn tally_of(rt: &HostRuntime) -> Result<Tally, Memory> {
+    let mut tally = Tally::make(rt.alloc());
+    tally.read("standard input", rt.reader(), TEXTS, holds)?;
+    tally.file(rt, "memories", TEXTS, holds)?;
     Ok(tally)
 }
 
-/// What the table that a reader gives comes to.
-fn tally_in<R: Read + Drop>(alloc: Global, reader: R) -> Option<Tally> {
-    let table = read_input(alloc, &mut StdSource::make(reader)).ok()?;
-    tally_of(alloc, table.as_slice()).ok()
-}
-
-/// Runs over the table at standard input and that of memories, and says what they came to.
+/// Goes through the tables, and says how many rows held.
 fn main(rt: HostRuntime) -> ExitCode {
-    let Ok(memories) = File::open(&rt, "memories") else {
-        return ExitCode::FAILURE;
-    };
-    let (Some(table), Some(memories)) = (
-        tally_in(rt.alloc(), rt.reader()),
-        tally_in(rt.alloc(), memories),
-    ) else {
-        return ExitCode::FAILURE;
-    };
-    let rows = table.rows.saturating_add(memories.rows);
-    let bad = table.bad.saturating_add(memories.bad);
-    match println!(rt; "{rows} traces, {bad} of them otherwise than told") {
-        Ok(()) => ExitCode::SUCCESS,
-        Err(_) => ExitCode::FAILURE,
-    }
+    report(&rt, tally_of(&rt))
 }

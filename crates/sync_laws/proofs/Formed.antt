@@ -1,209 +1,166 @@
--- The module that the step gives: what is owed of it, and so it is well formed.
-use Rattle.std.proofs.Common.{◌≡◌, ◌≤◌, ℕ, ◌+◌, Bool, false, List, [], ◌∷◌, ◌++◌, length, inl, inr, refl, sym, ◌∙◌, ap, subst, append-nil, arith}
-use Rattle.std.specs.Prelude.{◌||◌, flat_map, map}
-use Rattle.std.specs.List.{list_any}
-use Rattle.std.proofs.lemmas.Bool.{or_parts}
-use Rattle.cell_types.specs.declared.kind.CellKind.TheVariants.{Storage}
-use Rattle.cell_types.specs.declared.pin_name.PinName.TheVariants.{Q}
+-- The module that the step gives may be given on.
+use Rattle.std.proofs.Common.{◌≡◌, ◌≤◌, ℕ, ◌+◌, List, [], ◌∷◌, ◌++◌, length, inl, inr, refl, sym, ◌∙◌, ap, subst, arith, append-nil, append_assoc}
+use Rattle.std.specs.Prelude.{codes, map}
+use Rattle.cell_types.specs.declared.kind.CellKind.TheVariants as Cells
+use Rattle.cell_types.specs.declared.memory.MemoryKind.TheVariants.{MemwrV2}
 use Rattle.rtl_sig.specs.declared.sig.WireBit.{WireBit}
-use Rattle.rtl_ir.specs.Assigns.{case_assigns, tree_bits}
-use Rattle.rtl_ir.specs.Build.{Building, building_of}
-use Rattle.rtl_ir.specs.Faults.Links.{is_uneven}
-use Rattle.rtl_ir.specs.Faults.ProcessLimits.{memory_lines, passes_limit, switches_pass, switches_uneven, update_lines}
-use Rattle.rtl_ir.specs.Flat.Cell.{Ports as FlatPorts, instance_of, instances, listed}
-use Rattle.rtl_ir.specs.Ports.{ports_of}
-use Rattle.rtl_ir.specs.Scope.{with_processes}
-use Rattle.rtl_ir.specs.Signals.{has_constant}
-use Rattle.rtl_ir.specs.SwitchRules.{root_by_rules}
-use Rattle.rtl_ir.specs.Types.{Ports, cell_type, table_ports}
-use Rattle.rtl_ir.specs.WritePorts.{EventLine}
+use Rattle.rtl_ir.specs.Build.{building_of, pin_of}
+use Rattle.rtl_ir.specs.Drivers.{drive_count, drives_of}
+use Rattle.rtl_ir.specs.Faults.Cells.{cell_faults, faults_by_type}
+use Rattle.rtl_ir.specs.Faults.Processes.{process_faults}
+use Rattle.rtl_ir.specs.Flat.Access.{write_trigger}
+use Rattle.rtl_ir.specs.Scope.{Scope, with_processes}
+use Rattle.rtl_ir.specs.Types.{CellType, Instance, Library, Ports, Unknown, Unsupported, cell_type, table_ports}
 use Rattle.rtl_ir.specs.declared.cell.Cell.{Cell}
-use Rattle.rtl_ir.specs.declared.module.Link.{Link}
+use Rattle.rtl_ir.specs.declared.cell.Pin.{Pin}
 use Rattle.rtl_ir.specs.declared.module.Module.{Module}
 use Rattle.rtl_ir.specs.declared.ports.PortTable.{PortTable}
+use Rattle.rtl_ir.specs.declared.process.Event.{Event}
 use Rattle.rtl_ir.specs.declared.process.Process.{Process}
+use Rattle.rtl_ir.specs.declared.process.SyncRule.{SyncRule}
 use Rattle.rtl_ir.specs.declared.process.WriteLine.{WriteLine}
-use Rattle.net_model.proofs.Grown.{ports_more}
 use Rattle.net_model.proofs.Members.{In-mapped}
-use Rattle.net_model.proofs.Ranges.{each_more, each_none}
-use Rattle.net_model.specs.Lists.{Distinct, In}
-use Rattle.net_model.specs.Proc.Sync.{proc_sync_of}
-use Rattle.net_model.specs.Refine.{IsWellDriven}
-use Rattle.net_model.specs.Within.{CellIn, Each, LinkIn, ProcessIn, RuleIn}
-use Rattle.map_laws.proofs.FreshWires.{names_of}
-use Rattle.pass_laws.proofs.Alone.{library_faultless}
-use Rattle.pass_laws.proofs.Counting.{count, count_more}
-use Rattle.pass_laws.proofs.Faultless.{no_faults, type_is}
-use Rattle.pass_laws.proofs.Outputs.{output_bits}
+use Rattle.net_model.proofs.Ranges.{each_both, each_more, each_none}
+use Rattle.net_model.specs.Proc.Sync.{Numbered, line_number, proc_sync_of}
+use Rattle.net_model.specs.Within.{CellIn, Each, SigIn}
+use Rattle.pass_laws.proofs.Alone.{links_even}
+use Rattle.pass_laws.proofs.Counting.{cells_more, count, fewer_faults}
+use Rattle.pass_laws.proofs.Faultless.{HasNoFaults, no_faults, type_is}
+use Rattle.pass_laws.proofs.Forming.{all_none}
 use Rattle.pass_laws.specs.Bits.{cells_bits, pin_bits}
-use Rattle.pass_laws.specs.Replaces.{IsEven, IsFaultless}
-use Rattle.proc_laws.proofs.CountingBits.{among}
-use Rattle.proc_laws.proofs.CountingRules.{driven_checked}
-use Rattle.proc_laws.proofs.RebuildDriven.{instances_stay, still_driven}
-use Rattle.proc_laws.proofs.RebuildFaults.{still_ready}
+use Rattle.pass_laws.specs.Replaces.{IsEven}
+use Rattle.proc_laws.proofs.RebuildFaults.{drives_count}
 use Rattle.proc_laws.proofs.RebuildProcesses.{IsGoodProcess, each_good, none_bad}
-use Rattle.proc_laws.specs.Ready.{AreRuled, HaveNoLines, HaveNoStarts, IsReady}
-use Rattle.proc_laws.specs.Rebuilds.{Rebuilds, checked_bits, driven_bits, rebuilt}
-use Rattle.proc_laws.specs.Step.{IsStep, StaysReady}
-use Rattle.sync_laws.specs.Kinds.{HaveNoAlways, HaveNoTwoEdges, HaveNoWrites}
-use Rattle.sync_laws.proofs.GoodRules.{all_whole, none_write, rule_bits, without_rules}
-use Rattle.sync_laws.proofs.Parts.{Part, all_parts, cells_from, named, step_is}
-use Rattle.sync_laws.proofs.Refined.{refines}
-use Rattle.sync_laws.proofs.RuleParts.{AreWhole}
-use Rattle.sync_laws.proofs.StoreParts.{IsStorePart, part_bits}
+use Rattle.proc_laws.specs.Ready.{IsReady}
+use Rattle.proc_laws.specs.Step.{StaysReady}
+use Rattle.proc_laws.specs.Kinds.{HaveNoAlways, HaveNoTwoEdges}
+use Rattle.sync_laws.proofs.GoodRules.{all_whole, without_rules}
+use Rattle.sync_laws.proofs.Parts.{Part, all_parts, cells_from, named}
+use Rattle.sync_laws.specs.Lines.{WritesHaveBits}
+use Rattle.sync_laws.proofs.FlopsFormed.{flops_ready, still_good}
+use Rattle.sync_laws.proofs.GoodLines.{none_numbered, rules_good}
+use Rattle.sync_laws.proofs.NewFaults.{cells_split, rules_none, stand_plain}
+use Rattle.sync_laws.proofs.FlopsRefined.{cells_plain}
+use Rattle.sync_laws.proofs.Sound.{IsSound, all_sound}
+use Rattle.sync_laws.proofs.Words.{IsWrite}
+use Rattle.sync_laws.proofs.WriteParts.{cells_both, lines_parts, module_rules, numbered_line, numbered_lines, write_part, written_parts}
+use Rattle.sync_laws.proofs.Written.{bare, bare_is, flops, ports_made, ports_write, sync_is, whole}
 
--- the cells of whole parts
-module _ (count : ℕ) where
-  cells_free : (n : ℕ) (qs : List Part) → Each (IsStorePart count) qs → instances (cells_from n qs) ≡ []
-  cells_free n [] h = refl
-  cells_free n (q ∷ qs) h =
-      (λ i. listed (instance_of (named q n) (((h q (inl refl)).whole n).own i)) ++ cells_free (n + 1) qs (λ x j. h x (inr j)) i)
+-- write ports drive no bit
+no_pins : (pins : List Pin) → pin_bits (Library (Cells.Memory MemwrV2)) pins ≡ []
+no_pins [] = refl
+no_pins (p ∷ pins) = no_pins pins
 
-  cells_each : (P : Cell → Type 0) (n : ℕ) (qs : List Part) → ((q : Part) → In q qs → (k : ℕ) → P (named q k)) → Each P (cells_from n qs)
-  cells_each P n [] h = each_none P
-  cells_each P n (q ∷ qs) h =
-      each_more P (named q n) (cells_from (n + 1) qs) (h q (inl refl) n) (cells_each P (n + 1) qs (λ x i. h x (inr i)))
+no_bits : (ports : Ports) (cells : List Cell) → Each IsWrite cells → cells_bits ports cells ≡ []
+no_bits ports [] h = refl
+no_bits ports (c ∷ cells) h =
+    let here : pin_bits (cell_type ports c.kind_name) c.pins ≡ [] = ap (λ t. pin_bits t c.pins) (type_is ports c (Cells.Memory MemwrV2) (h c (inl refl))) ∙ no_pins c.pins in
+    λ i. here i ++ no_bits ports cells (λ x j. h x (inr j)) i
 
-  module _ (ports : Ports) where
-    cell_bits_are : (q : Part) (is : IsStorePart count q) (n : ℕ) → pin_bits (cell_type ports (named q n).kind_name) (named q n).pins ≡ part_bits q
-    cell_bits_are q is n =
-        ap (λ t. pin_bits t (named q n).pins) (type_is ports (named q n) (Storage is.kind) (is.whole n).own)
-        ∙ output_bits (Storage is.kind) (named q n) refl (is.whole n).shape Q refl
+-- they name wires of the module
+module _ (m : Module) (count : ℕ) where
+  four_in : (a b c d : Pin) → SigIn count a.sig → SigIn count b.sig → SigIn count c.sig → SigIn count d.sig → Each (λ (pin : Pin). SigIn count pin.sig) (a ∷ b ∷ c ∷ d ∷ [])
+  four_in a b c d ha hb hc hd =
+      let inside : Pin → Type 0 = λ (pin : Pin). SigIn count pin.sig in
+      each_more inside a (b ∷ c ∷ d ∷ []) ha (each_more inside b (c ∷ d ∷ []) hb (each_more inside c (d ∷ []) hc (each_more inside d [] hd (each_none inside))))
 
-    cells_bits_are : (n : ℕ) (qs : List Part) → Each (IsStorePart count) qs → cells_bits ports (cells_from n qs) ≡ flat_map part_bits qs
-    cells_bits_are n [] h = refl
-    cells_bits_are n (q ∷ qs) h =
-        λ i. cell_bits_are q (h q (inl refl)) n i ++ cells_bits_are (n + 1) qs (λ x j. h x (inr j)) i
+  lines_in : (event : Event) (rule before : List Numbered) (lines : List WriteLine) (k : ℕ) → Each (IsSound count event) lines → Each (CellIn count) (cells_from k (lines_parts m event rule before lines))
+  lines_in event rule before [] k sound = each_none (CellIn count)
+  lines_in event rule before (line ∷ lines) k sound =
+      let here : IsSound count event line = sound line (inl refl) in
+      let pins = four_in (pin_of (codes "\\CLK") (write_trigger event).signal) (pin_of (codes "\\EN") line.enable) (pin_of (codes "\\ADDR") line.address) (pin_of (codes "\\DATA") line.value) here.clock_in here.within.enable here.within.address here.within.value in
+      each_more (CellIn count) (named (write_part event line (line_number m before line.memory) rule) k) (cells_from (k + 1) (lines_parts m event (rule ++ numbered_line m before line ∷ []) (before ++ numbered_line m before line ∷ []) lines)) pins
+      (lines_in event (rule ++ numbered_line m before line ∷ []) (before ++ numbered_line m before line ∷ []) lines (k + 1) (λ x j. sound x (inr j)))
 
--- a process without rules has no faults where it had none
-module _ (ports : Ports) (m n : Module) where
-  still_good : (before after : List EventLine) (q : Process) → IsGoodProcess ports m before q → IsGoodProcess ports n after (without_rules q)
-  still_good before after q g =
-      let wide : WriteLine → Bool = λ (l : WriteLine). passes_limit l.value in
-      let constant : Link → Bool = λ (l : Link). has_constant l.left in
-      let three = or_parts ((switches_uneven q.root.switches || list_any is_uneven (case_assigns q.root)) || list_any is_uneven (update_lines q)) _ g.even in
-      let two = or_parts (switches_uneven q.root.switches || list_any is_uneven (case_assigns q.root)) (list_any is_uneven (update_lines q)) three.0 in
-      record {
-        narrow = ap (λ t. t || false) (or_parts (switches_pass q.root.switches) (list_any wide (memory_lines q)) g.narrow).0;
-        even = ap (λ t. (t || false) || false) two.0;
-        wires = ap (λ t. t || false) (or_parts (list_any constant (case_assigns q.root)) (list_any constant (update_lines q)) g.wires).0;
-        rules = refl;
-        acyclic = g.acyclic;
-        starts = refl;
-        edges = refl;
-        lines = refl;
-      }
+  rules_in : (before : List Numbered) (rules : List SyncRule) (k : ℕ) → Each (λ (r : SyncRule). Each (IsSound count r.event) r.writes) rules → Each (CellIn count) (cells_from k (written_parts m before rules))
+  rules_in before [] k sound = each_none (CellIn count)
+  rules_in before (r ∷ rules) k sound =
+      let here : List Part = lines_parts m r.event [] before r.writes in
+      let later : List Numbered = numbered_lines m before r.writes in
+      subst (Each (CellIn count)) (sym (cells_both k here (written_parts m later rules)))
+      (each_both (CellIn count) (cells_from k here) (cells_from (k + length here) (written_parts m later rules)) (lines_in r.event [] before r.writes k (sound r (inl refl))) (rules_in later rules (k + length here) (λ x j. sound x (inr j))))
 
--- what is driven is what was
-rules_count : (x : WireBit) (ps : List Process) → count x (flat_map rule_bits ps) + count x (flat_map checked_bits (map without_rules ps)) ≤ count x (flat_map checked_bits ps)
-rules_count x [] = omega arith
-rules_count x (p ∷ ps) =
-    let a = count_more x (rule_bits p) (flat_map rule_bits ps) in
-    let b = count_more x (checked_bits (without_rules p)) (flat_map checked_bits (map without_rules ps)) in
-    let c = count_more x (checked_bits p) (flat_map checked_bits ps) in
-    let d = count_more x (tree_bits p.root) [] in
-    let e = count_more x (tree_bits p.root) (rule_bits p) in
-    omega (arith, a, b, c, d, e, driven_checked x p, rules_count x ps)
+-- faults of cells ask for a module's memories and connections alone
+module _ (scope : Scope) (ports : Ports) (m : Module) (cells cells' : List Cell) (ps ps' : List Process) where
+  type_alike : (earlier : List Cell) (c : Cell) (t : CellType) → faults_by_type scope (record m { cells = cells; processes = ps }) earlier c t ≡ faults_by_type scope (record m { cells = cells'; processes = ps' }) earlier c t
+  type_alike earlier c (Library (Cells.Word kind)) = refl
+  type_alike earlier c (Library (Cells.Gate kind)) = refl
+  type_alike earlier c (Library (Cells.Storage kind)) = refl
+  type_alike earlier c (Library (Cells.StorageGate kind)) = refl
+  type_alike earlier c (Library (Cells.Memory kind)) = refl
+  type_alike earlier c (Instance lines) = refl
+  type_alike earlier c Unsupported = refl
+  type_alike earlier c Unknown = refl
 
-rules_driven : (x : WireBit) (ps : List Process) → count x (flat_map rule_bits ps) + count x (flat_map driven_bits (map without_rules ps)) ≤ count x (flat_map driven_bits ps)
-rules_driven x [] = omega arith
-rules_driven x (p ∷ ps) =
-    let a = count_more x (rule_bits p) (flat_map rule_bits ps) in
-    let b = count_more x (driven_bits (without_rules p)) (flat_map driven_bits (map without_rules ps)) in
-    let c = count_more x (driven_bits p) (flat_map driven_bits ps) in
-    let d = count_more x (tree_bits p.root) [] in
-    let e = count_more x (tree_bits p.root) (rule_bits p) in
-    omega (arith, a, b, c, d, e, rules_driven x ps)
+  faults_alike : (earlier cs : List Cell) → cell_faults scope ports (record m { cells = cells; processes = ps }) earlier cs ≡ cell_faults scope ports (record m { cells = cells'; processes = ps' }) earlier cs
+  faults_alike earlier [] = refl
+  faults_alike earlier (c ∷ cs) =
+      λ i. type_alike earlier c (cell_type ports c.kind_name) i ++ faults_alike (earlier ++ c ∷ []) cs i
 
--- no rule is left
-pub none_left : (m : Module) → HaveNoLines (proc_sync_of m)
-none_left m q i r j =
-    let f = In-mapped without_rules q m.processes i in
-    absurd (subst (λ (z : Process). In r z.syncs) f.2 j)
+module _ (ports : Ports) (m : Module) (ready : IsReady with_processes ports m) (acts : HaveNoAlways m) (edges : HaveNoTwoEdges m) (bits : WritesHaveBits m) where
+  abbrev scope : Scope
+  scope = with_processes
 
-pub are_ruled : (m : Module) → AreRuled m → AreRuled (proc_sync_of m)
-are_ruled m h q i =
-    let f = In-mapped without_rules q m.processes i in
-    subst (λ (z : Process). root_by_rules z.root ≡ z.root) (sym f.2) (h f.0 f.1)
+  abbrev plain : List Cell
+  plain = m.cells ++ flops m
 
-module _ (ports : Ports) (m : Module) (ready : IsReady with_processes ports m) (acts : HaveNoAlways m) (edges : HaveNoTwoEdges m) (quiet : HaveNoWrites m) where
-  abbrev changed : List Process
-  changed = map without_rules m.processes
+  mine : HasNoFaults with_processes ports m
+  mine = no_faults with_processes ports m ready.faultless
 
-  abbrev new : List Cell
-  new = cells_from (building_of m).next (all_parts m)
+  bare_ready : IsReady with_processes ports (bare m)
+  bare_ready =
+      subst (IsReady with_processes ports) (bare_is m) (flops_ready ports m ready acts edges)
 
-  -- the module is as it was but for what went last, and the rules
-  pub sync_is : proc_sync_of m ≡ rebuilt [] new [] changed m
-  sync_is =
-      ap (λ (b : Building). record b.body { processes = changed }) (step_is m (building_of m) (none_write m quiet))
-      ∙ (λ i. record m { cells = m.cells ++ new; wires = sym (append-nil m.wires) i; links = sym (append-nil m.links) i; processes = changed })
+  none : HasNoFaults with_processes ports (bare m)
+  none = no_faults with_processes ports (bare m) bare_ready.faultless
 
-  same_wires : m.wires ≡ m.wires ++ []
-  same_wires = sym (append-nil m.wires)
+  sound : Each (λ (r : SyncRule). Each (IsSound (length m.wires) r.event) r.writes) (module_rules m)
+  sound = all_sound ports m ready bits
 
-  whole : AreWhole (length m.wires) (all_parts m) (flat_map rule_bits m.processes)
-  whole = all_whole ports m ready acts edges
+  cells : cell_faults with_processes ports (whole m) [] (m.cells ++ (flops m ++ ports_made m)) ≡ []
+  cells =
+      ap (cell_faults scope ports (whole m) []) (sym (append_assoc m.cells (flops m) (ports_made m)))
+      ∙ cells_split ports m (whole m) refl refl [] plain (ports_made m)
+      ∙ (λ i. (faults_alike scope ports m (m.cells ++ (flops m ++ ports_made m)) (m.cells ++ flops m) (map without_rules m.processes) (map without_rules m.processes) [] plain ∙ none.cells) i
+      ++ rules_none ports m (whole m) refl refl (length m.wires) [] [] plain (module_rules m) ((building_of m).next + length (all_parts m)) (none_numbered m) (rules_good m ports mine.processes) sound (stand_plain m (flops m) (cells_plain (length m.wires) (building_of m).next (all_parts m) (all_whole ports m ready acts edges).whole)) i)
 
-  -- the bits that are driven
-  drives : (f : Process → List WireBit) → ((x : WireBit) → count x (flat_map rule_bits m.processes) + count x (flat_map f (map without_rules m.processes)) ≤ count x (flat_map f m.processes)) → (x : WireBit) → count x (cells_bits ports new ++ ([] ++ flat_map f changed)) ≤ count x (flat_map f m.processes)
-  drives f h x =
-      let cells = ap (count x) (cells_bits_are (length m.wires) ports (building_of m).next (all_parts m) whole.whole ∙ whole.bits) in
-      omega (arith, cells, count_more x (cells_bits ports new) (flat_map f changed), h x)
+  processes : process_faults with_processes ports (whole m) [] (map without_rules m.processes) ≡ []
+  processes =
+      none_bad ports (whole m) [] (map without_rules m.processes)
+      (λ before q i.
+      let f = In-mapped without_rules q m.processes i in
+      let good = each_good ports m [] m.processes mine.processes f.0 f.1 in
+      subst (IsGoodProcess ports (whole m) before) (sym f.2) (still_good ports m (whole m) good.0 before f.0 good.1))
 
-  process_in : (q : Process) → ProcessIn (length m.wires) q → ProcessIn (length m.wires) (without_rules q)
-  process_in q h = record { assigns = h.assigns; switches = h.switches; syncs = each_none (RuleIn (length m.wires)) }
+  even : Each IsEven m.links
+  even = links_even m.id 1 m.links mine.links
 
-  pub rebuilds : Rebuilds ports m [] new [] changed
-  rebuilds = record {
-    inner = λ w i. absurd i;
-    named = subst (λ ws. Distinct (names_of ws)) same_wires ready.named;
-    plain = cells_free (length m.wires) (building_of m).next (all_parts m) whole.whole;
-    cells = cells_each (length m.wires) (IsFaultless ports) (building_of m).next (all_parts m) (λ q i k.
-        let is : IsStorePart (length m.wires) q = whole.whole q i in
-        library_faultless ports (named q k) (Storage is.kind) (is.whole k).own refl (is.whole k).shape (is.whole k).output);
-    links = each_none IsEven;
-    processes = none_bad ports (rebuilt [] new [] changed m) [] changed
-        (λ before q i.
-        let f = In-mapped without_rules q m.processes i in
-        let good = each_good ports m [] m.processes (no_faults with_processes ports m ready.faultless).processes f.0 f.1 in
-        subst (IsGoodProcess ports (rebuilt [] new [] changed m) before) (sym f.2) (still_good ports m (rebuilt [] new [] changed m) good.0 before f.0 good.1));
-    cells_within = subst (λ ws. Each (CellIn (length ws)) new) same_wires
-        (cells_each (length m.wires) (CellIn (length m.wires)) (building_of m).next (all_parts m) (λ q i k. ((whole.whole q i).whole k).within));
-    links_within = each_none (LinkIn (length (m.wires ++ [])));
-    processes_within = subst (λ ws. Each (ProcessIn (length ws)) changed) same_wires
-        (λ q i. let f = In-mapped without_rules q m.processes i in subst (ProcessIn (length m.wires)) (sym f.2) (process_in f.0 (ready.within.processes f.0 f.1)));
-    checked = among _ _ (drives checked_bits (λ x. rules_count x m.processes));
-    driven = among _ _ (drives driven_bits (λ x. rules_driven x m.processes));
+  same_bits : cells_bits ports (m.cells ++ (flops m ++ ports_made m)) ≡ cells_bits ports (m.cells ++ flops m)
+  same_bits =
+      ap (cells_bits ports) (sym (append_assoc m.cells (flops m) (ports_made m)))
+      ∙ cells_more ports plain (ports_made m)
+      ∙ ap (λ z. cells_bits ports plain ++ z) (no_bits ports (ports_made m) (ports_write m))
+      ∙ append-nil (cells_bits ports plain)
+
+  fewer : (b : WireBit) → drive_count (drives_of ports (whole m)) b ≤ drive_count (drives_of ports (bare m)) b
+  fewer b =
+      omega (arith, drives_count ports (bare m) even b, drives_count ports (whole m) even b, ap (count b) same_bits)
+
+  cells_in : Each (CellIn (length m.wires)) (m.cells ++ (flops m ++ ports_made m))
+  cells_in =
+      subst (Each (CellIn (length m.wires))) (append_assoc m.cells (flops m) (ports_made m))
+      (each_both (CellIn (length m.wires)) plain (ports_made m) bare_ready.within.cells (rules_in m (length m.wires) [] (module_rules m) ((building_of m).next + length (all_parts m)) sound))
+
+  whole_ready : IsReady with_processes ports (whole m)
+  whole_ready = record {
+    faultless = all_none none.wires none.stores cells processes none.links (fewer_faults m.id (drives_of ports (bare m)) (drives_of ports (whole m)) fewer 0 m.wires none.bits);
+    named = bare_ready.named;
+    within = record { cells = cells_in; links = bare_ready.within.links; processes = bare_ready.within.processes };
   }
 
-  pub sync_ports : ports_of m.wires ≡ ports_of (proc_sync_of m).wires
-  sync_ports = sym (ports_more m.wires [] rebuilds.inner) ∙ sym (ap (λ (b : Module). ports_of b.wires) sync_is)
-
-  pub sync_instances : instances m.cells ≡ instances (proc_sync_of m).cells
-  sync_instances =
-      instances_stay ports m [] new [] changed rebuilds ∙ sym (ap (λ (b : Module). instances b.cells) sync_is)
-
-  pub sync_driven : (over : FlatPorts) → IsWellDriven over m → IsWellDriven over (proc_sync_of m)
-  sync_driven over h =
-      subst (IsWellDriven over) (sym sync_is) (still_driven ports m [] new [] changed ready.within rebuilds over h)
-
   pub sync_ready : IsReady with_processes ports (proc_sync_of m)
-  sync_ready =
-      subst (IsReady with_processes ports) (sym sync_is) (still_ready ports m [] new [] changed ready rebuilds)
+  sync_ready = subst (IsReady with_processes ports) (sym (sync_is m)) whole_ready
 
--- with refinement it is a step of `proc`
-pub sync_is_step : (table : PortTable) (m : Module) → IsReady with_processes (table_ports table.modules) m → HaveNoAlways m → HaveNoTwoEdges m → HaveNoWrites m → HaveNoStarts m → IsStep table m (proc_sync_of m)
-sync_is_step table m ready acts edges quiet starts =
-    let ports : Ports = table_ports table.modules in
-    record {
-      id = sym (ap (λ (b : Module). b.id) (sync_is ports m ready acts edges quiet));
-      ports = sync_ports ports m ready acts edges quiet;
-      instances = sync_instances ports m ready acts edges quiet;
-      driven = λ over agree h. sync_driven ports m ready acts edges quiet over h;
-      refines = refines table m ready acts edges quiet starts;
-    }
-
-pub stays_ready : (table : PortTable) (m : Module) → HaveNoAlways m → HaveNoTwoEdges m → HaveNoWrites m → StaysReady table m (proc_sync_of m)
-stays_ready table m acts edges quiet ready =
-    sync_ready (table_ports table.modules) m ready acts edges quiet
+pub stays_ready : (table : PortTable) (m : Module) → HaveNoAlways m → HaveNoTwoEdges m → WritesHaveBits m → StaysReady table m (proc_sync_of m)
+stays_ready table m acts edges bits ready =
+    sync_ready (table_ports table.modules) m ready acts edges bits

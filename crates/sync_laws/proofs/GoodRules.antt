@@ -4,33 +4,26 @@ use Rattle.std.specs.Prelude.{◌&&◌, filter, flat_map, map, not}
 use Rattle.std.specs.List.{list_all}
 use Rattle.std.proofs.lemmas.Bool.{and_parts}
 use Rattle.rtl_sig.specs.declared.sig.WireBit.{WireBit}
-use Rattle.rtl_ir.specs.Assigns.{tree_bits}
-use Rattle.rtl_ir.specs.Decisions.{expanded, leaves_of}
 use Rattle.rtl_ir.specs.Faults.RuleKinds.{edges_agree, has_one_bit, kinds_of, may_stand, rules_stand, writes_stand}
-use Rattle.rtl_ir.specs.Flat.Access.{line_accesses, rule_accesses}
-use Rattle.rtl_ir.specs.Flat.Start.{Begun, first_constant, process_starts}
-use Rattle.rtl_ir.specs.Follow.{Join, all_joins}
+use Rattle.rtl_ir.specs.Flat.Start.{process_starts}
 use Rattle.rtl_ir.specs.Rules.{acting_rules, has_item, has_line, init_lines, is_init}
 use Rattle.rtl_ir.specs.Scope.{with_processes}
-use Rattle.rtl_ir.specs.SwitchRules.{root_by_rules}
 use Rattle.rtl_ir.specs.Types.{Ports}
-use Rattle.rtl_ir.specs.declared.module.Link.{Link}
 use Rattle.rtl_ir.specs.declared.module.Module.{Module}
 use Rattle.rtl_ir.specs.declared.process.Process.{Process}
 use Rattle.rtl_ir.specs.declared.process.SyncRule.{SyncRule}
-use Rattle.rtl_ir.specs.declared.process.WriteLine.{WriteLine}
-use Rattle.net_model.proofs.Ranges.{each_flat_map}
 use Rattle.net_model.specs.Lists.{In}
 use Rattle.net_model.specs.Proc.Latch.{is_always}
 use Rattle.net_model.specs.Within.{Each, ProcessIn, RuleIn}
 use Rattle.pass_laws.proofs.Faultless.{no_faults}
 use Rattle.proc_laws.proofs.RebuildProcesses.{each_good}
 use Rattle.proc_laws.specs.Ready.{HaveNoStarts, IsReady}
-use Rattle.proc_laws.specs.Rebuilds.{rules_bits}
-use Rattle.mux_laws.proofs.TreeLess.{SameAccesses}
-use Rattle.sync_laws.specs.Kinds.{HaveNoAlways, HaveNoTwoEdges, HaveNoWrites}
+use Rattle.build_laws.specs.Rebuilds.{rules_bits}
+use Rattle.build_laws.proofs.Staying.{starts_by}
+use Rattle.proc_laws.specs.Kinds.{HaveNoAlways, HaveNoTwoEdges, HaveNoWrites}
 use Rattle.sync_laws.proofs.Parts.{all_parts, process_parts}
 use Rattle.sync_laws.proofs.RuleParts.{AreWhole, IsGoodRule, rules_whole, whole_both, whole_none}
+use Rattle.pass_laws.proofs.Finding.{filtered_in}
 
 -- a process without rules
 abbrev pub without_rules : Process → Process
@@ -43,17 +36,8 @@ each_passes test (y ∷ xs) h x (inl e) =
 each_passes test (y ∷ xs) h x (inr i) =
     each_passes test xs (and_parts (test y) (list_all test xs) h).1 x i
 
-filter_in : {A : Type 0} (test : A → Bool) (xs : List A) (x : A) → In x (filter test xs) → In x xs
-filter_in test [] x i = i
-filter_in test (y ∷ xs) x i = by (test y) i (filter_in test xs x)
-  where
-    by : (t : Bool) → In x (if t then y ∷ filter test xs else filter test xs) → (In x (filter test xs) → In x xs) → In x (y ∷ xs)
-    by true (inl e) f = inl e
-    by true (inr j) f = inr (f j)
-    by false j f = inr (f j)
-
 pub acting_in : (rules : List SyncRule) (r : SyncRule) → In r (acting_rules rules) → In r rules
-acting_in rules r i = filter_in (λ (rule : SyncRule). has_line rule && not (is_init rule.event)) rules r i
+acting_in rules r i = (filtered_in (λ (rule : SyncRule). has_line rule && not (is_init rule.event)) rules r i).0
 
 -- rules that stand together have events of one bit
 one_bits : (rules : List SyncRule) → rules_stand rules ≡ true → Each (λ (r : SyncRule). has_one_bit r.event ≡ true) (acting_rules rules)
@@ -104,16 +88,6 @@ no_lines (r ∷ rules) h =
     ap (λ t. flat_map (λ (x : SyncRule). x.updates) (if t then r ∷ filter (λ (x : SyncRule). is_init x.event) rules else filter (λ (x : SyncRule). is_init x.event) rules)) (h r (inl refl))
     ∙ no_lines rules (λ x i. h x (inr i))
 
--- the start values that lines of a process give
-abbrev starts_by : Process → List Link → List Begun
-starts_by p lines =
-    map
-    (λ (j : Join). record {
-      bit = j.bit;
-      value = first_constant (leaves_of (expanded (root_by_rules p.root) (tree_bits p.root) j.source));
-    })
-    (all_joins lines)
-
 none_begun : (ps : List Process) → Each (λ (p : Process). Each (λ (r : SyncRule). is_init r.event ≡ false) p.syncs) ps → flat_map process_starts ps ≡ []
 none_begun [] h = refl
 none_begun (p ∷ ps) h =
@@ -126,19 +100,3 @@ cleared_begun (p ∷ ps) = cleared_begun ps
 
 pub same_starts : (m : Module) → HaveNoStarts m → flat_map process_starts m.processes ≡ flat_map process_starts (map without_rules m.processes)
 same_starts m h = none_begun m.processes h ∙ sym (cleared_begun m.processes)
-
--- rules that write nothing write no memory
-no_access : (name : List ℕ) (number : ℕ) (rules : List SyncRule) → Each (λ (r : SyncRule). r.writes ≡ []) rules → rule_accesses name number rules ≡ []
-no_access name number [] h = refl
-no_access name number (r ∷ rules) h =
-    ap (λ (lines : List WriteLine). line_accesses name r.event number [] lines ++ rule_accesses name (number + length (line_accesses name r.event number [] lines)) rules) (h r (inl refl))
-    ∙ no_access name (number + 0) rules (λ x i. h x (inr i))
-
-cleared_rules : (ps : List Process) → flat_map (λ (p : Process). p.syncs) (map without_rules ps) ≡ []
-cleared_rules [] = refl
-cleared_rules (p ∷ ps) = cleared_rules ps
-
-pub same_accesses : (m : Module) → HaveNoWrites m → SameAccesses m.processes (map without_rules m.processes)
-same_accesses m h name number =
-    no_access name number (flat_map (λ (p : Process). p.syncs) m.processes) (each_flat_map (λ (r : SyncRule). r.writes ≡ []) (λ (p : Process). p.syncs) m.processes (none_write m h))
-    ∙ sym (ap (rule_accesses name number) (cleared_rules m.processes))

@@ -1,12 +1,13 @@
 -- What the step adds, as a list of cells that have no names yet.
-use Rattle.std.proofs.Common.{◌≡◌, ℕ, ◌+◌, Bool, true, List, [], ◌∷◌, ◌++◌, length, Option, Some, None, if◌then◌else◌, refl, sym, ◌∙◌, ap, append_assoc, append-nil, arith, inl, inr}
+use Rattle.std.proofs.Common.{◌≡◌, ℕ, ◌+◌, Bool, true, List, [], ◌∷◌, ◌++◌, length, Option, Some, None, if◌then◌else◌, refl, sym, ◌∙◌, ap, append_assoc, append-nil, arith}
 use Rattle.std.specs.Prelude.{codes, flat_map, map, not}
 use Rattle.std.specs.Option.{is_some}
 use Rattle.rtl_sig.specs.declared.sig.SigBit.{SigBit}
 use Rattle.rtl_ir.specs.Build.{Building, integer_param, bits_param, made_name, new_cell, pin_of}
-use Rattle.rtl_ir.specs.Faults.MemoryCells.{constant_of}
+use Rattle.rtl_ir.specs.Signals.{constant_of}
 use Rattle.rtl_ir.specs.Flat.Process.{Trigger, edge_trigger, level_trigger}
-use Rattle.rtl_ir.specs.Follow.{Join, all_joins, joins, source_at}
+use Rattle.rtl_ir.specs.Follow.{all_joins, joins, source_at}
+use Rattle.rtl_ir.specs.declared.follow.Join.{Join}
 use Rattle.rtl_ir.specs.Rules.{acting_rules}
 use Rattle.rtl_ir.specs.declared.cell.Cell.{Cell}
 use Rattle.rtl_ir.specs.declared.cell.CellParam.{CellParam}
@@ -17,9 +18,7 @@ use Rattle.rtl_ir.specs.declared.process.Event.{Event}
 use Rattle.rtl_ir.specs.declared.process.Event.TheVariants.{Low, High, Posedge, Negedge, Edge, Global, Init, Always}
 use Rattle.rtl_ir.specs.declared.process.Process.{Process}
 use Rattle.rtl_ir.specs.declared.process.SyncRule.{SyncRule}
-use Rattle.net_model.proofs.Ranges.{each_flat_map}
-use Rattle.net_model.specs.Proc.Sync.{Class, Plain, Resets, Loads, Run, Writing, class_of, classed, clocked_params, edge_and_level, edge_cell, edge_lines, global_cell, in_turn, left_side, level_cell, level_side, lines_step, loaded_cell, one_rule, plain_lines, polarity_of, right_side, rules_step, runs_of, sync_step, two_rules, writes_step}
-use Rattle.net_model.specs.Within.{Each}
+use Rattle.net_model.specs.Proc.Sync.{Class, Plain, Resets, Loads, Run, class_of, classed, clocked_params, edge_and_level, edge_cell, edge_lines, global_cell, in_turn, left_side, level_cell, level_side, loaded_cell, one_rule, plain_lines, polarity_of, right_side, rules_step, runs_of, two_rules}
 
 -- a cell but for its name
 pub record Part : Type 0 where
@@ -235,21 +234,6 @@ rules_put (a ∷ c ∷ []) b =
     two_put (edge_trigger a.event) (edge_trigger c.event) (level_trigger a.event) (level_trigger c.event) a.updates c.updates b
 rules_put (a ∷ c ∷ d ∷ rules) b = refl
 
-processes_put : (ps : List Process) (b : Building) → in_turn (λ (p : Process). rules_step (acting_rules p.syncs)) ps b ≡ in_turn put (flat_map process_parts ps) b
+pub processes_put : (ps : List Process) (b : Building) → in_turn (λ (p : Process). rules_step (acting_rules p.syncs)) ps b ≡ in_turn put (flat_map process_parts ps) b
 processes_put ps b =
     turn_parts (λ (p : Process). rules_step (acting_rules p.syncs)) process_parts (λ p c. rules_put (acting_rules p.syncs) c) ps b
-
--- rules that write nothing add nothing
-none_written : (m : Module) (rules : List SyncRule) → Each (λ (r : SyncRule). r.writes ≡ []) rules → (w : Writing) → writes_step m rules w ≡ w
-none_written m [] h w = refl
-none_written m (r ∷ rules) h w =
-    ap (λ lines. writes_step m rules (lines_step m r.event [] lines w)) (h r (inl refl))
-    ∙ none_written m rules (λ x i. h x (inr i)) w
-
--- the step, where no rule writes
-pub step_is : (m : Module) (b : Building) → Each (λ (p : Process). Each (λ (r : SyncRule). r.writes ≡ []) p.syncs) m.processes → sync_step m b ≡ with_parts (all_parts m) b
-step_is m b h =
-    let done : Writing = record { building = in_turn (λ (p : Process). rules_step (acting_rules p.syncs)) m.processes b; numbered = [] } in
-    ap (λ (w : Writing). w.building) (none_written m (flat_map (λ (p : Process). p.syncs) m.processes) (each_flat_map (λ (r : SyncRule). r.writes ≡ []) (λ (p : Process). p.syncs) m.processes h) done)
-    ∙ processes_put m.processes b
-    ∙ put_all (all_parts m) b

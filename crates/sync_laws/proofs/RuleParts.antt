@@ -6,7 +6,8 @@ use Rattle.rtl_bits.specs.declared.bit.Bit.TheVariants.{X}
 use Rattle.rtl_sig.specs.declared.sig.WireBit.{WireBit}
 use Rattle.rtl_ir.specs.Faults.RuleKinds.{has_one_bit}
 use Rattle.rtl_ir.specs.Flat.Process.{Trigger, edge_trigger, level_trigger}
-use Rattle.rtl_ir.specs.Follow.{Join, all_joins, joins}
+use Rattle.rtl_ir.specs.Follow.{all_joins, joins}
+use Rattle.rtl_ir.specs.declared.follow.Join.{Join}
 use Rattle.rtl_ir.specs.Tree.{CaseView}
 use Rattle.rtl_ir.specs.declared.module.Link.{Link}
 use Rattle.rtl_ir.specs.declared.module.Module.{Module}
@@ -19,8 +20,8 @@ use Rattle.net_model.specs.Lists.{In}
 use Rattle.net_model.specs.Proc.Latch.{is_always}
 use Rattle.net_model.specs.Proc.Sync.{Class, Plain, Run, classed, runs_of}
 use Rattle.net_model.specs.Within.{Each, EventIn, LinkIn}
-use Rattle.proc_laws.specs.Rebuilds.{join_bits, loaded_bits, one_rule_bits, rules_bits}
-use Rattle.sync_laws.specs.Kinds.{is_edge_rule}
+use Rattle.build_laws.specs.Rebuilds.{join_bits, loaded_bits, one_rule_bits, rules_bits}
+use Rattle.proc_laws.specs.Kinds.{is_edge_rule}
 use Rattle.sync_laws.proofs.Parts.{Part, asked_class, both_parts, dlatch_part, edge_part, edge_parts, ff_part, is_left, join_class, one_parts, plain_parts, rules_parts}
 use Rattle.sync_laws.proofs.RuleSplit.{edge_one, level_one, two_split}
 use Rattle.sync_laws.proofs.Runs.{IsRun, asked_are, classed_are, classed_fit, filter_each, filter_lines, together}

@@ -11,7 +11,8 @@ use Rattle.rtl_ir.specs.Flat.Driver.{Driven}
 use Rattle.rtl_ir.specs.Flat.Place.{Path}
 use Rattle.rtl_ir.specs.Flat.Point.{point}
 use Rattle.rtl_ir.specs.Flat.Process.{Trigger, edge_row, edge_trigger, level_row, level_trigger, loaded_row, loaded_rows, no_pins, one_rule_rows, rule_row, rules_rows}
-use Rattle.rtl_ir.specs.Follow.{Join, all_joins, joins, source_at}
+use Rattle.rtl_ir.specs.Follow.{all_joins, joins, source_at}
+use Rattle.rtl_ir.specs.declared.follow.Join.{Join}
 use Rattle.rtl_ir.specs.Tree.{CaseView}
 use Rattle.rtl_ir.specs.declared.module.Link.{Link}
 use Rattle.rtl_ir.specs.declared.module.Module.{Module}
@@ -24,7 +25,7 @@ use Rattle.net_model.specs.Lists.{In}
 use Rattle.net_model.specs.Proc.Latch.{is_always}
 use Rattle.net_model.specs.Proc.Sync.{Class, Plain, Resets, Loads, Run, class_of, classed, level_side, option_list, runs_of}
 use Rattle.net_model.specs.Within.{Each}
-use Rattle.sync_laws.specs.Kinds.{is_edge_rule}
+use Rattle.proc_laws.specs.Kinds.{is_edge_rule}
 use Rattle.sync_laws.proofs.Parts.{Part, asked_class, both_parts, dlatch_part, edge_part, edge_parts, ff_part, is_left, join_class, loaded_part, one_parts, plain_parts, rules_parts}
 use Rattle.sync_laws.proofs.RuleSplit.{two_split}
 use Rattle.sync_laws.proofs.Runs.{IsRun, asked_are, classed_are, classed_fit, filter_each, filter_lines, in_line, in_run, together}

@@ -11,7 +11,8 @@ use Rattle.rtl_ir.specs.Faults.TwoEdges.{EdgeBit, edge_bit}
 use Rattle.rtl_ir.specs.Flat.Driver.{Driven}
 use Rattle.rtl_ir.specs.Flat.Place.{Path}
 use Rattle.rtl_ir.specs.Flat.Process.{Trigger, edge_trigger, level_trigger, loaded_rows, raced_rows, two_rules_rows}
-use Rattle.rtl_ir.specs.Follow.{Join, all_joins}
+use Rattle.rtl_ir.specs.Follow.{all_joins}
+use Rattle.rtl_ir.specs.declared.follow.Join.{Join}
 use Rattle.rtl_ir.specs.Tree.{CaseView}
 use Rattle.rtl_ir.specs.declared.module.Module.{Module}
 use Rattle.rtl_ir.specs.declared.process.Event.{Event}
@@ -19,8 +20,8 @@ use Rattle.rtl_ir.specs.declared.process.Event.TheVariants.{Low, High, Posedge, 
 use Rattle.rtl_ir.specs.declared.process.SyncRule.{SyncRule}
 use Rattle.rtl_ir.specs.declared.wire.Wire.{Wire}
 use Rattle.net_model.specs.Within.{EventIn}
-use Rattle.proc_laws.specs.Rebuilds.{loaded_bits, raced_bits, two_rules_bits}
-use Rattle.sync_laws.specs.Kinds.{is_edge_rule}
+use Rattle.build_laws.specs.Rebuilds.{loaded_bits, raced_bits, two_rules_bits}
+use Rattle.proc_laws.specs.Kinds.{is_edge_rule}
 use Rattle.sync_laws.proofs.Parts.{Part, both_parts, two_parts}
 use Rattle.sync_laws.proofs.StoreParts.{IsOneBit}
 

@@ -1,5 +1,5 @@
 -- Flip-flops and latches of runs fit their kinds.
-use Rattle.std.proofs.Common.{◌≡◌, ℕ, ◌%◌, ◌^◌, ◌<◌, ◌≤◌, true, false, List, [], ◌∷◌, length, None, refl, ◌∙◌, arith}
+use Rattle.std.proofs.Common.{◌≡◌, ℕ, ◌<◌, ◌≤◌, true, false, List, [], ◌∷◌, length, None, refl, arith}
 use Rattle.std.specs.Prelude.{◌==◌, nat_lt}
 use Rattle.std.proofs.lemmas.Bool.{eq-eqb, lt-ltb}
 use Rattle.cell_types.specs.declared.kind.CellKind.TheVariants.{Storage}
@@ -9,30 +9,9 @@ use Rattle.cell_types.specs.declared.storage.StorageKind.TheVariants.{Ff, Dff, A
 use Rattle.cell_types.specs.Fault.{fault_of}
 use Rattle.cell_types.specs.ParamName.{param_text}
 use Rattle.cell_types.specs.PinName.{pin_text}
-use Rattle.rtl_bits.proofs.Numbers.{bits_of_known, number_of_bits_of}
-use Rattle.rtl_bits.specs.Knowledge.{AreKnown, all_known}
-use Rattle.rtl_bits.specs.Numbers.{bits_of, number_of}
+use Rattle.rtl_bits.specs.Knowledge.{all_known}
+use Rattle.rtl_bits.specs.Numbers.{number_of}
 use Rattle.rtl_bits.specs.declared.bit.Bit.{Bit}
-use Rattle.rtl_bits.specs.declared.bit.Bit.TheVariants.{S0, S1, X, Z, M, Dash}
-use Rattle.rtl_ir.specs.Constants.{low_bits}
-
--- known bits pass the test of that
-known_test : (bits : List Bit) → AreKnown bits → all_known bits ≡ true
-known_test [] k = refl
-known_test (S0 ∷ bits) k = known_test bits k.1
-known_test (S1 ∷ bits) k = known_test bits k.1
-known_test (X ∷ bits) k = absurd k.0
-known_test (Z ∷ bits) k = absurd k.0
-known_test (M ∷ bits) k = absurd k.0
-known_test (Dash ∷ bits) k = absurd k.0
-
-pub number_known : (n : ℕ) → all_known (low_bits n 32) ≡ true
-unfolding low_bits
-number_known n = known_test (bits_of n 32) (bits_of_known n 32)
-
-pub number_is : (n : ℕ) → n ≤ 4096 → number_of (low_bits n 32) ≡ n
-unfolding low_bits
-number_is n few = let low : n % 2 ^ 32 ≡ n = omega arith in number_of_bits_of n 32 ∙ low
 
 -- a number as a parameter, of a width that a cell may have
 module _ (v : List Bit) (n : ℕ) (kv : all_known v ≡ true) (nv : number_of v ≡ n) (some : 0 < n) (few : n ≤ 4096) where

@@ -12,21 +12,22 @@ use Rattle.rtl_sig.specs.declared.sig.SigBit.TheVariants.{Fixed, Wire as OnWire}
 use Rattle.rtl_sig.specs.declared.sig.WireBit.{WireBit}
 use Rattle.rtl_ir.specs.Constants.{low_bits}
 use Rattle.rtl_ir.specs.Faults.Cells.{misfit}
-use Rattle.rtl_ir.specs.Faults.MemoryCells.{constant_of}
 use Rattle.rtl_ir.specs.Flat.Cell.{cell_kind}
 use Rattle.rtl_ir.specs.Flat.Process.{Trigger}
-use Rattle.rtl_ir.specs.Follow.{Join, source_at}
+use Rattle.rtl_ir.specs.Follow.{source_at}
+use Rattle.rtl_ir.specs.declared.follow.Join.{Join}
 use Rattle.rtl_ir.specs.Parameters.{signal_at}
-use Rattle.rtl_ir.specs.Signals.{has_constant, wire_bits}
+use Rattle.rtl_ir.specs.Signals.{has_constant, wire_bits, constant_of}
 use Rattle.rtl_ir.specs.declared.cell.Pin.{Pin}
 use Rattle.net_model.proofs.Ranges.{JoinIn, OptionIn, each_more, each_none, source_in}
 use Rattle.net_model.specs.Proc.Sync.{Class, Plain, Resets, Loads, Run, class_of, left_side, level_side, option_list, polarity_of, right_side}
 use Rattle.net_model.specs.Within.{BitIn, Each, SigIn}
 use Rattle.map_laws.specs.Expansion.{IsWhole}
-use Rattle.proc_laws.specs.Rebuilds.{join_bits}
+use Rattle.build_laws.specs.Rebuilds.{join_bits}
 use Rattle.sync_laws.proofs.Parts.{Part, adff_part, aldff_part, dff_part, dlatch_part, edge_part, ff_part, join_class, loaded_part, named}
 use Rattle.sync_laws.proofs.Runs.{IsRun}
-use Rattle.sync_laws.proofs.StoreFits.{adff_fits, aldff_fits, dff_fits, dlatch_fits, ff_fits, number_is, number_known}
+use Rattle.sync_laws.proofs.StoreFits.{adff_fits, aldff_fits, dff_fits, dlatch_fits, ff_fits}
+use Rattle.pass_laws.proofs.CellNumbers.{number_is, number_known}
 
 -- a storage cell on words, in a module of so many wires, under whatever name
 pub record IsStorePart (count : ℕ) (q : Part) : Type 0 where

@@ -17,13 +17,13 @@ use Rattle.cell_types.specs.declared.shape.Shape.{Shape}
 use Rattle.cell_types.specs.declared.storage.StorageKind.{StorageKind}
 use Rattle.cell_types.specs.declared.storage.StorageKind.TheVariants.{Ff, Dff, Adff, Aldff, Dlatch}
 use Rattle.rtl_ir.specs.Constants.{low_bits}
-use Rattle.rtl_ir.specs.Faults.MemoryCells.{constant_of}
+use Rattle.rtl_ir.specs.Signals.{constant_of}
 use Rattle.rtl_ir.specs.Flat.Cell.{cell_kind, cell_rows, cell_shape, stored_rows, stores, word_store}
 use Rattle.rtl_ir.specs.Flat.Driver.{Driven, StorePoints, Stored}
 use Rattle.rtl_ir.specs.Flat.Place.{Path, Place}
 use Rattle.rtl_ir.specs.Flat.Point.{Constant, bit_place, point, point_at, points}
 use Rattle.rtl_ir.specs.Flat.Process.{Trigger, edge_row, event_point, level_row, loaded_row, no_pins, rule_row, rule_shape}
-use Rattle.rtl_ir.specs.Follow.{Join}
+use Rattle.rtl_ir.specs.declared.follow.Join.{Join}
 use Rattle.rtl_ir.specs.declared.wire.Wire.{Wire}
 use Rattle.net_model.specs.Lists.{In}
 use Rattle.net_model.specs.Proc.Sync.{left_side, polarity_of, right_side}
@@ -31,9 +31,9 @@ use Rattle.net_model.specs.Refine.{IsMet}
 use Rattle.net_model.specs.Run.{Time, Start, Step}
 use Rattle.net_model.specs.Valuation.{Valuation}
 use Rattle.net_model.specs.Value.{pins_of}
-use Rattle.mux_laws.proofs.ValueMoment.{IsCellMet, Moment}
+use Rattle.build_laws.proofs.Moments.{IsCellMet, Moment}
 use Rattle.sync_laws.proofs.Parts.{Part, adff_part, aldff_part, dff_part, dlatch_part, ff_part, named}
-use Rattle.sync_laws.proofs.StoreFits.{number_is}
+use Rattle.pass_laws.proofs.CellNumbers.{number_is}
 
 -- the number of a level means it
 level_back : (l : Level) → (if number_of (low_bits (polarity_of l) 32) == 0 then Low else High) ≡ l

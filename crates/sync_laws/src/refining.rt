@@ -6,7 +6,7 @@ ghost use Rattle.rtl_ir.specs.Types.{table_ports};
 ghost use Rattle.net_model.specs.Proc.Sync.{proc_sync_of};
 ghost use Rattle.net_model.specs.Refine.{RefinesIn};
 ghost use Rattle.proc_laws.specs.Ready.{HaveNoStarts, IsReady};
-ghost use Rattle.sync_laws.specs.Kinds.{HaveNoAlways, HaveNoTwoEdges, HaveNoWrites};
+ghost use Rattle.proc_laws.specs.Kinds.{HaveNoAlways, HaveNoTwoEdges, HaveNoWrites};
 
 use rtl_ir::{Module, PortTable};
 
@@ -16,4 +16,12 @@ pub fn flops_refine()
     ensures refines { (table : PortTable) (m : Module) →
         IsReady with_processes (table_ports table.modules) m → HaveNoAlways m → HaveNoTwoEdges m →
         HaveNoWrites m → HaveNoStarts m → RefinesIn m (proc_sync_of m) table }
+{}
+
+/// Where no rule acts always or gives start values, and no process has two rules at edges, a module with flip-flops,
+/// latches and write ports in the place of rules loses no known output bit.
+pub fn storage_refines()
+    ensures refines { (table : PortTable) (m : Module) →
+        IsReady with_processes (table_ports table.modules) m → HaveNoAlways m → HaveNoTwoEdges m →
+        HaveNoStarts m → RefinesIn m (proc_sync_of m) table }
 {}

@@ -1,9 +1,6 @@
 -- Where no bit has two drivers, none has with gates in the places of cells.
-use Rattle.std.proofs.Common.{◌≡◌, ◌≤◌, ℕ, List, [], ◌∷◌, ◌++◌, length, Option, Some, None, Bool, true, false, if◌then◌else◌, inl, inr, ⊎_elim, refl, sym, ◌∙◌, ap, subst, append_assoc, arith}
-use Rattle.std.specs.Prelude.{filter, flat_map, map, IsPermutation}
-use Rattle.std.specs.Ordering.{int_cmp, match_ordering}
-use Rattle.std.specs.declared.cmp.Ordering.{Ordering}
-use Rattle.std.specs.declared.cmp.Ordering.TheVariants.{Less, Equal, Greater}
+use Rattle.std.proofs.Common.{◌≡◌, ◌≤◌, ℕ, List, [], ◌∷◌, ◌++◌, length, Option, Some, None, false, inl, inr, ⊎_elim, refl, sym, ◌∙◌, ap, subst, append_assoc, arith}
+use Rattle.std.specs.Prelude.{flat_map, map, IsPermutation}
 use Rattle.std.proofs.lemmas.List.{append-nil}
 use Rattle.std.proofs.lemmas.List.Sorted.{IsPermutation-append_comm, IsPermutation-append_left, IsPermutation-append_right, IsPermutation-sym, IsPermutation-trans}
 use Rattle.cell_types.specs.declared.kind.CellKind.{CellKind}
@@ -20,11 +17,10 @@ use Rattle.rtl_ir.specs.Flat.Point.{bit_place, points}
 use Rattle.rtl_ir.specs.Flat.Rows.{rows_of}
 use Rattle.rtl_ir.specs.Flat.Start.{start_of}
 use Rattle.rtl_ir.specs.Flat.Tree.{places, role_points}
-use Rattle.rtl_ir.specs.Ports.{in_number_order, is_port, line_of, place_wire, ports_of}
+use Rattle.rtl_ir.specs.Ports.{ports_of}
 use Rattle.rtl_ir.specs.declared.cell.Cell.{Cell}
 use Rattle.rtl_ir.specs.declared.module.Link.{Link}
 use Rattle.rtl_ir.specs.declared.module.Module.{Module}
-use Rattle.rtl_ir.specs.declared.ports.PortLine.{PortLine}
 use Rattle.rtl_ir.specs.declared.wire.Role.TheVariants.{Input}
 use Rattle.rtl_ir.specs.declared.wire.Wire.{Wire}
 use Rattle.net_model.proofs.Members.{Distinct-append, In-cases, In-map, In-mapped, map-append}
@@ -43,8 +39,9 @@ use Rattle.tech_map.specs.Techmap.{beside, stand_ins, taken_kind, techmap_of, wi
 use Rattle.tech_map.proofs.Drives.{all_drive}
 use Rattle.tech_map.proofs.Growing.{AreWhole, all_added, one_added, whole_next}
 use Rattle.tech_map.proofs.ByKind.{bits_are, mapped, taken_is}
-use Rattle.tech_map.proofs.OldSpots.{cells_kept, links_kept, memories_kept}
+use Rattle.build_laws.proofs.RebuildSpots.{cells_kept, links_kept, memories_kept}
 use Rattle.tech_map.proofs.Standing.{IsTakable, cells_after, fresh, grown, lines_more, new_rows, of_memories, old_rows, swapped, swapped_children, swapped_is, swapped_ports}
+use Rattle.build_laws.proofs.RebuildBits.{port_name}
 
 placed_more : (xs ys : List Driven) → places_of (xs ++ ys) ≡ places_of xs ++ places_of ys
 placed_more xs ys = map-append (λ (row : Driven). row.place) xs ys
@@ -62,36 +59,6 @@ all_rising (c ∷ cs) b whole =
     let next : Building = with_gates (taken_kind c) c b in
     subst (AreRising b.next (with_all_gates cs next).next) (sym (map-append (λ (w : Wire). w.name) (one_added wires_added (taken_kind c) c b) (all_added wires_added cs next)))
     (rising_more b.next next.next (with_all_gates cs next).next _ _ (one_rising c b (whole c (inl refl)) (taken_kind c) refl) (all_rising cs next (whole_next c cs b whole)))
-
--- a port of a module has the name of one of its wires
-module _ where
-  ordered : (w v : Wire) (ws : List Wire) → In w (place_wire v ws) → In w (v ∷ ws)
-  ordered w v [] i = i
-  ordered w v (u ∷ ws) i = by (ordered w v ws) (int_cmp v.number u.number) i
-    where
-      by : (In w (place_wire v ws) → In w (v ∷ ws)) → (o : Ordering) → In w (match_ordering o (v ∷ u ∷ ws) (v ∷ u ∷ ws) (u ∷ place_wire v ws)) → In w (v ∷ u ∷ ws)
-      by later Less j = j
-      by later Equal j = j
-      by later Greater (inl e) = inr (inl e)
-      by later Greater (inr j) = ⊎_elim (λ l. inl l) (λ r. inr (inr r)) (later j)
-
-  in_order : (w : Wire) (ws : List Wire) → In w (in_number_order ws) → In w ws
-  in_order w [] i = i
-  in_order w (v ∷ ws) i = ⊎_elim (λ l. inl l) (λ r. inr (in_order w ws r)) (ordered w v (in_number_order ws) i)
-
-  filtered : (w : Wire) (ws : List Wire) → In w (filter (λ (v : Wire). is_port v.role) ws) → In w ws
-  filtered w [] i = i
-  filtered w (v ∷ ws) i = by (filtered w ws) (is_port v.role) i
-    where
-      by : (In w (filter (λ (u : Wire). is_port u.role) ws) → In w ws) → (t : Bool) → In w (if t then v ∷ filter (λ (u : Wire). is_port u.role) ws else filter (λ (u : Wire). is_port u.role) ws) → In w (v ∷ ws)
-      by later true (inl e) = inl e
-      by later true (inr j) = inr (later j)
-      by later false j = inr (later j)
-
-  port_name : (ws : List Wire) (n : PortLine) → In n (ports_of ws) → In n.name (names_of ws)
-  port_name ws n i =
-      let k = In-mapped line_of n (in_number_order (filter (λ (v : Wire). is_port v.role) ws)) i in
-      subst (λ name. In name (names_of ws)) (sym (ap (λ (l : PortLine). l.name) k.2)) (In-map (λ (w : Wire). w.name) k.0 ws (filtered k.0 ws (in_order k.0 _ k.1)))
 
 module _ (start : SigBit → Bit) (ports : Ports) (p : Path) (wires : List Wire) where
   -- what a cell and a connection drive

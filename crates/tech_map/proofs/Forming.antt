@@ -1,44 +1,37 @@
 -- The module with gates in the places of cells may be given to the next pass.
-use Rattle.std.proofs.Common.{◌≡◌, ◌≤◌, ◌<◌, ℕ, ◌+◌, Bool, true, false, List, [], ◌∷◌, ◌++◌, length, Option, Some, None, inl, inr, refl, sym, ◌∙◌, ap, subst, arith, length-append}
-use Rattle.std.specs.Prelude.{flat_map, int_lt, map, pos, ℤ, ◌&&◌, ◌||◌, not, IsPermutation}
-use Rattle.std.specs.List.{list_any}
-use Rattle.std.specs.Ordering.{int_eq}
+use Rattle.std.proofs.Common.{◌≡◌, ◌≤◌, ◌<◌, ℕ, ◌+◌, false, List, [], ◌∷◌, ◌++◌, length, Option, Some, None, inl, inr, refl, sym, ◌∙◌, ap, subst, arith, length-append}
+use Rattle.std.specs.Prelude.{map, IsPermutation}
 use Rattle.cell_types.specs.declared.kind.CellKind.{CellKind}
 use Rattle.rtl_sig.specs.declared.sig.WireBit.{WireBit}
 use Rattle.rtl_ir.specs.Build.{Building, building_of}
 use Rattle.rtl_ir.specs.Drivers.{drive_count, drives_of, port_drives}
-use Rattle.rtl_ir.specs.Fault.{BadPort, Fault, Spot, UnsupportedCell, fault_if, spot}
-use Rattle.rtl_ir.specs.Faults.{module_faults}
 use Rattle.rtl_ir.specs.Faults.Bits.{bits_faults}
-use Rattle.rtl_ir.specs.Faults.Cells.{cell_faults, faults_by_type, is_memory_kind, memory_faults, misfit, output_faults, shape_fault}
-use Rattle.rtl_ir.specs.Faults.Links.{link_faults}
+use Rattle.rtl_ir.specs.Faults.Cells.{cell_faults, is_memory_kind}
 use Rattle.rtl_ir.specs.Faults.Processes.{process_faults}
-use Rattle.rtl_ir.specs.Faults.Stores.{store_faults}
-use Rattle.rtl_ir.specs.Faults.Wires.{is_bad_port, is_inout, wire_faults, with_number}
 use Rattle.rtl_ir.specs.Flat.Cell.{cell_kind}
-use Rattle.rtl_ir.specs.Ports.{is_port}
 use Rattle.rtl_ir.specs.Scope.{without_processes}
-use Rattle.rtl_ir.specs.Types.{CellType, Instance, Library, Ports, Unknown, Unsupported, cell_type}
+use Rattle.rtl_ir.specs.Types.{Ports, cell_type}
 use Rattle.rtl_ir.specs.declared.cell.Cell.{Cell}
 use Rattle.rtl_ir.specs.declared.module.Module.{Module}
-use Rattle.rtl_ir.specs.declared.wire.Role.{Role}
 use Rattle.rtl_ir.specs.declared.wire.Wire.{Wire}
 use Rattle.net_model.proofs.Members.{Distinct-append, map-append}
 use Rattle.net_model.specs.Lists.{Distinct, In}
-use Rattle.net_model.specs.Within.{AreInner, CellIn, Each, LinkIn}
+use Rattle.net_model.specs.Within.{CellIn, Each, LinkIn}
 use Rattle.map_laws.specs.Expansion.{IsWhole, IsWholeCell, IsWholeGate, IsWholeLink, bits_from, cell_bits, link_bits, links_added, wires_added}
 use Rattle.map_laws.proofs.FreshWires.{names_of}
 use Rattle.map_laws.proofs.Wholes.{cell_more, gate_more, line_more, link_more}
 use Rattle.pass_laws.proofs.Accesses.{accesses_stay, none_there}
 use Rattle.pass_laws.proofs.Alone.{IsSound, faultless_sound, library_faultless, no_link_faults, shape_of}
 use Rattle.pass_laws.proofs.Counting.{bits_of, count, count_more, driven_count, links_more}
-use Rattle.pass_laws.proofs.Faultless.{HasNoFaults, IsPlain, no_faults, none_left, none_right, plain, type_is}
+use Rattle.pass_laws.proofs.Faultless.{HasNoFaults, IsPlain, no_faults, plain, type_is}
 use Rattle.pass_laws.proofs.Forming.{all_none, own_accesses, own_cells, own_links}
 use Rattle.pass_laws.specs.Bits.{cells_bits, links_bits, pin_bits}
 use Rattle.pass_laws.specs.Ready.{IsReady}
 use Rattle.pass_laws.specs.Replaces.{IsEven}
 use Rattle.tech_map.specs.Techmap.{beside, stand_in, stand_ins, taken_kind, techmap_of, with_all_gates, with_gates}
-use Rattle.tech_map.proofs.Counts.{cells_below, count-permutation, count_beyond, faults_split, fewer_first, fresh_below, fresh_once, links_below, none_from, ports_below, ports_further}
+use Rattle.build_laws.proofs.CountingBits.{cells_below, count_beyond, fresh_below, fresh_once, links_below, no_two, ports_below}
+use Rattle.pass_laws.proofs.Widening.{more_drives, more_faults}
+use Rattle.tech_map.proofs.Counts.{count-permutation}
 use Rattle.tech_map.proofs.Drives.{all_drive, gate_plain}
 use Rattle.tech_map.proofs.Driving.{fresh_distinct, names_apart}
 use Rattle.tech_map.proofs.Growing.{AreWhole, all_add, all_added, one_added, whole_next}
@@ -107,22 +100,6 @@ all_lines n (c ∷ cs) b whole few =
     (one_line n c b (whole c (inl refl)) (taken_kind c) refl (omega (arith, wires_later (λ name. None) cs next later, few)))
     (all_lines n cs next later few)
 
--- wires that are no ports have no faults
-inner_faults : (id : List ℕ) (numbers : List ℤ) (fs : List Wire) → AreInner fs → wire_faults id numbers fs ≡ []
-inner_faults id numbers [] h = refl
-inner_faults id numbers (f ∷ fs) h =
-    let good : is_bad_port numbers f ≡ false = ap (λ (r : Role). is_inout r || (is_port r && (int_lt f.number (pos 1) || list_any (int_eq f.number) numbers))) (h f (inl refl)) in
-    ap (λ t. fault_if t (BadPort (spot id f.name)) ++ wire_faults id (with_number numbers f) fs) good
-    ∙ inner_faults id (with_number numbers f) fs (λ w i. h w (inr i))
-
-further_faults : (id : List ℕ) (numbers : List ℤ) (ws fs : List Wire) → AreInner fs → wire_faults id numbers ws ≡ [] → wire_faults id numbers (ws ++ fs) ≡ []
-further_faults id numbers [] fs h e = inner_faults id numbers fs h
-further_faults id numbers (w ∷ ws) fs h e =
-    let here : List Fault = fault_if (is_bad_port numbers w) (BadPort (spot id w.name)) in
-    let a : here ≡ [] = none_left here (wire_faults id (with_number numbers w) ws) e in
-    let b : wire_faults id (with_number numbers w) (ws ++ fs) ≡ [] = further_faults id (with_number numbers w) ws fs h (none_right here (wire_faults id (with_number numbers w) ws) e) in
-    λ i. a i ++ b i
-
 module _ (ports : Ports) (m : Module) (ready : IsReady ports m) where
   abbrev pub fine : IsTakable m
   fine = takable ports m ready
@@ -182,7 +159,7 @@ module _ (ports : Ports) (m : Module) (ready : IsReady ports m) where
   driven b =
       let before = driven_count ports m fine.processes (own_links ports m ready) b in
       let after = driven_count ports new fine.processes links_even b in
-      let p : count b (bits_of (port_drives 0 new.wires)) ≡ count b (bits_of (port_drives 0 m.wires)) = ap (λ z. count b (bits_of z)) (ports_further 0 m.wires (fresh m fine) (inner m fine)) in
+      let p : count b (bits_of (port_drives 0 new.wires)) ≡ count b (bits_of (port_drives 0 m.wires)) = ap (λ z. count b (bits_of z)) (more_drives 0 m.wires (fresh m fine) (inner m fine)) in
       let cells : List WireBit = cells_bits ports new.cells in
       let more : List WireBit = links_bits (lines_more m fine) in
       let l : count b (links_bits new.links) ≡ count b (links_bits m.links) + count b more = ap (count b) (links_more m.links (lines_more m fine)) ∙ count_more b (links_bits m.links) more in
@@ -214,14 +191,12 @@ module _ (ports : Ports) (m : Module) (ready : IsReady ports m) where
 
   no_bits : bits_faults m.id (drives_of ports new) 0 new.wires ≡ []
   no_bits =
-      let first : bits_faults m.id (drives_of ports new) 0 m.wires ≡ [] = fewer_first m.id (drives_of ports new) (drives_of ports m) (length m.wires) old_only 0 m.wires (omega arith) none.bits in
-      let last : bits_faults m.id (drives_of ports new) (0 + length m.wires) (fresh m fine) ≡ [] = none_from m.id (drives_of ports new) (length m.wires) (0 + length m.wires) (fresh m fine) (omega arith) fresh_only in
-      faults_split m.id (drives_of ports new) 0 m.wires (fresh m fine) ∙ (λ i. first i ++ last i)
+      no_two m.id (drives_of ports new) (drives_of ports m) (length m.wires) old_only m.wires (fresh m fine) refl fresh_only none.bits
 
   swap_ready : (beside m).next ≤ 1000000000 → IsReady ports new
   swap_ready names = record {
     faultless =
-        all_none (further_faults m.id [] m.wires (fresh m fine) (inner m fine) none.wires) none.stores no_cells
+        all_none (more_faults m.id [] m.wires (fresh m fine) (inner m fine) ∙ none.wires) none.stores no_cells
         (ap (process_faults without_processes ports new []) fine.processes)
         (no_link_faults m.id 1 new.links links_even) no_bits;
     named =

@@ -8,7 +8,7 @@ use Rattle.net_index.specs.Builder.{PassesLimit}
 use Rattle.net_model.specs.Within.{Each}
 use Rattle.map_laws.specs.Expansion.{Adds, IsWholeCell, cells_added, links_added, wires_added}
 use Rattle.map_laws.proofs.Expanding.{adds_more, adds_none, wires_count}
-use Rattle.map_laws.proofs.Expanding as adding
+use Rattle.gate_nets.proofs.LimitsKept as limits
 use Rattle.map_laws.proofs.Wholes.{whole_more}
 use Rattle.tech_map.specs.InPlace.{count_of, counts_of}
 use Rattle.tech_map.specs.Techmap.{taken_kind, with_all_gates, with_gates}
@@ -55,7 +55,7 @@ all_add (c ∷ cs) b whole =
 
 -- where a module passes a limit, it does with the gates of further cells
 pub over_later : (cs : List Cell) (b : Building) → AreWhole cs b → PassesLimit b → PassesLimit (with_all_gates cs b)
-over_later cs b whole = adding.over_later b (with_all_gates cs b) _ _ _ (all_add cs b whole)
+over_later cs b whole = limits.over_later b (with_all_gates cs b) _ _ _ (all_add cs b whole)
 
 -- the same of the cells that are left, of which the first comes next
 module _ (left later : List Cell) (c : Cell) (b : Building) (next : left ≡ c ∷ later) where

@@ -7,7 +7,6 @@ pub mod Placing
 pub mod Drives
 pub mod Remembering
 pub mod Standing
-pub mod OldSpots
 pub mod Driving
 pub mod Counts
 pub mod Forming

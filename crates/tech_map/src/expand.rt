@@ -6,9 +6,9 @@ ghost use Rattle.net_index.specs.Builder.{IsInLimits, PassesLimit};
 ghost use Rattle.tech_map.specs.Techmap.{expand_by_kind};
 
 use cell_types::{ArithKind, CellKind, Shape, UnaryKind, WordKind};
-use net_index::{Builder, PassFault, cell_shape};
+use net_index::{Builder, PassFault};
 use rtl_bits::Memory;
-use rtl_ir::Cell;
+use rtl_ir::{Cell, cell_shape};
 use std::alloc::Global;
 
 /// The gates of a cell of this kind go last, by the map of the kind. After an error the builder holds some

@@ -61,7 +61,8 @@ fn put_one(
     gates: &mut VecDeque<Cell>,
     all: &mut Vec<Cell>,
 ) -> Result<(), Memory>
-    ensures all { OnOk result (all.new.items ≡ all.old.items ++ first_of (taken_kind cell) cell counts.old.items gates.old.items) }
+    ensures all { OnOk result (all.new.items ≡
+        all.old.items ++ first_of (taken_kind cell) cell counts.old.items gates.old.items) }
     ensures counts { OnOk result (counts.new.items ≡ counts_after (taken_kind cell) counts.old.items) }
     ensures gates { OnOk result (gates.new.items ≡ rest_of (taken_kind cell) counts.old.items gates.old.items) }
 {

@@ -7,19 +7,18 @@ mod limits;
 mod taken;
 
 ghost use Rattle.std.specs.Prelude.{◌≡◌, ◌++◌, ◌∷◌, [], Err, OnOk, IfOk, length};
-ghost use Rattle.rtl_ir.specs.Flat.Cell.{Ports, cell_shape, instances};
-ghost use Rattle.rtl_ir.specs.Ports.{ports_of};
 ghost use Rattle.rtl_ir.specs.Types.{table_ports};
 ghost use Rattle.net_index.specs.Builder.{IsInLimits, PassesLimit};
-ghost use Rattle.net_model.specs.Refine.{IsWellDriven, RefinesIn};
 ghost use Rattle.net_model.specs.Within.{Each};
+ghost use Rattle.pass_laws.specs.Pass.{IsPass, StaysDriven};
 ghost use Rattle.pass_laws.specs.Ready.{IsReady};
 ghost use Rattle.pass_laws.specs.Replaces.{IsOutside};
 ghost use Rattle.pass_laws.specs.Stays.{StaysFaultless};
 ghost use Rattle.map_laws.specs.Expansion.{IsWholeCell};
 ghost use Rattle.tech_map.specs.Gates.{HasGatesAlone};
 ghost use Rattle.tech_map.specs.InPlace.{count_of, counts_of};
-ghost use Rattle.tech_map.specs.Techmap.{TechmapPassesLimit, beside, taken_kind, techmap_of, with_all_gates, with_gates};
+ghost use Rattle.tech_map.specs.Techmap.{TechmapPassesLimit, beside, taken_kind, techmap_of};
+ghost use Rattle.tech_map.specs.Techmap.{with_all_gates, with_gates};
 
 use crate::expand::expand_by_kind;
 use crate::in_place::with_gates_in_place;
@@ -37,35 +36,27 @@ pub fn apply(alloc: Global, module: &Module, ports: &PortTable) -> Result<Module
     ensures exact { IfOk result (λ after. after ≡ techmap_of «module».now) }
     ensures over { result ≡ Err PassFault.Over → TechmapPassesLimit «module».now }
     ensures within { OnOk result (IsInLimits (beside «module».now)) }
-    ensures refines { IfOk result (λ after. RefinesIn «module».now after ports.now) }
-    ensures well_driven { IfOk result (λ after. (ports : Ports) → IsWellDriven ports «module».now → IsWellDriven ports after) }
-    ensures well_formed { IfOk result (IsReady (table_ports ports.now.modules)) }
+    ensures pass { IfOk result (IsPass ports.now «module».now) }
+    ensures driven { IfOk result (StaysDriven «module».now) }
     ensures faultless { IfOk result (StaysFaultless «module».now) }
     // Where no cell is one of a memory, the answer has gates and instances alone.
     ensures gates { IfOk result (λ after. Each IsOutside «module».now.cells → HasGatesAlone after) }
-    ensures same_id { IfOk result (λ after. after.id ≡ «module».now.id) }
-    ensures same_ports { IfOk result (λ after. ports_of after.wires ≡ ports_of «module».now.wires) }
-    ensures same_instances { IfOk result (λ after. instances after.cells ≡ instances «module».now.cells) }
 {
     apply_owned(alloc, module.copy()?, ports)
 }
 
-/// The same of a module that is given away: only its cells are copied, and each copy is let go as soon as
-/// its gates are there.
+/// As `apply`, of a module that is given away: only its cells are copied, and each copy is let go as soon as its gates
+/// are there.
 pub fn apply_owned(alloc: Global, module: Module, ports: &PortTable) -> Result<Module, PassFault>
     requires ready { IsReady (table_ports ports.now.modules) «module» }
     ensures exact { IfOk result (λ after. after ≡ techmap_of «module») }
     ensures over { result ≡ Err PassFault.Over → TechmapPassesLimit «module» }
     ensures within { OnOk result (IsInLimits (beside «module»)) }
-    ensures refines { IfOk result (λ after. RefinesIn «module» after ports.now) }
-    ensures well_driven { IfOk result (λ after. (ports : Ports) → IsWellDriven ports «module» → IsWellDriven ports after) }
-    ensures well_formed { IfOk result (IsReady (table_ports ports.now.modules)) }
+    ensures pass { IfOk result (IsPass ports.now «module») }
+    ensures driven { IfOk result (StaysDriven «module») }
     ensures faultless { IfOk result (StaysFaultless «module») }
     // Where no cell is one of a memory, the answer has gates and instances alone.
     ensures gates { IfOk result (λ after. Each IsOutside «module».cells → HasGatesAlone after) }
-    ensures same_id { IfOk result (λ after. after.id ≡ «module».id) }
-    ensures same_ports { IfOk result (λ after. ports_of after.wires ≡ ports_of «module».wires) }
-    ensures same_instances { IfOk result (λ after. instances after.cells ≡ instances «module».cells) }
 {
     mapped(alloc, module)
 }
@@ -115,7 +106,8 @@ fn add_gates_of(
     counts: &mut Vec<usize>,
 ) -> Result<(), PassFault>
     ensures exact { OnOk result (builder.new ≡ with_gates (taken_kind cell.now) cell.now builder.old) }
-    ensures counts { OnOk result (counts.new.items ≡ counts.old.items ++ count_of (taken_kind cell.now) cell.now builder.old) }
+    ensures counts { OnOk result (counts.new.items ≡
+        counts.old.items ++ count_of (taken_kind cell.now) cell.now builder.old) }
     ensures over { result ≡ Err PassFault.Over → PassesLimit (with_gates (taken_kind cell.now) cell.now builder.old) }
     ensures within { IsInLimits builder.old → OnOk result (IsInLimits builder.new) }
 {

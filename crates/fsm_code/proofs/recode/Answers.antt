@@ -4,7 +4,7 @@ use Rattle.rtl_ir.specs.Ports.{ports_of}
 use Rattle.rtl_ir.specs.Types.{table_ports}
 use Rattle.net_model.specs.Refine.{IsWellDriven, RefinesIn}
 use Rattle.pass_laws.specs.Ready.{IsReady}
-use Rattle.fsm_found.specs.Inside.{DrivesInside}
+use Rattle.fsm_laws.specs.Inside.{DrivesInside}
 use Rattle.fsm_code.specs.Machines.{IsMachineOf}
 use Rattle.fsm_code.proofs.Giving.{answer_gives}
 use Rattle.fsm_code.proofs.recode.Goals as goal

@@ -12,11 +12,8 @@ returns c =
       exact = c.replace_memory.ensures.exact;
       over = c.replace_memory.ensures.over;
       within = c.replace_memory.ensures.within;
-      refines = IfOk-weaker r _ _ (λ after is. is.refines) all;
-      well_driven = IfOk-weaker r _ _ (λ after is. is.driven) all;
-      well_formed = IfOk-weaker r _ _ (λ after is. is.ready) all;
+      kept = IfOk-weaker r _ _ (λ after is. is.kept) all;
+      pass = IfOk-weaker r _ _ (λ after is. is.pass) all;
+      driven = IfOk-weaker r _ _ (λ after is. is.driven) all;
       named = IfOk-weaker r _ _ (λ after is. is.named) all;
-      same_id = IfOk-weaker r _ _ (λ after is. is.id) all;
-      same_ports = IfOk-weaker r _ _ (λ after is. is.ports) all;
-      same_instances = IfOk-weaker r _ _ (λ after is. is.instances) all;
     }

@@ -1,33 +1,27 @@
-use Rattle.std.proofs.Common.{refl}
-use Rattle.mem_steps.proofs.Giving as giving
+use Rattle.std.proofs.Common.{◌≡◌, [], false}
+use Rattle.std.proofs.lemmas.Result.{IfOk-weaker}
+use Rattle.rtl_ir.specs.Flat.Cell.{cell_kind}
+use Rattle.rtl_ir.specs.declared.cell.Cell.{Cell}
+use Rattle.rtl_ir.specs.declared.module.Module.{Module}
+use Rattle.net_model.specs.Mem.Expand.{is_memory_kind}
+use Rattle.net_model.specs.Within.{Each}
+use Rattle.pass_laws.specs.Pass.{IsPass, StaysDriven}
+use Rattle.mem_steps.proofs.Giving.{Gives, answer_gives, answered, passed}
 use Rattle.mem_steps.proofs.apply.Goals as goal
 
-pub returns-clause-over : goal.returns-clause-over
-returns-clause-over c = λ e. giving.passed c.args.module c.args.module refl (c.each_memory.ensures.over e)
-
-pub returns-clause-within : goal.returns-clause-within
-returns-clause-within c = giving.answered c.args.module c.args.module refl c.each_memory.result c.each_memory.ensures.exact c.each_memory.ensures.within
-
-pub returns-clause-refines : goal.returns-clause-refines
-returns-clause-refines c = giving.refines c.args.ports.now c.args.module c.requires.ready c.requires.named c.args.module refl c.each_memory.result c.each_memory.ensures.exact c.each_memory.ensures.within
-
-pub returns-clause-well_driven : goal.returns-clause-well_driven
-returns-clause-well_driven c = giving.well_driven c.args.ports.now c.args.module c.requires.ready c.requires.named c.args.module refl c.each_memory.result c.each_memory.ensures.exact c.each_memory.ensures.within
-
-pub returns-clause-well_formed : goal.returns-clause-well_formed
-returns-clause-well_formed c = giving.well_formed c.args.ports.now c.args.module c.requires.ready c.requires.named c.args.module refl c.each_memory.result c.each_memory.ensures.exact c.each_memory.ensures.within
-
-pub returns-clause-same_id : goal.returns-clause-same_id
-returns-clause-same_id c = giving.same_id c.args.ports.now c.args.module c.requires.ready c.requires.named c.args.module refl c.each_memory.result c.each_memory.ensures.exact c.each_memory.ensures.within
-
-pub returns-clause-same_ports : goal.returns-clause-same_ports
-returns-clause-same_ports c = giving.same_ports c.args.ports.now c.args.module c.requires.ready c.requires.named c.args.module refl c.each_memory.result c.each_memory.ensures.exact c.each_memory.ensures.within
-
-pub returns-clause-same_instances : goal.returns-clause-same_instances
-returns-clause-same_instances c = giving.same_instances c.args.ports.now c.args.module c.requires.ready c.requires.named c.args.module refl c.each_memory.result c.each_memory.ensures.exact c.each_memory.ensures.within
-
-pub returns-clause-memories_gone : goal.returns-clause-memories_gone
-returns-clause-memories_gone c = giving.memories_gone c.args.ports.now c.args.module c.requires.ready c.requires.named c.args.module refl c.each_memory.result c.each_memory.ensures.exact c.each_memory.ensures.within
-
-pub returns-clause-cells_gone : goal.returns-clause-cells_gone
-returns-clause-cells_gone c = giving.cells_gone c.args.ports.now c.args.module c.requires.ready c.requires.named c.args.module refl c.each_memory.result c.each_memory.ensures.exact c.each_memory.ensures.within
+pub returns : goal.returns
+returns c =
+    let m = c.args.module in
+    let table = c.args.ports.now in
+    let r = c.each_memory.result in
+    let within = answered m r c.each_memory.ensures.exact c.each_memory.ensures.within in
+    let gives = answer_gives table m c.requires.ready c.requires.named r within in
+    record {
+      exact = c.each_memory.ensures.exact;
+      over = λ e. passed m (c.each_memory.ensures.over e);
+      within = within;
+      pass = IfOk-weaker r (Gives table m) (IsPass table m) (λ n g. g.pass) gives;
+      driven = IfOk-weaker r (Gives table m) (StaysDriven m) (λ n g. g.driven) gives;
+      memories_gone = IfOk-weaker r (Gives table m) (λ (n : Module). n.memories ≡ []) (λ n g. g.memories) gives;
+      cells_gone = IfOk-weaker r (Gives table m) (λ (n : Module). Each (λ (k : Cell). is_memory_kind (cell_kind k) ≡ false) n.cells) (λ n g. g.cells) gives;
+    }

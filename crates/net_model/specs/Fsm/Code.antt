@@ -20,12 +20,11 @@ use Rattle.rtl_ir.specs.declared.machine.Machine.{Machine}
 use Rattle.rtl_ir.specs.declared.module.Module.{Module}
 use Rattle.rtl_ir.specs.declared.value.Attribute.{Attribute}
 use Rattle.rtl_ir.specs.declared.wire.Wire.{Wire}
-use Rattle.rtl_ir.specs.Faults.MemoryCells.{constant_of}
+use Rattle.rtl_ir.specs.Signals.{constant_of, same_signal}
 use Rattle.rtl_ir.specs.Flat.Cell.{cell_kind}
 use Rattle.rtl_ir.specs.Follow.{follow}
 use Rattle.rtl_ir.specs.Parameters.{given_params}
 use Rattle.rtl_ir.specs.Types.{Ports}
-use Rattle.rtl_ir.specs.WritePorts.{same_signal}
 use Rattle.rtl_ir.specs.Build.{Building, Build, building_of, integer_param, bits_param, pin_of, fresh_wire, new_link}
 use Rattle.net_model.specs.Fsm.Find.{at_pin, arms_of, is_state_constant, whole_wire, has_place, machine_of}
 use Rattle.net_model.specs.Proc.Start.{init_attribute}

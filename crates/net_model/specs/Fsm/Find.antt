@@ -4,7 +4,6 @@ use Rattle.std.specs.List.{list_any, list_all, range_with_len}
 use Rattle.std.specs.Option.{option_map_or}
 use Rattle.std.specs.Str.{bytes_eq}
 use Rattle.rtl_bits.specs.declared.bit.Bit.{Bit}
-use Rattle.rtl_bits.specs.declared.bit.Bit.TheVariants.{S0}
 use Rattle.rtl_bits.specs.Knowledge.{is_known, all_known}
 use Rattle.rtl_bits.specs.Numbers.{number_of}
 use Rattle.rtl_sig.specs.declared.sig.SigBit.{SigBit}
@@ -29,20 +28,15 @@ use Rattle.rtl_ir.specs.declared.value.Attribute.{Attribute}
 use Rattle.rtl_ir.specs.declared.value.Value.{Value}
 use Rattle.rtl_ir.specs.declared.value.Value.TheVariants.{Bits, Int, Chars}
 use Rattle.rtl_ir.specs.declared.wire.Wire.{Wire}
-use Rattle.rtl_ir.specs.Faults.MemoryCells.{constant_of}
 use Rattle.rtl_ir.specs.Flat.Cell.{cell_kind}
-use Rattle.rtl_ir.specs.Flat.Start.{attribute_bits, start_of}
+use Rattle.rtl_ir.specs.Flat.Start.{start_of}
+use Rattle.rtl_ir.specs.Attributes.{is_kept}
 use Rattle.rtl_ir.specs.Follow.{follow}
 use Rattle.rtl_ir.specs.Outputs.{drives_pin, is_output}
 use Rattle.rtl_ir.specs.Parameters.{given_params, signal_at}
 use Rattle.rtl_ir.specs.Ports.{is_port}
-use Rattle.rtl_ir.specs.Signals.{has_bit, wire_bits, bits_of_wire, is_all_constant}
+use Rattle.rtl_ir.specs.Signals.{has_bit, wire_bits, bits_of_wire, is_all_constant, constant_of, same_signal}
 use Rattle.rtl_ir.specs.Types.{Ports, cell_type}
-use Rattle.rtl_ir.specs.WritePorts.{same_signal, same_value}
-
--- a wire has a nonzero `\keep`: one of its bits is not 0
-abbrev pub is_kept : List Attribute → Bool
-is_kept attributes = list_any (λ b. not (same_value S0 b)) (attribute_bits attributes (codes "\\keep"))
 
 -- a constant is one of these strings
 abbrev pub is_text : List (List ℕ) → Value → Bool

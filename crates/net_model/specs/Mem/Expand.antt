@@ -14,8 +14,9 @@ use Rattle.rtl_ir.specs.declared.plan.ReadPort.{ReadPort}
 use Rattle.rtl_ir.specs.declared.plan.WritePort.{WritePort}
 use Rattle.rtl_ir.specs.declared.store.Store.{Store}
 use Rattle.rtl_ir.specs.Flat.Cell.{cell_kind}
-use Rattle.rtl_ir.specs.WritePorts.{is_of_memory, same_place}
-use Rattle.rtl_ir.specs.Build.{Building, Build, building_of, integer_param, pin_of, fresh_wire, new_driver, new_cell, new_link}
+use Rattle.rtl_ir.specs.WritePorts.{is_of_memory}
+use Rattle.rtl_ir.specs.Signals.{same_place}
+use Rattle.rtl_ir.specs.Build.{Building, Build, building_of, first_number, integer_param, pin_of, fresh_wire, new_driver, new_cell, new_link}
 use Rattle.net_model.specs.Proc.Start.{init_attribute}
 use Rattle.net_model.specs.Mem.Gather.{gathered}
 
@@ -172,6 +173,10 @@ without_memory at s m = record m {
   memories = take at m.memories ++ drop (at + 1) m.memories;
   cells = filter (λ (c : Cell). not (is_memory_kind (cell_kind c) && is_of_memory s.name c)) m.cells;
 }
+
+-- the module without a memory and its cells, as it is added to: fresh names go on from those of the whole module
+abbrev pub building_without : ℕ → Store → Module → Building
+building_without at s m = record { body = without_memory at s m; next = first_number m }
 
 -- the module after one memory, of the plan that is gathered for it
 abbrev pub expanded_memory : Module → MemPlan → Store → Module

@@ -12,10 +12,10 @@ use Rattle.rtl_ir.specs.declared.module.Link.{Link}
 use Rattle.rtl_ir.specs.declared.module.Module.{Module}
 use Rattle.rtl_ir.specs.declared.process.Process.{Process}
 use Rattle.rtl_ir.specs.Assigns.{cases_assigns, case_assigns, tree_bits, assigned}
-use Rattle.rtl_ir.specs.Follow.{Join, joins}
-use Rattle.rtl_ir.specs.Signals.{same_bit}
+use Rattle.rtl_ir.specs.Follow.{joins}
+use Rattle.rtl_ir.specs.declared.follow.Join.{Join}
+use Rattle.rtl_ir.specs.Signals.{same_bit, same_signal}
 use Rattle.rtl_ir.specs.Tree.{Switches, NoSwitch, OneSwitch, Cases, NoCase, OneCase, CaseView}
-use Rattle.rtl_ir.specs.WritePorts.{same_signal}
 use Rattle.rtl_ir.specs.Build.{Building, Build, building_of, integer_param, pin_of, new_driver, new_link}
 
 -- a bit of a wire before another, by wire and place

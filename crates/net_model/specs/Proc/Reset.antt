@@ -19,7 +19,8 @@ use Rattle.rtl_ir.specs.Assigns.{case_assigns, tree_bits}
 use Rattle.rtl_ir.specs.Decisions.{expanded, leaves_of}
 use Rattle.rtl_ir.specs.EventTests.{switch_test}
 use Rattle.rtl_ir.specs.Faults.TwoEdges.{SwitchTest, cases_patterns, takes_bit, tested_bit, decided, are_one_constant, are_all, EdgeBit, edge_bit, is_tested}
-use Rattle.rtl_ir.specs.Follow.{Join, joins, all_joins}
+use Rattle.rtl_ir.specs.Follow.{joins, all_joins}
+use Rattle.rtl_ir.specs.declared.follow.Join.{Join}
 use Rattle.rtl_ir.specs.Outputs.{drives_pin, is_output}
 use Rattle.rtl_ir.specs.Rules.{has_line, acting_rules}
 use Rattle.rtl_ir.specs.Signals.{same_bit, has_bit, wire_bits, bits_of_wire}

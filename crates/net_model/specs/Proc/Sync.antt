@@ -17,10 +17,11 @@ use Rattle.rtl_ir.specs.declared.process.SyncRule.{SyncRule}
 use Rattle.rtl_ir.specs.declared.process.WriteLine.{WriteLine}
 use Rattle.rtl_ir.specs.declared.value.Value.TheVariants.{Chars}
 use Rattle.rtl_ir.specs.Constants.{value_bits}
-use Rattle.rtl_ir.specs.Faults.MemoryCells.{constant_of}
+use Rattle.rtl_ir.specs.Signals.{constant_of}
 use Rattle.rtl_ir.specs.Flat.Access.{cell_accesses, next_number, line_mask, write_trigger}
 use Rattle.rtl_ir.specs.Flat.Process.{Trigger, edge_trigger, level_trigger}
-use Rattle.rtl_ir.specs.Follow.{Join, joins, all_joins, source_at}
+use Rattle.rtl_ir.specs.Follow.{joins, all_joins, source_at}
+use Rattle.rtl_ir.specs.declared.follow.Join.{Join}
 use Rattle.rtl_ir.specs.Rules.{acting_rules}
 use Rattle.rtl_ir.specs.Build.{Building, building_of, integer_param, bits_param, pin_of, new_cell}
 

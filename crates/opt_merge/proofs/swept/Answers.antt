@@ -1,4 +1,5 @@
-use Rattle.opt_merge.proofs.Whole.{first_of, state_over, swept_cells, swept_links}
+use Rattle.opt_merge.specs.Merge.{first_of}
+use Rattle.opt_merge.proofs.Whole.{state_over, swept_cells, swept_links}
 use Rattle.opt_merge.proofs.swept.Goals as goal
 
 pub returns : goal.returns

@@ -1,29 +1,23 @@
-use Rattle.proc_sync.proofs.Promised as promised
+use Rattle.net_model.specs.Proc.Sync.{proc_sync_of}
+use Rattle.pass_laws.proofs.Promised.{answered}
+use Rattle.proc_laws.specs.Ready.{AreRuled, HaveNoLines}
+use Rattle.proc_laws.specs.Step.{IsStep, StaysReady}
+use Rattle.sync_laws.proofs.Formed.{stays_ready}
+use Rattle.sync_laws.proofs.Steps.{are_ruled, is_step, none_left}
 use Rattle.proc_sync.proofs.apply.Goals as goal
 
-pub returns-clause-refines : goal.returns-clause-refines
-returns-clause-refines c =
-    promised.refines c.args.module.now c.synced_module.result c.synced_module.ensures.exact c.args.ports.now c.requires.ready c.requires.no_always c.requires.no_two_edges c.requires.no_starts
-
-pub returns-clause-well_driven : goal.returns-clause-well_driven
-returns-clause-well_driven c =
-    promised.well_driven c.args.module.now c.synced_module.result c.synced_module.ensures.exact c.args.ports.now c.requires.ready c.requires.no_always c.requires.no_two_edges
-
-pub returns-clause-well_formed : goal.returns-clause-well_formed
-returns-clause-well_formed c =
-    promised.well_formed c.args.module.now c.synced_module.result c.synced_module.ensures.exact c.args.ports.now c.requires.ready c.requires.no_always c.requires.no_two_edges
-
-pub returns-clause-ruled : goal.returns-clause-ruled
-returns-clause-ruled c = promised.ruled c.args.module.now c.synced_module.result c.synced_module.ensures.exact c.requires.ruled
-
-pub returns-clause-no_lines : goal.returns-clause-no_lines
-returns-clause-no_lines c = promised.no_lines c.args.module.now c.synced_module.result c.synced_module.ensures.exact
-
-pub returns-clause-same_id : goal.returns-clause-same_id
-returns-clause-same_id c = promised.same_id c.args.module.now c.synced_module.result c.synced_module.ensures.exact
-
-pub returns-clause-same_ports : goal.returns-clause-same_ports
-returns-clause-same_ports c = promised.same_ports c.args.module.now c.synced_module.result c.synced_module.ensures.exact
-
-pub returns-clause-same_instances : goal.returns-clause-same_instances
-returns-clause-same_instances c = promised.same_instances c.args.module.now c.synced_module.result c.synced_module.ensures.exact
+pub returns : goal.returns
+returns c =
+    let m = c.args.module.now in
+    let table = c.args.ports.now in
+    let r = c.synced_module.result in
+    let exact = c.synced_module.ensures.exact in
+    record {
+      exact = exact;
+      over = c.synced_module.ensures.over;
+      within = c.synced_module.ensures.within;
+      step = answered r (proc_sync_of m) exact (IsStep table m) (is_step table m c.requires.ready c.requires.no_always c.requires.no_two_edges c.requires.no_starts);
+      ready = λ bits. answered r (proc_sync_of m) exact (StaysReady table m) (stays_ready table m c.requires.no_always c.requires.no_two_edges bits);
+      ruled = answered r (proc_sync_of m) exact AreRuled (are_ruled m c.requires.ruled);
+      no_lines = answered r (proc_sync_of m) exact HaveNoLines (none_left m);
+    }

@@ -1,29 +1,24 @@
-use Rattle.proc_tree.proofs.Promised as promised
+use Rattle.rtl_ir.specs.Scope.{with_processes}
+use Rattle.rtl_ir.specs.Types.{table_ports}
+use Rattle.net_model.specs.Proc.Start.{proc_tree_of}
+use Rattle.pass_laws.proofs.Promised.{answered}
+use Rattle.proc_laws.specs.Ready.{AreRuled, HasItsBits, HaveNoLines, HaveNoStarts}
+use Rattle.proc_laws.specs.Step.{IsStep, StaysReady}
+use Rattle.proc_tree.proofs.Promised.{are_ruled, bits_stay, have_no_lines, have_no_starts, tree_ready, tree_step}
 use Rattle.proc_tree.proofs.apply.Goals as goal
 
-pub returns-clause-refines : goal.returns-clause-refines
-returns-clause-refines c = promised.refines c.args.module.now c.tree_of.result c.tree_of.ensures.exact c.args.ports.now c.requires.placed c.requires.ready
-
-pub returns-clause-well_driven : goal.returns-clause-well_driven
-returns-clause-well_driven c = promised.well_driven c.args.module.now c.tree_of.result c.tree_of.ensures.exact c.args.ports.now c.requires.placed c.requires.ready
-
-pub returns-clause-well_formed : goal.returns-clause-well_formed
-returns-clause-well_formed c = promised.well_formed c.args.module.now c.tree_of.result c.tree_of.ensures.exact c.args.ports.now
-
-pub returns-clause-placed : goal.returns-clause-placed
-returns-clause-placed c = promised.placed_there c.args.module.now c.tree_of.result c.tree_of.ensures.exact c.requires.placed
-
-pub returns-clause-step : goal.returns-clause-step
-returns-clause-step c = promised.step c.args.module.now c.tree_of.result c.tree_of.ensures.exact c.args.ports.now c.requires.placed c.requires.ready
-
-pub returns-clause-same_ports : goal.returns-clause-same_ports
-returns-clause-same_ports c = promised.same_ports_there c.args.module.now c.tree_of.result c.tree_of.ensures.exact
-
-pub returns-clause-ruled : goal.returns-clause-ruled
-returns-clause-ruled c = promised.ruled c.args.module.now c.tree_of.result c.tree_of.ensures.exact
-
-pub returns-clause-no_starts : goal.returns-clause-no_starts
-returns-clause-no_starts c = promised.no_starts c.args.module.now c.tree_of.result c.tree_of.ensures.exact
-
-pub returns-clause-no_lines : goal.returns-clause-no_lines
-returns-clause-no_lines c = promised.no_lines c.args.module.now c.tree_of.result c.tree_of.ensures.exact
+pub returns : goal.returns
+returns c =
+    let m = c.args.module.now in
+    let table = c.args.ports.now in
+    let r = c.tree_of.result in
+    let exact = c.tree_of.ensures.exact in
+    record {
+      exact = exact;
+      step = answered r (proc_tree_of m) exact (IsStep table m) (tree_step table m c.requires.placed c.requires.ready);
+      ready = answered r (proc_tree_of m) exact (StaysReady table m) (tree_ready m with_processes (λ p e. e) (table_ports table.modules));
+      placed = answered r (proc_tree_of m) exact HasItsBits (bits_stay m c.requires.placed);
+      ruled = answered r (proc_tree_of m) exact AreRuled (are_ruled m);
+      no_starts = answered r (proc_tree_of m) exact HaveNoStarts (have_no_starts m);
+      no_lines = λ none. answered r (proc_tree_of m) exact HaveNoLines (have_no_lines m none);
+    }

@@ -1,14 +1,23 @@
 //! Cells: a type, a name, and lines up to `end`.
 
-ghost use Rattle.std.specs.Prelude.{◌≡◌, MatchOption, None, Some, reverse};
-ghost use Rattle.rtl_grammar.specs.Grammar.Cell.{after_cell_kind, after_cell_name, after_cell_body, after_cell_parameter, after_cell_parameter_name, after_cell_parameter_value, after_pin_name, after_behind_pin};
+ghost use Rattle.rtl_grammar.specs.Bodies.{IsBody};
+ghost use Rattle.rtl_grammar.specs.Grammar.Cell.{
+  after_cell_kind,
+  after_cell_name,
+  after_cell_body,
+  after_cell_parameter,
+  after_cell_parameter_name,
+  after_cell_parameter_value,
+  after_pin_name,
+  after_behind_pin,
+};
 
 use crate::expect::Expect;
 use rtl_lex::Sort;
 
 /// The type of a cell.
-pub fn after_cell_kind(sort: Sort) -> Option<&'static [Expect]>
-    ensures { MatchOption result (after_cell_kind sort ≡ None) (λ body. after_cell_kind sort ≡ Some (reverse body.now)) }
+pub(crate) fn after_cell_kind(sort: Sort) -> Option<&'static [Expect]>
+    ensures { IsBody (after_cell_kind sort) result }
 {
     match sort {
         Sort::Id => Some(&[Expect::CellName]),
@@ -17,8 +26,8 @@ pub fn after_cell_kind(sort: Sort) -> Option<&'static [Expect]>
 }
 
 /// The name of a cell, and its lines.
-pub fn after_cell_name(sort: Sort) -> Option<&'static [Expect]>
-    ensures { MatchOption result (after_cell_name sort ≡ None) (λ body. after_cell_name sort ≡ Some (reverse body.now)) }
+pub(crate) fn after_cell_name(sort: Sort) -> Option<&'static [Expect]>
+    ensures { IsBody (after_cell_name sort) result }
 {
     match sort {
         Sort::Id => Some(&[Expect::CellBody, Expect::EndOfLine]),
@@ -27,8 +36,8 @@ pub fn after_cell_name(sort: Sort) -> Option<&'static [Expect]>
 }
 
 /// The lines of a cell, up to its end.
-pub fn after_cell_body(sort: Sort) -> Option<&'static [Expect]>
-    ensures { MatchOption result (after_cell_body sort ≡ None) (λ body. after_cell_body sort ≡ Some (reverse body.now)) }
+pub(crate) fn after_cell_body(sort: Sort) -> Option<&'static [Expect]>
+    ensures { IsBody (after_cell_body sort) result }
 {
     match sort {
         Sort::Parameter => Some(&[Expect::CellBody, Expect::CellParameter]),
@@ -39,8 +48,8 @@ pub fn after_cell_body(sort: Sort) -> Option<&'static [Expect]>
 }
 
 /// What stands behind `parameter`: `signed`, or the name.
-pub fn after_cell_parameter(sort: Sort) -> Option<&'static [Expect]>
-    ensures { MatchOption result (after_cell_parameter sort ≡ None) (λ body. after_cell_parameter sort ≡ Some (reverse body.now)) }
+pub(crate) fn after_cell_parameter(sort: Sort) -> Option<&'static [Expect]>
+    ensures { IsBody (after_cell_parameter sort) result }
 {
     match sort {
         Sort::Signed => Some(&[Expect::CellParameterName]),
@@ -50,8 +59,8 @@ pub fn after_cell_parameter(sort: Sort) -> Option<&'static [Expect]>
 }
 
 /// The name of a parameter of a cell.
-pub fn after_cell_parameter_name(sort: Sort) -> Option<&'static [Expect]>
-    ensures { MatchOption result (after_cell_parameter_name sort ≡ None) (λ body. after_cell_parameter_name sort ≡ Some (reverse body.now)) }
+pub(crate) fn after_cell_parameter_name(sort: Sort) -> Option<&'static [Expect]>
+    ensures { IsBody (after_cell_parameter_name sort) result }
 {
     match sort {
         Sort::Id => Some(&[Expect::CellParameterValue]),
@@ -60,8 +69,8 @@ pub fn after_cell_parameter_name(sort: Sort) -> Option<&'static [Expect]>
 }
 
 /// Its value, and the end of the line.
-pub fn after_cell_parameter_value(sort: Sort) -> Option<&'static [Expect]>
-    ensures { MatchOption result (after_cell_parameter_value sort ≡ None) (λ body. after_cell_parameter_value sort ≡ Some (reverse body.now)) }
+pub(crate) fn after_cell_parameter_value(sort: Sort) -> Option<&'static [Expect]>
+    ensures { IsBody (after_cell_parameter_value sort) result }
 {
     match sort {
         Sort::Value | Sort::Int | Sort::Chars => Some(&[Expect::EndOfLine]),
@@ -70,8 +79,8 @@ pub fn after_cell_parameter_value(sort: Sort) -> Option<&'static [Expect]>
 }
 
 /// The name of a pin, and its signal.
-pub fn after_pin_name(sort: Sort) -> Option<&'static [Expect]>
-    ensures { MatchOption result (after_pin_name sort ≡ None) (λ body. after_pin_name sort ≡ Some (reverse body.now)) }
+pub(crate) fn after_pin_name(sort: Sort) -> Option<&'static [Expect]>
+    ensures { IsBody (after_pin_name sort) result }
 {
     match sort {
         Sort::Id => Some(&[Expect::BehindPin, Expect::Signal]),
@@ -80,8 +89,8 @@ pub fn after_pin_name(sort: Sort) -> Option<&'static [Expect]>
 }
 
 /// What stands behind the signal of a pin: a slice of it, or the end of the line.
-pub fn after_behind_pin(sort: Sort) -> Option<&'static [Expect]>
-    ensures { MatchOption result (after_behind_pin sort ≡ None) (λ body. after_behind_pin sort ≡ Some (reverse body.now)) }
+pub(crate) fn after_behind_pin(sort: Sort) -> Option<&'static [Expect]>
+    ensures { IsBody (after_behind_pin sort) result }
 {
     match sort {
         Sort::OpenIndex => Some(&[Expect::BehindPin, Expect::Index]),

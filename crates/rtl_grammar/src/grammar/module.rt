@@ -1,14 +1,20 @@
 //! Modules: a name, and statements up to `end`.
 
-ghost use Rattle.std.specs.Prelude.{◌≡◌, MatchOption, None, Some, reverse};
-ghost use Rattle.rtl_grammar.specs.Grammar.Module.{after_module_name, after_body, after_next_item, after_parameter_name, after_parameter_value};
+ghost use Rattle.rtl_grammar.specs.Bodies.{IsBody};
+ghost use Rattle.rtl_grammar.specs.Grammar.Module.{
+  after_module_name,
+  after_body,
+  after_next_item,
+  after_parameter_name,
+  after_parameter_value,
+};
 
 use crate::expect::Expect;
 use rtl_lex::Sort;
 
 /// The name of a module, and its statements.
-pub fn after_module_name(sort: Sort) -> Option<&'static [Expect]>
-    ensures { MatchOption result (after_module_name sort ≡ None) (λ body. after_module_name sort ≡ Some (reverse body.now)) }
+pub(crate) fn after_module_name(sort: Sort) -> Option<&'static [Expect]>
+    ensures { IsBody (after_module_name sort) result }
 {
     match sort {
         Sort::Id => Some(&[Expect::Body, Expect::EndOfLine]),
@@ -17,8 +23,8 @@ pub fn after_module_name(sort: Sort) -> Option<&'static [Expect]>
 }
 
 /// The statements of a module, up to its end.
-pub fn after_body(sort: Sort) -> Option<&'static [Expect]>
-    ensures { MatchOption result (after_body sort ≡ None) (λ body. after_body sort ≡ Some (reverse body.now)) }
+pub(crate) fn after_body(sort: Sort) -> Option<&'static [Expect]>
+    ensures { IsBody (after_body sort) result }
 {
     match sort {
         Sort::Attribute => Some(&[Expect::NextItem, Expect::AttributeName]),
@@ -34,8 +40,8 @@ pub fn after_body(sort: Sort) -> Option<&'static [Expect]>
 }
 
 /// The item behind its attributes, and the statements behind it.
-pub fn after_next_item(sort: Sort) -> Option<&'static [Expect]>
-    ensures { MatchOption result (after_next_item sort ≡ None) (λ body. after_next_item sort ≡ Some (reverse body.now)) }
+pub(crate) fn after_next_item(sort: Sort) -> Option<&'static [Expect]>
+    ensures { IsBody (after_next_item sort) result }
 {
     match sort {
         Sort::Attribute => Some(&[Expect::NextItem, Expect::AttributeName]),
@@ -48,8 +54,8 @@ pub fn after_next_item(sort: Sort) -> Option<&'static [Expect]>
 }
 
 /// The name of a parameter of a module.
-pub fn after_parameter_name(sort: Sort) -> Option<&'static [Expect]>
-    ensures { MatchOption result (after_parameter_name sort ≡ None) (λ body. after_parameter_name sort ≡ Some (reverse body.now)) }
+pub(crate) fn after_parameter_name(sort: Sort) -> Option<&'static [Expect]>
+    ensures { IsBody (after_parameter_name sort) result }
 {
     match sort {
         Sort::Id => Some(&[Expect::ParameterValue]),
@@ -58,8 +64,8 @@ pub fn after_parameter_name(sort: Sort) -> Option<&'static [Expect]>
 }
 
 /// Its value, or the end of the line where it has none.
-pub fn after_parameter_value(sort: Sort) -> Option<&'static [Expect]>
-    ensures { MatchOption result (after_parameter_value sort ≡ None) (λ body. after_parameter_value sort ≡ Some (reverse body.now)) }
+pub(crate) fn after_parameter_value(sort: Sort) -> Option<&'static [Expect]>
+    ensures { IsBody (after_parameter_value sort) result }
 {
     match sort {
         Sort::Value | Sort::Int | Sort::Chars => Some(&[Expect::EndOfLine]),

@@ -1,14 +1,14 @@
 //! Pairs of signals, up to the end of the line: those of `connect`, `assign` and `update`.
 
-ghost use Rattle.std.specs.Prelude.{◌≡◌, MatchOption, None, Some, reverse};
+ghost use Rattle.rtl_grammar.specs.Bodies.{IsBody};
 ghost use Rattle.rtl_grammar.specs.Grammar.Pair.{after_behind_left, after_behind_right};
 
 use crate::expect::Expect;
 use rtl_lex::Sort;
 
 /// What stands behind the left signal: a slice of it, or the right signal.
-pub fn after_behind_left(sort: Sort) -> Option<&'static [Expect]>
-    ensures { MatchOption result (after_behind_left sort ≡ None) (λ body. after_behind_left sort ≡ Some (reverse body.now)) }
+pub(crate) fn after_behind_left(sort: Sort) -> Option<&'static [Expect]>
+    ensures { IsBody (after_behind_left sort) result }
 {
     match sort {
         Sort::OpenIndex => Some(&[Expect::BehindLeft, Expect::Index]),
@@ -19,8 +19,8 @@ pub fn after_behind_left(sort: Sort) -> Option<&'static [Expect]>
 }
 
 /// What stands behind the right signal: a slice of it, or the end of the line.
-pub fn after_behind_right(sort: Sort) -> Option<&'static [Expect]>
-    ensures { MatchOption result (after_behind_right sort ≡ None) (λ body. after_behind_right sort ≡ Some (reverse body.now)) }
+pub(crate) fn after_behind_right(sort: Sort) -> Option<&'static [Expect]>
+    ensures { IsBody (after_behind_right sort) result }
 {
     match sort {
         Sort::OpenIndex => Some(&[Expect::BehindRight, Expect::Index]),

@@ -1,14 +1,22 @@
 //! Signals: constants, wires, braces round signals, and slices.
 
-ghost use Rattle.std.specs.Prelude.{◌≡◌, MatchOption, None, Some, reverse};
-ghost use Rattle.rtl_grammar.specs.Grammar.Signal.{after_signal, after_inside, after_behind_inside, after_index, after_behind_index, after_low_index, after_index_end};
+ghost use Rattle.rtl_grammar.specs.Bodies.{IsBody};
+ghost use Rattle.rtl_grammar.specs.Grammar.Signal.{
+  after_signal,
+  after_inside,
+  after_behind_inside,
+  after_index,
+  after_behind_index,
+  after_low_index,
+  after_index_end,
+};
 
 use crate::expect::Expect;
 use rtl_lex::Sort;
 
 /// A signal without its slices.
-pub fn after_signal(sort: Sort) -> Option<&'static [Expect]>
-    ensures { MatchOption result (after_signal sort ≡ None) (λ body. after_signal sort ≡ Some (reverse body.now)) }
+pub(crate) fn after_signal(sort: Sort) -> Option<&'static [Expect]>
+    ensures { IsBody (after_signal sort) result }
 {
     match sort {
         Sort::Id | Sort::Value | Sort::Int | Sort::Chars => Some(&[]),
@@ -18,8 +26,8 @@ pub fn after_signal(sort: Sort) -> Option<&'static [Expect]>
 }
 
 /// What stands behind an opening brace: the first signal, or the closing brace.
-pub fn after_inside(sort: Sort) -> Option<&'static [Expect]>
-    ensures { MatchOption result (after_inside sort ≡ None) (λ body. after_inside sort ≡ Some (reverse body.now)) }
+pub(crate) fn after_inside(sort: Sort) -> Option<&'static [Expect]>
+    ensures { IsBody (after_inside sort) result }
 {
     match sort {
         Sort::Id | Sort::Value | Sort::Int | Sort::Chars => Some(&[Expect::BehindInside]),
@@ -30,8 +38,8 @@ pub fn after_inside(sort: Sort) -> Option<&'static [Expect]>
 }
 
 /// What stands behind a signal in braces: a slice of it, the next signal, or the closing brace.
-pub fn after_behind_inside(sort: Sort) -> Option<&'static [Expect]>
-    ensures { MatchOption result (after_behind_inside sort ≡ None) (λ body. after_behind_inside sort ≡ Some (reverse body.now)) }
+pub(crate) fn after_behind_inside(sort: Sort) -> Option<&'static [Expect]>
+    ensures { IsBody (after_behind_inside sort) result }
 {
     match sort {
         Sort::OpenIndex => Some(&[Expect::BehindInside, Expect::Index]),
@@ -43,8 +51,8 @@ pub fn after_behind_inside(sort: Sort) -> Option<&'static [Expect]>
 }
 
 /// The first number in brackets.
-pub fn after_index(sort: Sort) -> Option<&'static [Expect]>
-    ensures { MatchOption result (after_index sort ≡ None) (λ body. after_index sort ≡ Some (reverse body.now)) }
+pub(crate) fn after_index(sort: Sort) -> Option<&'static [Expect]>
+    ensures { IsBody (after_index sort) result }
 {
     match sort {
         Sort::Int => Some(&[Expect::BehindIndex]),
@@ -53,8 +61,8 @@ pub fn after_index(sort: Sort) -> Option<&'static [Expect]>
 }
 
 /// What stands behind it: the closing bracket, or a colon and the second number.
-pub fn after_behind_index(sort: Sort) -> Option<&'static [Expect]>
-    ensures { MatchOption result (after_behind_index sort ≡ None) (λ body. after_behind_index sort ≡ Some (reverse body.now)) }
+pub(crate) fn after_behind_index(sort: Sort) -> Option<&'static [Expect]>
+    ensures { IsBody (after_behind_index sort) result }
 {
     match sort {
         Sort::CloseIndex => Some(&[]),
@@ -64,8 +72,8 @@ pub fn after_behind_index(sort: Sort) -> Option<&'static [Expect]>
 }
 
 /// The second number in brackets.
-pub fn after_low_index(sort: Sort) -> Option<&'static [Expect]>
-    ensures { MatchOption result (after_low_index sort ≡ None) (λ body. after_low_index sort ≡ Some (reverse body.now)) }
+pub(crate) fn after_low_index(sort: Sort) -> Option<&'static [Expect]>
+    ensures { IsBody (after_low_index sort) result }
 {
     match sort {
         Sort::Int => Some(&[Expect::IndexEnd]),
@@ -74,8 +82,8 @@ pub fn after_low_index(sort: Sort) -> Option<&'static [Expect]>
 }
 
 /// The closing bracket behind the second number.
-pub fn after_index_end(sort: Sort) -> Option<&'static [Expect]>
-    ensures { MatchOption result (after_index_end sort ≡ None) (λ body. after_index_end sort ≡ Some (reverse body.now)) }
+pub(crate) fn after_index_end(sort: Sort) -> Option<&'static [Expect]>
+    ensures { IsBody (after_index_end sort) result }
 {
     match sort {
         Sort::CloseIndex => Some(&[]),

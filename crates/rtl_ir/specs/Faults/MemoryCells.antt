@@ -3,8 +3,6 @@ use Rattle.std.specs.Prelude.{ℕ, ◌+◌, nat_abs, nat_lt, nat_le, ◌==◌, B
 use Rattle.std.specs.List.{list_any, list_all, range_with_len}
 use Rattle.std.specs.Option.{option_map_or, option_and_then}
 use Rattle.std.specs.Str.{bytes_eq}
-use Rattle.rtl_bits.specs.declared.bit.Bit.{Bit}
-use Rattle.rtl_bits.specs.declared.bit.Bit.TheVariants.{X}
 use Rattle.rtl_bits.specs.Knowledge.{all_known}
 use Rattle.rtl_bits.specs.Numbers.{number_of}
 use Rattle.cell_types.specs.declared.memory.MemoryKind.{MemoryKind}
@@ -15,14 +13,13 @@ use Rattle.cell_types.specs.declared.pin_name.PinName.TheVariants.{Addr, Data, E
 use Rattle.cell_types.specs.Given.{number_in}
 use Rattle.cell_types.specs.PinName.{pin_text}
 use Rattle.cell_types.specs.Shape.{is_set}
-use Rattle.rtl_sig.specs.declared.sig.SigBit.{SigBit}
 use Rattle.rtl_sig.specs.declared.sig.SigBit.TheVariants as sig
 use Rattle.rtl_ir.specs.declared.cell.Cell.{Cell}
 use Rattle.rtl_ir.specs.declared.module.Link.{Link}
 use Rattle.rtl_ir.specs.declared.module.Module.{Module}
 use Rattle.rtl_ir.specs.declared.store.Store.{Store}
 use Rattle.rtl_ir.specs.Parameters.{given_params, memory_name, signal_at}
-use Rattle.rtl_ir.specs.Signals.{is_all_constant}
+use Rattle.rtl_ir.specs.Signals.{constant_of, is_all_constant}
 use Rattle.rtl_ir.specs.WritePorts.{WritePort, cell_clocking, cell_ports, clashes}
 
 -- the memory of this name
@@ -37,11 +34,6 @@ number_at c name = number_in (given_params c.params) name
 abbrev pub is_unlike : Store → Cell → Bool
 is_unlike s c =
     not (number_at c Param.Width == s.width) || (number_at c Param.Abits == 0) || nat_lt 32 (number_at c Param.Abits)
-
--- a constant as the bit that it is
-abbrev pub constant_of : SigBit → Bit
-constant_of (sig.Fixed b) = b
-constant_of (sig.Wire b) = X
 
 -- a read port has a clock
 abbrev pub is_clocked : Cell → Bool

@@ -15,7 +15,8 @@ use Rattle.rtl_ir.specs.Faults.RuleKinds.{rules_stand}
 use Rattle.rtl_ir.specs.Scope.{Scope}
 use Rattle.rtl_ir.specs.Faults.SelfReading.{reads_itself}
 use Rattle.rtl_ir.specs.Faults.TwoEdges.{are_one_constant, two_edges_stand}
-use Rattle.rtl_ir.specs.Follow.{Join, all_joins}
+use Rattle.rtl_ir.specs.Follow.{all_joins}
+use Rattle.rtl_ir.specs.declared.follow.Join.{Join}
 use Rattle.rtl_ir.specs.Rules.{acting_rules, init_lines}
 use Rattle.rtl_ir.specs.SwitchRules.{root_by_rules}
 use Rattle.rtl_ir.specs.Tree.{CaseView}

@@ -13,11 +13,12 @@ use Rattle.rtl_ir.specs.declared.process.Event.TheVariants.{Posedge, Negedge}
 use Rattle.rtl_ir.specs.declared.process.SyncRule.{SyncRule}
 use Rattle.rtl_ir.specs.Decisions.{Decision, Leaf, Choice, Branches, NoBranch, OneBranch, expanded, leaves_of}
 use Rattle.rtl_ir.specs.EventTests.{differs, is_bit, switch_test}
-use Rattle.rtl_ir.specs.Follow.{Join, all_joins}
+use Rattle.rtl_ir.specs.Follow.{all_joins}
+use Rattle.rtl_ir.specs.declared.follow.Join.{Join}
 use Rattle.rtl_ir.specs.SwitchRules.{matches_bit}
 use Rattle.rtl_ir.specs.Tree.{Switches, NoSwitch, OneSwitch, Cases, NoCase, OneCase, CaseView}
 use Rattle.rtl_ir.specs.Types.{Ports}
-use Rattle.rtl_ir.specs.WritePorts.{same_value}
+use Rattle.rtl_ir.specs.Signals.{same_value}
 
 -- a test of a switch's signal and patterns
 abbrev pub SwitchTest : Type 0

@@ -17,7 +17,8 @@ use Rattle.rtl_ir.specs.declared.cell.Cell.{Cell}
 use Rattle.rtl_ir.specs.declared.process.Process.{Process}
 use Rattle.rtl_ir.specs.declared.store.Store.{Store}
 use Rattle.rtl_ir.specs.declared.wire.Wire.{Wire}
-use Rattle.rtl_ir.specs.Faults.MemoryCells.{number_at, first_address, constant_of}
+use Rattle.rtl_ir.specs.Faults.MemoryCells.{number_at, first_address}
+use Rattle.rtl_ir.specs.Signals.{constant_of}
 use Rattle.rtl_ir.specs.Flat.Access.{Access, accesses_of, first_trigger}
 use Rattle.rtl_ir.specs.Flat.Cell.{cell_kind}
 use Rattle.rtl_ir.specs.Flat.Driver.{PortPoints, Driven, Remembered, Fetched}

@@ -30,7 +30,8 @@ use Rattle.rtl_ir.specs.Flat.Driver.{StorePoints, Driven, Joined, Stored, Decide
 use Rattle.rtl_ir.specs.Flat.Pick.{pick_of, no_test}
 use Rattle.rtl_ir.specs.Flat.Place.{Path}
 use Rattle.rtl_ir.specs.Flat.Point.{Point, Constant, At as AtPlace, bit_place, point, points, point_at}
-use Rattle.rtl_ir.specs.Follow.{Join, all_joins, source_at}
+use Rattle.rtl_ir.specs.Follow.{all_joins, source_at}
+use Rattle.rtl_ir.specs.declared.follow.Join.{Join}
 use Rattle.rtl_ir.specs.Rules.{acting_rules}
 use Rattle.rtl_ir.specs.SwitchRules.{root_by_rules}
 use Rattle.rtl_ir.specs.Tree.{CaseView}

@@ -1,7 +1,6 @@
 -- The start values of storage bits.
-use Rattle.std.specs.Prelude.{ℕ, List, [], ◌∷◌, map, flat_map, Option, Some, None, slice_get, slice_index_or, if◌then◌else◌, unwrap_or, find, codes}
-use Rattle.std.specs.Option.{option_map_or, option_or}
-use Rattle.std.specs.Str.{bytes_eq}
+use Rattle.std.specs.Prelude.{List, [], ◌∷◌, map, flat_map, Option, Some, None, slice_get, slice_index_or, if◌then◌else◌, unwrap_or, codes}
+use Rattle.std.specs.Option.{option_or}
 use Rattle.rtl_bits.specs.declared.bit.Bit.{Bit}
 use Rattle.rtl_bits.specs.declared.bit.Bit.TheVariants.{X}
 use Rattle.rtl_bits.specs.Tables.{seen_of}
@@ -9,20 +8,15 @@ use Rattle.rtl_sig.specs.declared.sig.SigBit.{SigBit}
 use Rattle.rtl_sig.specs.declared.sig.SigBit.TheVariants.{Fixed, Wire as OnWire}
 use Rattle.rtl_sig.specs.declared.sig.WireBit.{WireBit}
 use Rattle.rtl_ir.specs.declared.process.Process.{Process}
-use Rattle.rtl_ir.specs.declared.value.Attribute.{Attribute}
 use Rattle.rtl_ir.specs.declared.wire.Wire.{Wire}
 use Rattle.rtl_ir.specs.Assigns.{tree_bits}
-use Rattle.rtl_ir.specs.Constants.{value_bits}
+use Rattle.rtl_ir.specs.Attributes.{attribute_bits}
 use Rattle.rtl_ir.specs.Decisions.{expanded, leaves_of}
-use Rattle.rtl_ir.specs.Follow.{Join, all_joins}
+use Rattle.rtl_ir.specs.Follow.{all_joins}
+use Rattle.rtl_ir.specs.declared.follow.Join.{Join}
 use Rattle.rtl_ir.specs.Rules.{init_lines}
 use Rattle.rtl_ir.specs.Signals.{same_bit}
 use Rattle.rtl_ir.specs.SwitchRules.{root_by_rules}
-
--- the bits of the attribute of this name, none where there is no such attribute
-abbrev pub attribute_bits : List Attribute → List ℕ → List Bit
-attribute_bits attributes name =
-    option_map_or (λ (a : Attribute). value_bits a.value) (find (λ (a : Attribute). bytes_eq a.name name) attributes) []
 
 -- the bits of the attribute `\init` of a wire that may be there
 abbrev pub init_bits : Option Wire → List Bit

@@ -4,7 +4,7 @@ use Rattle.rtl_lex.specs.declared.sort.Sort.{Sort}
 use Rattle.rtl_lex.specs.declared.sort.Sort.TheVariants as sorts
 use Rattle.rtl_lex.specs.Items.{Seen}
 use Rattle.rtl_read.specs.declared.draft.Draft.{Draft}
-use Rattle.rtl_read.specs.declared.limits.TheConstants.{MAX_MODULES}
+use Rattle.rtl_ir.specs.declared.limits.TheConstants.{MAX_MODULES}
 use Rattle.rtl_read.specs.declared.read_fault.ReadFault.{ReadFault}
 use Rattle.rtl_read.specs.declared.read_fault.ReadFault.TheVariants as faults
 use Rattle.rtl_grammar.specs.Uses.{◌>>=◌}

@@ -6,7 +6,7 @@ use Rattle.rtl_lex.specs.Items.{Seen}
 use Rattle.rtl_sig.specs.Names.{number_of, with_name}
 use Rattle.rtl_read.specs.declared.draft.Draft.{Draft}
 use Rattle.rtl_read.specs.declared.draft.PairKind.TheVariants.{Connect}
-use Rattle.rtl_read.specs.declared.limits.TheConstants.{MAX_CELLS}
+use Rattle.rtl_ir.specs.declared.limits.TheConstants.{MAX_CELLS}
 use Rattle.rtl_read.specs.declared.read_fault.ReadFault.{ReadFault}
 use Rattle.rtl_read.specs.declared.read_fault.ReadFault.TheVariants as faults
 use Rattle.rtl_grammar.specs.Uses.{◌>>=◌}

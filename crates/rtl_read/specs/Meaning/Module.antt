@@ -10,7 +10,7 @@ use Rattle.rtl_ir.specs.declared.store.Store.{Store}
 use Rattle.rtl_ir.specs.declared.cell.Cell.{Cell}
 use Rattle.rtl_ir.specs.declared.process.Process.{Process}
 use Rattle.rtl_ir.specs.declared.module.Link.{Link}
-use Rattle.rtl_read.specs.declared.limits.TheConstants.{MAX_BITS}
+use Rattle.rtl_ir.specs.declared.limits.TheConstants.{MAX_BITS}
 use Rattle.rtl_read.specs.declared.read_fault.ReadFault.{ReadFault}
 use Rattle.rtl_read.specs.declared.read_fault.ReadFault.TheVariants as faults
 use Rattle.rtl_read.specs.declared.open_module.OpenModule.{OpenModule}

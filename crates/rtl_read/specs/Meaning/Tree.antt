@@ -5,7 +5,7 @@ use Rattle.rtl_sig.specs.declared.sig.SigBit.{SigBit}
 use Rattle.rtl_ir.specs.Tree.{CaseView, SwitchView, switches_of, cases_of}
 use Rattle.rtl_ir.specs.declared.value.Attribute.{Attribute}
 use Rattle.rtl_ir.specs.declared.module.Link.{Link}
-use Rattle.rtl_read.specs.declared.limits.TheConstants.{MAX_DEPTH}
+use Rattle.rtl_ir.specs.declared.limits.TheConstants.{MAX_DEPTH}
 use Rattle.rtl_read.specs.declared.read_fault.ReadFault.{ReadFault}
 use Rattle.rtl_read.specs.declared.read_fault.ReadFault.TheVariants as faults
 use Rattle.rtl_read.specs.declared.tree.OpenCase.{OpenCase}

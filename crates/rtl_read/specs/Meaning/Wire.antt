@@ -7,7 +7,7 @@ use Rattle.rtl_ir.specs.declared.value.Attribute.{Attribute}
 use Rattle.rtl_ir.specs.declared.wire.Role.TheVariants as roles
 use Rattle.rtl_ir.specs.declared.wire.Wire.{Wire}
 use Rattle.rtl_ir.specs.declared.store.Store.{Store}
-use Rattle.rtl_read.specs.declared.limits.TheConstants.{MAX_WIDTH}
+use Rattle.rtl_ir.specs.declared.limits.TheConstants.{MAX_WIDTH}
 use Rattle.rtl_read.specs.declared.read_fault.ReadFault.{ReadFault}
 use Rattle.rtl_read.specs.declared.read_fault.ReadFault.TheVariants as faults
 use Rattle.rtl_grammar.specs.Uses.{◌>>=◌}

@@ -15,7 +15,11 @@ use std::mem;
 
 impl Draft {
     /// The name of an attribute.
-    pub fn act_attribute_name(&mut self, alloc: Global, item: &Item<'_>) -> Result<(), ReadFault>
+    pub(crate) fn act_attribute_name(
+        &mut self,
+        alloc: Global,
+        item: &Item<'_>,
+    ) -> Result<(), ReadFault>
         ensures { Sets result self.new (Ok (act_attribute_name (as_seen item.now) self.old)) }
     {
         self.name = Text::from_slice(alloc, item.text)?;
@@ -24,7 +28,11 @@ impl Draft {
 
     /// Its value: one attribute more waits.
     #[tactic(auto, using(crate::proofs::Faults::fails_on, crate::proofs::Faults::goes_on))]
-    pub fn act_attribute_value(&mut self, alloc: Global, item: &Item<'_>) -> Result<(), ReadFault>
+    pub(crate) fn act_attribute_value(
+        &mut self,
+        alloc: Global,
+        item: &Item<'_>,
+    ) -> Result<(), ReadFault>
         ensures { Sets result self.new (act_attribute_value item.now.sort (as_seen item.now) self.old) }
     {
         match constant(alloc, item) {

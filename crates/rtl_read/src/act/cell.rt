@@ -3,7 +3,16 @@
 ghost use Rattle.std.specs.Prelude.{◌≡◌, Ok, OnOk};
 ghost use Rattle.rtl_lex.specs.Items.{as_seen};
 ghost use Rattle.rtl_read.specs.Gives.{Sets};
-ghost use Rattle.rtl_read.specs.Act.Cell.{act_cell_kind, act_cell_name, act_cell_body, act_cell_parameter, act_cell_parameter_name, act_cell_parameter_value, act_pin_name, act_behind_pin};
+ghost use Rattle.rtl_read.specs.Act.Cell.{
+  act_cell_kind,
+  act_cell_name,
+  act_cell_body,
+  act_cell_parameter,
+  act_cell_parameter_name,
+  act_cell_parameter_value,
+  act_pin_name,
+  act_behind_pin,
+};
 
 use crate::constant::constant;
 use crate::draft::Draft;
@@ -16,7 +25,7 @@ use std::mem;
 
 impl Draft {
     /// The type of a cell.
-    pub fn act_cell_kind(&mut self, alloc: Global, item: &Item<'_>) -> Result<(), ReadFault>
+    pub(crate) fn act_cell_kind(&mut self, alloc: Global, item: &Item<'_>) -> Result<(), ReadFault>
         ensures { Sets result self.new (Ok (act_cell_kind (as_seen item.now) self.old)) }
     {
         self.cell.set_kind(alloc, item)?;
@@ -25,7 +34,7 @@ impl Draft {
 
     /// The name of a cell.
     #[tactic(auto, using(crate::proofs::Faults::fails_on, crate::proofs::Faults::goes_on))]
-    pub fn act_cell_name(&mut self, alloc: Global, item: &Item<'_>) -> Result<(), ReadFault>
+    pub(crate) fn act_cell_name(&mut self, alloc: Global, item: &Item<'_>) -> Result<(), ReadFault>
         ensures { Sets result self.new (act_cell_name (as_seen item.now) self.old) }
     {
         if let Err(fault) = self.current.take_name(item) {
@@ -36,7 +45,7 @@ impl Draft {
     }
 
     /// A line of a cell; or its end, with which it is whole.
-    pub fn act_cell_body(&mut self, alloc: Global, item: &Item<'_>) -> Result<(), ReadFault>
+    pub(crate) fn act_cell_body(&mut self, alloc: Global, item: &Item<'_>) -> Result<(), ReadFault>
         ensures { Sets result self.new (Ok (act_cell_body item.now.sort self.old)) }
     {
         if item.sort == Sort::End {
@@ -48,7 +57,7 @@ impl Draft {
 
     /// The name of a parameter of a cell.
     #[tactic(auto, using(crate::proofs::Faults::fails_on, crate::proofs::Faults::goes_on))]
-    pub fn act_cell_parameter_name(
+    pub(crate) fn act_cell_parameter_name(
         &mut self,
         alloc: Global,
         item: &Item<'_>,
@@ -62,7 +71,11 @@ impl Draft {
     }
 
     /// `signed`, or the name.
-    pub fn act_cell_parameter(&mut self, alloc: Global, item: &Item<'_>) -> Result<(), ReadFault>
+    pub(crate) fn act_cell_parameter(
+        &mut self,
+        alloc: Global,
+        item: &Item<'_>,
+    ) -> Result<(), ReadFault>
         ensures { Sets result self.new (act_cell_parameter item.now.sort (as_seen item.now) self.old) }
     {
         if item.sort == Sort::Signed {
@@ -74,7 +87,7 @@ impl Draft {
 
     /// Its value.
     #[tactic(auto, using(crate::proofs::Faults::fails_on, crate::proofs::Faults::goes_on))]
-    pub fn act_cell_parameter_value(
+    pub(crate) fn act_cell_parameter_value(
         &mut self,
         alloc: Global,
         item: &Item<'_>,
@@ -92,7 +105,7 @@ impl Draft {
 
     /// The name of a pin.
     #[tactic(auto, using(crate::proofs::Faults::fails_on, crate::proofs::Faults::goes_on))]
-    pub fn act_pin_name(&mut self, alloc: Global, item: &Item<'_>) -> Result<(), ReadFault>
+    pub(crate) fn act_pin_name(&mut self, alloc: Global, item: &Item<'_>) -> Result<(), ReadFault>
         ensures { Sets result self.new (act_pin_name (as_seen item.now) self.old) }
     {
         if let Err(fault) = self.cell.pin_name(alloc, item) {
@@ -102,7 +115,7 @@ impl Draft {
     }
 
     /// A bracket behind the signal of a pin; or the end of the line: the pin has the signal.
-    pub fn act_behind_pin(&mut self, alloc: Global, item: &Item<'_>) -> Result<(), ReadFault>
+    pub(crate) fn act_behind_pin(&mut self, alloc: Global, item: &Item<'_>) -> Result<(), ReadFault>
         ensures { Sets result self.new (Ok (act_behind_pin item.now.sort (as_seen item.now) self.old)) }
     {
         if item.sort == Sort::OpenIndex {

@@ -7,14 +7,14 @@ ghost use Rattle.rtl_read.specs.Act.File.{act_autoidx_number, act_modules};
 
 use crate::constant::integer;
 use crate::draft::Draft;
-use crate::limits::MAX_MODULES;
 use crate::read_fault::ReadFault;
+use rtl_ir::limits::MAX_MODULES;
 use rtl_lex::{Item, Sort};
 
 impl Draft {
     /// The number behind `autoidx` is an integer.
     #[tactic(auto, using(crate::proofs::Faults::fails_on, crate::proofs::Faults::goes_on))]
-    pub fn act_autoidx_number(&mut self, item: &Item<'_>) -> Result<(), ReadFault>
+    pub(crate) fn act_autoidx_number(&mut self, item: &Item<'_>) -> Result<(), ReadFault>
         ensures { Sets result self.new (act_autoidx_number (as_seen item.now) self.old) }
     {
         match integer(item) {
@@ -24,7 +24,7 @@ impl Draft {
     }
 
     /// The word `module`: there is room for one more.
-    pub fn act_modules(&mut self, item: &Item<'_>) -> Result<(), ReadFault>
+    pub(crate) fn act_modules(&mut self, item: &Item<'_>) -> Result<(), ReadFault>
         ensures { Sets result self.new (act_modules item.now.sort (as_seen item.now) self.old) }
     {
         if item.sort == Sort::Module && self.modules.as_slice().len() >= MAX_MODULES {

@@ -16,7 +16,11 @@ use std::mem;
 impl Draft {
     /// An option of a memory; or its name, with which it is whole.
     #[tactic(auto, using(crate::proofs::Faults::fails_on, crate::proofs::Faults::goes_on))]
-    pub fn act_memory_option(&mut self, alloc: Global, item: &Item<'_>) -> Result<(), ReadFault>
+    pub(crate) fn act_memory_option(
+        &mut self,
+        alloc: Global,
+        item: &Item<'_>,
+    ) -> Result<(), ReadFault>
         ensures { Sets result self.new (act_memory_option item.now.sort (as_seen item.now) self.old) }
     {
         if item.sort != Sort::Id {
@@ -31,7 +35,7 @@ impl Draft {
 
     /// The number behind `width`.
     #[tactic(auto, using(crate::proofs::Faults::fails_on, crate::proofs::Faults::goes_on))]
-    pub fn act_memory_width(&mut self, item: &Item<'_>) -> Result<(), ReadFault>
+    pub(crate) fn act_memory_width(&mut self, item: &Item<'_>) -> Result<(), ReadFault>
         ensures { Sets result self.new (act_memory_width (as_seen item.now) self.old) }
     {
         if let Err(fault) = set_store_width(&mut self.store, item) {
@@ -42,7 +46,7 @@ impl Draft {
 
     /// The number behind `size`.
     #[tactic(auto, using(crate::proofs::Faults::fails_on, crate::proofs::Faults::goes_on))]
-    pub fn act_memory_size(&mut self, item: &Item<'_>) -> Result<(), ReadFault>
+    pub(crate) fn act_memory_size(&mut self, item: &Item<'_>) -> Result<(), ReadFault>
         ensures { Sets result self.new (act_memory_size (as_seen item.now) self.old) }
     {
         if let Err(fault) = set_store_size(&mut self.store, item) {
@@ -53,7 +57,7 @@ impl Draft {
 
     /// The number behind `offset`.
     #[tactic(auto, using(crate::proofs::Faults::fails_on, crate::proofs::Faults::goes_on))]
-    pub fn act_memory_offset(&mut self, item: &Item<'_>) -> Result<(), ReadFault>
+    pub(crate) fn act_memory_offset(&mut self, item: &Item<'_>) -> Result<(), ReadFault>
         ensures { Sets result self.new (act_memory_offset (as_seen item.now) self.old) }
     {
         if let Err(fault) = set_store_offset(&mut self.store, item) {

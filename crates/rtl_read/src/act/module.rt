@@ -3,11 +3,21 @@
 ghost use Rattle.std.specs.Prelude.{◌≡◌, Ok, OnOk};
 ghost use Rattle.rtl_lex.specs.Items.{as_seen};
 ghost use Rattle.rtl_read.specs.Gives.{Sets};
-ghost use Rattle.rtl_read.specs.Act.Module.{act_module_name, close_module, open_wire, open_store, open_cell, open_process, act_next_item, act_body, act_parameter_name, act_parameter_value};
+ghost use Rattle.rtl_read.specs.Act.Module.{
+  act_module_name,
+  close_module,
+  open_wire,
+  open_store,
+  open_cell,
+  open_process,
+  act_next_item,
+  act_body,
+  act_parameter_name,
+  act_parameter_value,
+};
 
 use crate::constant::constant;
 use crate::draft::{Draft, PairKind};
-use crate::limits::MAX_CELLS;
 use crate::open_cell::plain_cell;
 use crate::open_module::fresh_module;
 use crate::open_process::plain_process;
@@ -15,13 +25,18 @@ use crate::options::{plain_store, plain_wire};
 use crate::read_fault::ReadFault;
 use crate::signal::find;
 use rtl_bits::{Memory, Seq, Text};
+use rtl_ir::limits::MAX_CELLS;
 use rtl_lex::{Item, Sort};
 use std::alloc::Global;
 use std::mem;
 
 impl Draft {
     /// The name of a module.
-    pub fn act_module_name(&mut self, alloc: Global, item: &Item<'_>) -> Result<(), ReadFault>
+    pub(crate) fn act_module_name(
+        &mut self,
+        alloc: Global,
+        item: &Item<'_>,
+    ) -> Result<(), ReadFault>
         ensures { Sets result self.new (act_module_name (as_seen item.now) self.old) }
     {
         if find(&self.names, item.text).is_some() {
@@ -80,7 +95,7 @@ impl Draft {
     }
 
     /// The item behind its attributes.
-    pub fn act_next_item(&mut self, alloc: Global, item: &Item<'_>) -> Result<(), ReadFault>
+    pub(crate) fn act_next_item(&mut self, alloc: Global, item: &Item<'_>) -> Result<(), ReadFault>
         ensures { Sets result self.new (act_next_item item.now.sort (as_seen item.now) self.old) }
     {
         match item.sort {
@@ -94,7 +109,7 @@ impl Draft {
     }
 
     /// A statement of a module, or its end.
-    pub fn act_body(&mut self, alloc: Global, item: &Item<'_>) -> Result<(), ReadFault>
+    pub(crate) fn act_body(&mut self, alloc: Global, item: &Item<'_>) -> Result<(), ReadFault>
         ensures { Sets result self.new (act_body item.now.sort (as_seen item.now) self.old) }
     {
         match item.sort {
@@ -106,7 +121,11 @@ impl Draft {
     }
 
     /// The name of a parameter.
-    pub fn act_parameter_name(&mut self, alloc: Global, item: &Item<'_>) -> Result<(), ReadFault>
+    pub(crate) fn act_parameter_name(
+        &mut self,
+        alloc: Global,
+        item: &Item<'_>,
+    ) -> Result<(), ReadFault>
         ensures { Sets result self.new (Ok (act_parameter_name (as_seen item.now) self.old)) }
     {
         self.name = Text::from_slice(alloc, item.text)?;
@@ -115,7 +134,11 @@ impl Draft {
 
     /// Its value, or the end of the line where it has none.
     #[tactic(auto, using(crate::proofs::Faults::fails_on, crate::proofs::Faults::goes_on))]
-    pub fn act_parameter_value(&mut self, alloc: Global, item: &Item<'_>) -> Result<(), ReadFault>
+    pub(crate) fn act_parameter_value(
+        &mut self,
+        alloc: Global,
+        item: &Item<'_>,
+    ) -> Result<(), ReadFault>
         ensures { Sets result self.new (act_parameter_value item.now.sort (as_seen item.now) self.old) }
     {
         if item.sort == Sort::Line {

@@ -16,7 +16,11 @@ use std::mem;
 
 impl Draft {
     /// A bracket behind the left signal; or the right signal begins.
-    pub fn act_behind_left(&mut self, alloc: Global, item: &Item<'_>) -> Result<(), ReadFault>
+    pub(crate) fn act_behind_left(
+        &mut self,
+        alloc: Global,
+        item: &Item<'_>,
+    ) -> Result<(), ReadFault>
         ensures { Sets result self.new (act_behind_left item.now.sort (as_seen item.now) self.old) }
     {
         if item.sort == Sort::OpenIndex {
@@ -49,7 +53,11 @@ impl Draft {
     }
 
     /// A bracket behind the right signal; or the end of the line.
-    pub fn act_behind_right(&mut self, alloc: Global, item: &Item<'_>) -> Result<(), ReadFault>
+    pub(crate) fn act_behind_right(
+        &mut self,
+        alloc: Global,
+        item: &Item<'_>,
+    ) -> Result<(), ReadFault>
         ensures { Sets result self.new (Ok (act_behind_right item.now.sort (as_seen item.now) self.old)) }
     {
         if item.sort == Sort::OpenIndex {

@@ -3,7 +3,13 @@
 ghost use Rattle.std.specs.Prelude.{◌≡◌, OnOk};
 ghost use Rattle.rtl_lex.specs.Items.{as_seen};
 ghost use Rattle.rtl_read.specs.Gives.{Sets};
-ghost use Rattle.rtl_read.specs.Act.Process.{act_process_name, open_switch, close_process, act_next_switch, act_process_body};
+ghost use Rattle.rtl_read.specs.Act.Process.{
+  act_process_name,
+  open_switch,
+  close_process,
+  act_next_switch,
+  act_process_body,
+};
 
 use crate::draft::{Draft, PairKind};
 use crate::open_process::{plain_process, process_of};
@@ -16,7 +22,11 @@ use std::mem;
 impl Draft {
     /// The name of a process.
     #[tactic(auto, using(crate::proofs::Faults::fails_on, crate::proofs::Faults::goes_on))]
-    pub fn act_process_name(&mut self, alloc: Global, item: &Item<'_>) -> Result<(), ReadFault>
+    pub(crate) fn act_process_name(
+        &mut self,
+        alloc: Global,
+        item: &Item<'_>,
+    ) -> Result<(), ReadFault>
         ensures { Sets result self.new (act_process_name (as_seen item.now) self.old) }
     {
         if let Err(fault) = self.current.take_name(item) {
@@ -28,7 +38,7 @@ impl Draft {
 
     /// The word `switch`.
     #[tactic(auto, using(crate::proofs::Faults::fails_on, crate::proofs::Faults::goes_on))]
-    pub fn open_switch(&mut self, alloc: Global, item: &Item<'_>) -> Result<(), ReadFault>
+    pub(crate) fn open_switch(&mut self, alloc: Global, item: &Item<'_>) -> Result<(), ReadFault>
         ensures { Sets result self.new (open_switch (as_seen item.now) self.old) }
     {
         let attributes = self.attributes.take(alloc);
@@ -39,7 +49,7 @@ impl Draft {
     }
 
     /// The open process is whole.
-    pub fn close_process(&mut self, alloc: Global) -> Result<(), Memory>
+    pub(crate) fn close_process(&mut self, alloc: Global) -> Result<(), Memory>
         ensures { OnOk result (self.new ≡ close_process self.old) }
     {
         let process = mem::replace(&mut self.process, plain_process(alloc, Seq::make(alloc)));
@@ -47,7 +57,11 @@ impl Draft {
     }
 
     /// The switch behind its attributes.
-    pub fn act_next_switch(&mut self, alloc: Global, item: &Item<'_>) -> Result<(), ReadFault>
+    pub(crate) fn act_next_switch(
+        &mut self,
+        alloc: Global,
+        item: &Item<'_>,
+    ) -> Result<(), ReadFault>
         ensures { Sets result self.new (act_next_switch item.now.sort (as_seen item.now) self.old) }
     {
         if item.sort == Sort::Switch {
@@ -57,7 +71,11 @@ impl Draft {
     }
 
     /// An assign or a switch of a process, its first sync, or its end.
-    pub fn act_process_body(&mut self, alloc: Global, item: &Item<'_>) -> Result<(), ReadFault>
+    pub(crate) fn act_process_body(
+        &mut self,
+        alloc: Global,
+        item: &Item<'_>,
+    ) -> Result<(), ReadFault>
         ensures { Sets result self.new (act_process_body item.now.sort (as_seen item.now) self.old) }
     {
         match item.sort {

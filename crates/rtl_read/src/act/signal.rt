@@ -4,7 +4,18 @@ ghost use Rattle.std.specs.Prelude.{◌≡◌, IfOk};
 ghost use Rattle.rtl_lex.specs.Items.{as_seen};
 ghost use Rattle.rtl_read.specs.Gives.{Gives, Sets};
 ghost use Rattle.rtl_read.specs.Signal.{no_signal, some_bits};
-ghost use Rattle.rtl_read.specs.Act.Signal.{begin_signal, open_bracket, without_signal, act_signal, act_inside, act_behind_inside, act_index, act_behind_index, act_low_index, act_index_end};
+ghost use Rattle.rtl_read.specs.Act.Signal.{
+  begin_signal,
+  open_bracket,
+  without_signal,
+  act_signal,
+  act_inside,
+  act_behind_inside,
+  act_index,
+  act_behind_index,
+  act_low_index,
+  act_index_end,
+};
 
 use crate::draft::Draft;
 use crate::read_fault::ReadFault;
@@ -18,7 +29,7 @@ use std::mem;
 impl Draft {
     /// A signal begins.
     #[tactic(auto, using(crate::proofs::Faults::fails_on, crate::proofs::Faults::goes_on))]
-    pub fn begin_signal(&mut self, alloc: Global, item: &Item<'_>) -> Result<(), ReadFault>
+    pub(crate) fn begin_signal(&mut self, alloc: Global, item: &Item<'_>) -> Result<(), ReadFault>
         ensures { Sets result self.new (begin_signal item.now.sort (as_seen item.now) self.old) }
     {
         let wires = self.current.body.wires.as_slice();
@@ -32,14 +43,14 @@ impl Draft {
     }
 
     /// A bracket opens behind the signal.
-    pub fn open_bracket(&mut self, item: &Item<'_>)
+    pub(crate) fn open_bracket(&mut self, item: &Item<'_>)
         ensures { self.new ≡ open_bracket (as_seen item.now) self.old }
     {
         self.signal.open_index(item);
     }
 
     /// The signal that was read; none is left.
-    pub fn take_signal(&mut self, alloc: Global) -> Result<SigSpec, Memory>
+    pub(crate) fn take_signal(&mut self, alloc: Global) -> Result<SigSpec, Memory>
         ensures signal { IfOk result (λ sig. sig ≡ self.old.signal.part) }
         ensures left { self.new ≡ without_signal self.old }
     {
@@ -48,7 +59,11 @@ impl Draft {
     }
 
     /// The signal that was read, which may not be empty; none is left.
-    pub fn take_some_bits(&mut self, alloc: Global, item: &Item<'_>) -> Result<SigSpec, ReadFault>
+    pub(crate) fn take_some_bits(
+        &mut self,
+        alloc: Global,
+        item: &Item<'_>,
+    ) -> Result<SigSpec, ReadFault>
         ensures signal { Gives result (some_bits self.old.signal.part (as_seen item.now)) }
         ensures left { self.new ≡ without_signal self.old }
     {
@@ -57,7 +72,7 @@ impl Draft {
     }
 
     /// A signal without its slices.
-    pub fn act_signal(&mut self, alloc: Global, item: &Item<'_>) -> Result<(), ReadFault>
+    pub(crate) fn act_signal(&mut self, alloc: Global, item: &Item<'_>) -> Result<(), ReadFault>
         ensures { Sets result self.new (act_signal (as_seen item.now) self.old) }
     {
         self.begin_signal(alloc, item)
@@ -65,7 +80,7 @@ impl Draft {
 
     /// Behind an opening brace.
     #[tactic(auto, using(crate::proofs::Faults::fails_on, crate::proofs::Faults::goes_on))]
-    pub fn act_inside(&mut self, alloc: Global, item: &Item<'_>) -> Result<(), ReadFault>
+    pub(crate) fn act_inside(&mut self, alloc: Global, item: &Item<'_>) -> Result<(), ReadFault>
         ensures { Sets result self.new (act_inside (as_seen item.now) self.old) }
     {
         let wires = self.current.body.wires.as_slice();
@@ -80,7 +95,11 @@ impl Draft {
 
     /// Behind a signal in braces.
     #[tactic(auto, using(crate::proofs::Faults::fails_on, crate::proofs::Faults::goes_on))]
-    pub fn act_behind_inside(&mut self, alloc: Global, item: &Item<'_>) -> Result<(), ReadFault>
+    pub(crate) fn act_behind_inside(
+        &mut self,
+        alloc: Global,
+        item: &Item<'_>,
+    ) -> Result<(), ReadFault>
         ensures { Sets result self.new (act_behind_inside (as_seen item.now) self.old) }
     {
         let wires = self.current.body.wires.as_slice();
@@ -93,7 +112,7 @@ impl Draft {
 
     /// The first number in brackets.
     #[tactic(auto, using(crate::proofs::Faults::fails_on, crate::proofs::Faults::goes_on))]
-    pub fn act_index(&mut self, item: &Item<'_>) -> Result<(), ReadFault>
+    pub(crate) fn act_index(&mut self, item: &Item<'_>) -> Result<(), ReadFault>
         ensures { Sets result self.new (act_index (as_seen item.now) self.old) }
     {
         if let Err(fault) = self.signal.set_high(item) {
@@ -104,7 +123,11 @@ impl Draft {
 
     /// Behind it: the bracket closes, or a second number follows.
     #[tactic(auto, using(crate::proofs::Faults::fails_on, crate::proofs::Faults::goes_on))]
-    pub fn act_behind_index(&mut self, alloc: Global, item: &Item<'_>) -> Result<(), ReadFault>
+    pub(crate) fn act_behind_index(
+        &mut self,
+        alloc: Global,
+        item: &Item<'_>,
+    ) -> Result<(), ReadFault>
         ensures { Sets result self.new (act_behind_index (as_seen item.now) self.old) }
     {
         if let Err(fault) = self.signal.behind_index(alloc, item) {
@@ -115,7 +138,7 @@ impl Draft {
 
     /// The second number in brackets.
     #[tactic(auto, using(crate::proofs::Faults::fails_on, crate::proofs::Faults::goes_on))]
-    pub fn act_low_index(&mut self, item: &Item<'_>) -> Result<(), ReadFault>
+    pub(crate) fn act_low_index(&mut self, item: &Item<'_>) -> Result<(), ReadFault>
         ensures { Sets result self.new (act_low_index (as_seen item.now) self.old) }
     {
         if let Err(fault) = self.signal.set_low(item) {
@@ -126,7 +149,7 @@ impl Draft {
 
     /// The bracket closes behind the second number.
     #[tactic(auto, using(crate::proofs::Faults::fails_on, crate::proofs::Faults::goes_on))]
-    pub fn act_index_end(&mut self, alloc: Global, item: &Item<'_>) -> Result<(), ReadFault>
+    pub(crate) fn act_index_end(&mut self, alloc: Global, item: &Item<'_>) -> Result<(), ReadFault>
         ensures { Sets result self.new (act_index_end (as_seen item.now) self.old) }
     {
         let (low, high) = (self.signal.low, self.signal.high);

@@ -3,7 +3,16 @@
 ghost use Rattle.std.specs.Prelude.{◌≡◌, Ok, OnOk};
 ghost use Rattle.rtl_lex.specs.Items.{as_seen};
 ghost use Rattle.rtl_read.specs.Gives.{Sets};
-ghost use Rattle.rtl_read.specs.Act.Switch.{act_behind_switch, act_next_case, act_cases, act_patterns, act_behind_pattern, end_case, act_next_in_case, act_case_body};
+ghost use Rattle.rtl_read.specs.Act.Switch.{
+  act_behind_switch,
+  act_next_case,
+  act_cases,
+  act_patterns,
+  act_behind_pattern,
+  end_case,
+  act_next_in_case,
+  act_case_body,
+};
 
 use crate::draft::{Draft, PairKind};
 use crate::read_fault::ReadFault;
@@ -14,7 +23,11 @@ use std::alloc::Global;
 impl Draft {
     /// A bracket behind the signal of a switch; or the end of the line.
     #[tactic(auto, using(crate::proofs::Faults::fails_on, crate::proofs::Faults::goes_on))]
-    pub fn act_behind_switch(&mut self, alloc: Global, item: &Item<'_>) -> Result<(), ReadFault>
+    pub(crate) fn act_behind_switch(
+        &mut self,
+        alloc: Global,
+        item: &Item<'_>,
+    ) -> Result<(), ReadFault>
         ensures { Sets result self.new (act_behind_switch item.now.sort (as_seen item.now) self.old) }
     {
         if item.sort == Sort::OpenIndex {
@@ -31,7 +44,7 @@ impl Draft {
     }
 
     /// The word `case` behind its attributes.
-    pub fn act_next_case(&mut self, alloc: Global, item: &Item<'_>) -> Result<(), ReadFault>
+    pub(crate) fn act_next_case(&mut self, alloc: Global, item: &Item<'_>) -> Result<(), ReadFault>
         ensures { Sets result self.new (Ok (act_next_case item.now.sort self.old)) }
     {
         if item.sort == Sort::Case {
@@ -42,7 +55,7 @@ impl Draft {
     }
 
     /// The first case of a switch, or its end.
-    pub fn act_cases(&mut self, alloc: Global, item: &Item<'_>) -> Result<(), ReadFault>
+    pub(crate) fn act_cases(&mut self, alloc: Global, item: &Item<'_>) -> Result<(), ReadFault>
         ensures { Sets result self.new (Ok (act_cases item.now.sort self.old)) }
     {
         if item.sort == Sort::End {
@@ -53,7 +66,7 @@ impl Draft {
     }
 
     /// The first pattern begins; or the end of the line: there is none.
-    pub fn act_patterns(&mut self, alloc: Global, item: &Item<'_>) -> Result<(), ReadFault>
+    pub(crate) fn act_patterns(&mut self, alloc: Global, item: &Item<'_>) -> Result<(), ReadFault>
         ensures { Sets result self.new (act_patterns item.now.sort (as_seen item.now) self.old) }
     {
         if item.sort == Sort::Line {
@@ -64,7 +77,11 @@ impl Draft {
 
     /// A bracket behind a pattern; or it is whole.
     #[tactic(auto, using(crate::proofs::Faults::fails_on, crate::proofs::Faults::goes_on))]
-    pub fn act_behind_pattern(&mut self, alloc: Global, item: &Item<'_>) -> Result<(), ReadFault>
+    pub(crate) fn act_behind_pattern(
+        &mut self,
+        alloc: Global,
+        item: &Item<'_>,
+    ) -> Result<(), ReadFault>
         ensures { Sets result self.new (act_behind_pattern item.now.sort (as_seen item.now) self.old) }
     {
         if item.sort == Sort::OpenIndex {
@@ -88,7 +105,11 @@ impl Draft {
     }
 
     /// A switch in the open case, or the next case, behind its attributes.
-    pub fn act_next_in_case(&mut self, alloc: Global, item: &Item<'_>) -> Result<(), ReadFault>
+    pub(crate) fn act_next_in_case(
+        &mut self,
+        alloc: Global,
+        item: &Item<'_>,
+    ) -> Result<(), ReadFault>
         ensures { Sets result self.new (act_next_in_case item.now.sort (as_seen item.now) self.old) }
     {
         match item.sort {
@@ -102,7 +123,7 @@ impl Draft {
     }
 
     /// An assign or a switch of a case, the next case, or the end of the switch.
-    pub fn act_case_body(&mut self, alloc: Global, item: &Item<'_>) -> Result<(), ReadFault>
+    pub(crate) fn act_case_body(&mut self, alloc: Global, item: &Item<'_>) -> Result<(), ReadFault>
         ensures { Sets result self.new (act_case_body item.now.sort (as_seen item.now) self.old) }
     {
         match item.sort {

@@ -3,7 +3,18 @@
 ghost use Rattle.std.specs.Prelude.{◌≡◌, Ok, OnOk};
 ghost use Rattle.rtl_lex.specs.Items.{as_seen};
 ghost use Rattle.rtl_read.specs.Gives.{Sets};
-ghost use Rattle.rtl_read.specs.Act.Sync.{act_sync_event, act_behind_event, end_rule, act_next_write, act_sync_body, act_write_memory, act_behind_address, act_behind_value, end_write, act_behind_enable};
+ghost use Rattle.rtl_read.specs.Act.Sync.{
+  act_sync_event,
+  act_behind_event,
+  end_rule,
+  act_next_write,
+  act_sync_body,
+  act_write_memory,
+  act_behind_address,
+  act_behind_value,
+  end_write,
+  act_behind_enable,
+};
 
 use crate::constant::constant;
 use crate::draft::{Draft, PairKind};
@@ -15,7 +26,7 @@ use std::alloc::Global;
 
 impl Draft {
     /// The event of a sync: its rule begins.
-    pub fn act_sync_event(&mut self, alloc: Global, item: &Item<'_>) -> Result<(), ReadFault>
+    pub(crate) fn act_sync_event(&mut self, alloc: Global, item: &Item<'_>) -> Result<(), ReadFault>
         ensures { Sets result self.new (Ok (act_sync_event item.now.sort self.old)) }
     {
         self.process.open_rule(alloc, item.sort);
@@ -24,7 +35,11 @@ impl Draft {
 
     /// A bracket behind the signal of an event; or the end of the line.
     #[tactic(auto, using(crate::proofs::Faults::fails_on, crate::proofs::Faults::goes_on))]
-    pub fn act_behind_event(&mut self, alloc: Global, item: &Item<'_>) -> Result<(), ReadFault>
+    pub(crate) fn act_behind_event(
+        &mut self,
+        alloc: Global,
+        item: &Item<'_>,
+    ) -> Result<(), ReadFault>
         ensures { Sets result self.new (act_behind_event item.now.sort (as_seen item.now) self.old) }
     {
         if item.sort == Sort::OpenIndex {
@@ -48,7 +63,7 @@ impl Draft {
     }
 
     /// The word `memwr` behind its attributes.
-    pub fn act_next_write(&mut self, alloc: Global, item: &Item<'_>) -> Result<(), ReadFault>
+    pub(crate) fn act_next_write(&mut self, alloc: Global, item: &Item<'_>) -> Result<(), ReadFault>
         ensures { Sets result self.new (Ok (act_next_write item.now.sort self.old)) }
     {
         if item.sort == Sort::Memwr {
@@ -59,7 +74,7 @@ impl Draft {
     }
 
     /// A line of a sync, the next sync, or the end of the process.
-    pub fn act_sync_body(&mut self, alloc: Global, item: &Item<'_>) -> Result<(), ReadFault>
+    pub(crate) fn act_sync_body(&mut self, alloc: Global, item: &Item<'_>) -> Result<(), ReadFault>
         ensures { Sets result self.new (Ok (act_sync_body item.now.sort self.old)) }
     {
         match item.sort {
@@ -75,7 +90,11 @@ impl Draft {
     }
 
     /// The memory that a `memwr` line writes.
-    pub fn act_write_memory(&mut self, alloc: Global, item: &Item<'_>) -> Result<(), ReadFault>
+    pub(crate) fn act_write_memory(
+        &mut self,
+        alloc: Global,
+        item: &Item<'_>,
+    ) -> Result<(), ReadFault>
         ensures { Sets result self.new (Ok (act_write_memory (as_seen item.now) self.old)) }
     {
         self.process.set_memory(alloc, item)?;
@@ -84,7 +103,11 @@ impl Draft {
 
     /// A bracket behind the address; or it is whole, and the value begins.
     #[tactic(auto, using(crate::proofs::Faults::fails_on, crate::proofs::Faults::goes_on))]
-    pub fn act_behind_address(&mut self, alloc: Global, item: &Item<'_>) -> Result<(), ReadFault>
+    pub(crate) fn act_behind_address(
+        &mut self,
+        alloc: Global,
+        item: &Item<'_>,
+    ) -> Result<(), ReadFault>
         ensures { Sets result self.new (act_behind_address item.now.sort (as_seen item.now) self.old) }
     {
         if item.sort == Sort::OpenIndex {
@@ -102,7 +125,11 @@ impl Draft {
 
     /// A bracket behind the value; or it is whole, and the enable begins.
     #[tactic(auto, using(crate::proofs::Faults::fails_on, crate::proofs::Faults::goes_on))]
-    pub fn act_behind_value(&mut self, alloc: Global, item: &Item<'_>) -> Result<(), ReadFault>
+    pub(crate) fn act_behind_value(
+        &mut self,
+        alloc: Global,
+        item: &Item<'_>,
+    ) -> Result<(), ReadFault>
         ensures { Sets result self.new (act_behind_value item.now.sort (as_seen item.now) self.old) }
     {
         if item.sort == Sort::OpenIndex {
@@ -139,7 +166,11 @@ impl Draft {
 
     /// A bracket behind the enable; or the mask.
     #[tactic(auto, using(crate::proofs::Faults::fails_on, crate::proofs::Faults::goes_on))]
-    pub fn act_behind_enable(&mut self, alloc: Global, item: &Item<'_>) -> Result<(), ReadFault>
+    pub(crate) fn act_behind_enable(
+        &mut self,
+        alloc: Global,
+        item: &Item<'_>,
+    ) -> Result<(), ReadFault>
         ensures { Sets result self.new (act_behind_enable item.now.sort (as_seen item.now) self.old) }
     {
         if item.sort == Sort::OpenIndex {

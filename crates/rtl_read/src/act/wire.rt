@@ -16,7 +16,11 @@ use std::mem;
 impl Draft {
     /// An option of a wire; or its name, with which it is whole.
     #[tactic(auto, using(crate::proofs::Faults::fails_on, crate::proofs::Faults::goes_on))]
-    pub fn act_wire_option(&mut self, alloc: Global, item: &Item<'_>) -> Result<(), ReadFault>
+    pub(crate) fn act_wire_option(
+        &mut self,
+        alloc: Global,
+        item: &Item<'_>,
+    ) -> Result<(), ReadFault>
         ensures { Sets result self.new (act_wire_option item.now.sort (as_seen item.now) self.old) }
     {
         if item.sort != Sort::Id {
@@ -32,7 +36,7 @@ impl Draft {
 
     /// The number behind `width`.
     #[tactic(auto, using(crate::proofs::Faults::fails_on, crate::proofs::Faults::goes_on))]
-    pub fn act_wire_width(&mut self, item: &Item<'_>) -> Result<(), ReadFault>
+    pub(crate) fn act_wire_width(&mut self, item: &Item<'_>) -> Result<(), ReadFault>
         ensures { Sets result self.new (act_wire_width (as_seen item.now) self.old) }
     {
         if let Err(fault) = set_width(&mut self.wire, item) {
@@ -43,7 +47,7 @@ impl Draft {
 
     /// The number behind `offset`.
     #[tactic(auto, using(crate::proofs::Faults::fails_on, crate::proofs::Faults::goes_on))]
-    pub fn act_wire_offset(&mut self, item: &Item<'_>) -> Result<(), ReadFault>
+    pub(crate) fn act_wire_offset(&mut self, item: &Item<'_>) -> Result<(), ReadFault>
         ensures { Sets result self.new (act_wire_offset (as_seen item.now) self.old) }
     {
         if let Err(fault) = set_offset(&mut self.wire, item) {
@@ -54,7 +58,7 @@ impl Draft {
 
     /// The number of a port.
     #[tactic(auto, using(crate::proofs::Faults::fails_on, crate::proofs::Faults::goes_on))]
-    pub fn act_port_number(&mut self, item: &Item<'_>) -> Result<(), ReadFault>
+    pub(crate) fn act_port_number(&mut self, item: &Item<'_>) -> Result<(), ReadFault>
         ensures { Sets result self.new (act_port_number (as_seen item.now) self.old) }
     {
         if let Err(fault) = set_number(&mut self.wire, item) {

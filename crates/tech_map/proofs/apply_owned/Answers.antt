@@ -1,30 +1,42 @@
-use Rattle.tech_map.proofs.Forming.{ready_whole}
-use Rattle.tech_map.proofs.Promised as promised
+use Rattle.rtl_ir.specs.Types.{table_ports}
+use Rattle.net_index.specs.Builder.{IsInLimits}
+use Rattle.net_model.specs.Within.{Each}
+use Rattle.pass_laws.specs.Pass.{IsPass, StaysDriven}
+use Rattle.pass_laws.specs.Replaces.{IsOutside}
+use Rattle.pass_laws.specs.Stays.{StaysFaultless}
+use Rattle.pass_laws.proofs.Promised.{answered, answered_within}
+use Rattle.tech_map.specs.Gates.{HasGatesAlone}
+use Rattle.tech_map.specs.Techmap.{beside, techmap_of}
+use Rattle.tech_map.proofs.Driving.{techmap_driven}
+use Rattle.tech_map.proofs.Faultless.{techmap_faultless}
+use Rattle.tech_map.proofs.Forming.{ready_whole, takable}
+use Rattle.tech_map.proofs.Gates.{techmap_gates}
+use Rattle.tech_map.proofs.Promised.{techmap_passes}
 use Rattle.tech_map.proofs.apply_owned.Goals as goal
 
 pub mapped-requires : goal.mapped-requires
 mapped-requires c = record { whole = ready_whole _ c.args.module c.requires.ready }
 
-pub returns-clause-refines : goal.returns-clause-refines
-returns-clause-refines c = promised.refines c.args.module c.mapped.result c.mapped.ensures.exact c.mapped.ensures.within c.args.ports.now c.requires.ready
+pub returns-clause-pass : goal.returns-clause-pass
+returns-clause-pass c =
+    let m = c.args.module in
+    answered_within c.mapped.result (techmap_of m) c.mapped.ensures.exact (IsInLimits (beside m)) c.mapped.ensures.within
+    (IsPass c.args.ports.now m) (λ limits. techmap_passes c.args.ports.now m c.requires.ready limits)
 
-pub returns-clause-well_driven : goal.returns-clause-well_driven
-returns-clause-well_driven c = promised.well_driven c.args.module c.mapped.result c.mapped.ensures.exact c.mapped.ensures.within c.args.ports.now c.requires.ready
-
-pub returns-clause-well_formed : goal.returns-clause-well_formed
-returns-clause-well_formed c = promised.well_formed c.args.module c.mapped.result c.mapped.ensures.exact c.mapped.ensures.within c.args.ports.now c.requires.ready
+pub returns-clause-driven : goal.returns-clause-driven
+returns-clause-driven c =
+    let m = c.args.module in
+    answered_within c.mapped.result (techmap_of m) c.mapped.ensures.exact (IsInLimits (beside m)) c.mapped.ensures.within
+    (StaysDriven m) (λ limits. techmap_driven m (takable (table_ports c.args.ports.now.modules) m c.requires.ready) limits.names)
 
 pub returns-clause-faultless : goal.returns-clause-faultless
-returns-clause-faultless c = promised.stays_faultless c.args.module c.mapped.result c.mapped.ensures.exact c.mapped.ensures.within c.args.ports.now c.requires.ready
+returns-clause-faultless c =
+    let m = c.args.module in
+    answered_within c.mapped.result (techmap_of m) c.mapped.ensures.exact (IsInLimits (beside m)) c.mapped.ensures.within
+    (StaysFaultless m) (λ limits. techmap_faultless (table_ports c.args.ports.now.modules) m c.requires.ready limits.names)
 
 pub returns-clause-gates : goal.returns-clause-gates
-returns-clause-gates c = promised.gates c.args.module c.mapped.result c.mapped.ensures.exact c.mapped.ensures.within c.args.ports.now c.requires.ready
-
-pub returns-clause-same_id : goal.returns-clause-same_id
-returns-clause-same_id c = promised.same_id c.args.module c.mapped.result c.mapped.ensures.exact c.mapped.ensures.within c.args.ports.now c.requires.ready
-
-pub returns-clause-same_ports : goal.returns-clause-same_ports
-returns-clause-same_ports c = promised.same_ports c.args.module c.mapped.result c.mapped.ensures.exact c.mapped.ensures.within c.args.ports.now c.requires.ready
-
-pub returns-clause-same_instances : goal.returns-clause-same_instances
-returns-clause-same_instances c = promised.same_instances c.args.module c.mapped.result c.mapped.ensures.exact c.mapped.ensures.within c.args.ports.now c.requires.ready
+returns-clause-gates c =
+    let m = c.args.module in
+    answered c.mapped.result (techmap_of m) c.mapped.ensures.exact
+    (λ after. Each IsOutside m.cells → HasGatesAlone after) (techmap_gates m (takable (table_ports c.args.ports.now.modules) m c.requires.ready).whole)

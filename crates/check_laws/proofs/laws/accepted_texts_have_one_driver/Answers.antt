@@ -1,5 +1,5 @@
 use Rattle.net_model.proofs.WellDriven.{one_driver}
-use Rattle.rtl_trip.proofs.Kept.{readable}
+use Rattle.rtl_write.proofs.Kept.{readable}
 use Rattle.check_laws.proofs.Accepted.{accepted}
 use Rattle.check_laws.proofs.Readable.{sound}
 use Rattle.check_laws.proofs.laws.accepted_texts_have_one_driver.Goals as goal

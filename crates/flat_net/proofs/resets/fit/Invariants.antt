@@ -4,7 +4,7 @@ use Rattle.std.specs.List.{AllByRecursion}
 use Rattle.rtl_ir.specs.declared.cell.Cell.{Cell}
 use Rattle.rtl_ir.specs.Flat.Process.{no_modules}
 use Rattle.rtl_ir.specs.Types.{cell_type}
-use Rattle.event_tests.specs.Fitting.{DoesFit}
+use Rattle.process_trees.specs.Fitting.{DoesFit}
 use Rattle.flat_net.proofs.resets.fit.Given as goal
 
 abbrev pub invariant-loop-cell : goal.invariant-loop-cell

@@ -5,7 +5,7 @@ use Rattle.rtl_ir.specs.declared.cell.Cell.{Cell}
 use Rattle.rtl_ir.specs.declared.ports.ModulePorts.{ModulePorts}
 use Rattle.rtl_ir.specs.Types.{cell_type, table_ports}
 use Rattle.net_index.specs.Types.{AreTypes}
-use Rattle.event_tests.specs.Fitting.{DoesFit}
+use Rattle.process_trees.specs.Fitting.{DoesFit}
 use Rattle.flat_net.proofs.Results.{if_ok}
 use Rattle.flat_net.proofs.resets.tests_of.Goals as goal
 

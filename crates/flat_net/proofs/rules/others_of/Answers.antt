@@ -3,7 +3,8 @@ use Rattle.std.specs.Prelude.{filter, not}
 use Rattle.std.specs.Option.{is_some}
 use Rattle.std.proofs.Math.ListN.{drop_of_length-le}
 use Rattle.std.proofs.lemmas.List.{append-nil}
-use Rattle.rtl_ir.specs.Follow.{Join, source_at}
+use Rattle.rtl_ir.specs.Follow.{source_at}
+use Rattle.rtl_ir.specs.declared.follow.Join.{Join}
 use Rattle.flat_net.specs.Lines.{join_of}
 use Rattle.flat_net.proofs.rules.others_of.Goals as goal
 

@@ -2,7 +2,8 @@
 use Rattle.std.proofs.Common.{◌≡◌, ◌++◌, List, drop, map}
 use Rattle.std.specs.Prelude.{filter, not}
 use Rattle.std.specs.Option.{is_some}
-use Rattle.rtl_ir.specs.Follow.{Join, source_at}
+use Rattle.rtl_ir.specs.Follow.{source_at}
+use Rattle.rtl_ir.specs.declared.follow.Join.{Join}
 use Rattle.flat_net.specs.Lines.{join_of}
 use Rattle.flat_net.specs.Rules.{AreSources}
 use Rattle.flat_net.proofs.rules.others_of.Given as goal

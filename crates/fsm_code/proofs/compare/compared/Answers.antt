@@ -1,6 +1,6 @@
 -- The constant stands beside the state.
 use Rattle.std.proofs.Common.{◌∙◌, ap, map, arith}
-use Rattle.rtl_ir.specs.Faults.MemoryCells.{constant_of}
+use Rattle.rtl_ir.specs.Signals.{constant_of}
 use Rattle.rtl_ir.specs.Follow.{follow}
 use Rattle.fsm_code.specs.Outputs.{coding_of}
 use Rattle.fsm_code.proofs.Placing.{compared_left, compared_right}

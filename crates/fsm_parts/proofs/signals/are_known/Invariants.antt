@@ -1,7 +1,7 @@
 -- The bits so far are known.
 use Rattle.std.proofs.Common.{◌≡◌, drop, map}
 use Rattle.rtl_bits.specs.Knowledge.{all_known}
-use Rattle.rtl_ir.specs.Faults.MemoryCells.{constant_of}
+use Rattle.rtl_ir.specs.Signals.{constant_of}
 use Rattle.fsm_parts.proofs.signals.are_known.Given as goal
 
 abbrev pub invariant-loop-bit : goal.invariant-loop-bit

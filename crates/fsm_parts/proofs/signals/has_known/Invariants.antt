@@ -2,7 +2,7 @@
 use Rattle.std.proofs.Common.{◌≡◌, drop}
 use Rattle.std.specs.List.{list_any}
 use Rattle.rtl_bits.specs.Knowledge.{is_known}
-use Rattle.rtl_ir.specs.Faults.MemoryCells.{constant_of}
+use Rattle.rtl_ir.specs.Signals.{constant_of}
 use Rattle.fsm_parts.proofs.signals.has_known.Given as goal
 
 abbrev pub invariant-loop-bit : goal.invariant-loop-bit

@@ -1,7 +1,4 @@
-use Rattle.std.proofs.Common.{◌<◌, ◌∙◌, ap, subst}
-use Rattle.cell_types.specs.Given.{number_in}
-use Rattle.cell_types.specs.declared.param_name.ParamName.TheVariants.{Words}
-use Rattle.rtl_ir.specs.Parameters.{given_params}
+use Rattle.std.proofs.Common.{◌<◌, subst}
 use Rattle.mem_gather.proofs.Starting.{words_begin, words_go}
 use Rattle.mem_gather.proofs.starts.put_cell.Goals as goal
 
@@ -11,5 +8,5 @@ loop-number-init c size f e = words_begin c.args.base size c.args.width c.args.c
 pub loop-number-preserved : goal.loop-number-preserved
 loop-number-preserved c size f e =
     words_go c.args.base size c.args.width c.args.cell.now f c.in_ok-first.first c.in_ok-first.ensures.value c.loop-number.number
-    (subst (λ n. c.loop-number.number < n) (c.in_ok-count.ensures.value ∙ ap (λ ps. number_in (given_params ps) Words) c.as_slice.ensures.value) c.loop-number-test.true)
+    (subst (λ n. c.loop-number.number < n) c.in_ok-count.ensures.value c.loop-number-test.true)
     c.loop-number.words.items c.put_word.new.words.items (c.loop-number.invariant size f e) c.in_ok-put_word.ensures.ok

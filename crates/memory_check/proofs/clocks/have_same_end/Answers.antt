@@ -1,6 +1,6 @@
 use Rattle.std.proofs.Common.{[], ◌∙◌}
 use Rattle.rtl_ir.specs.Types.{table_ports}
-use Rattle.rtl_ir.specs.WritePorts.{same_place}
+use Rattle.rtl_ir.specs.Signals.{same_place}
 use Rattle.memory_check.proofs.clocks.have_same_end.Goals as goal
 
 pub returns : goal.returns

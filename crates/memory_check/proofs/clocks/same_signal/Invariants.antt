@@ -3,7 +3,7 @@ use Rattle.std.proofs.Common.{◌≡◌, [], drop, map}
 use Rattle.rtl_ir.specs.declared.module.Module.{Module}
 use Rattle.rtl_ir.specs.Follow.{follow}
 use Rattle.rtl_ir.specs.Types.{table_ports}
-use Rattle.rtl_ir.specs.WritePorts.{same_signal}
+use Rattle.rtl_ir.specs.Signals.{same_signal}
 use Rattle.net_index.specs.Index.{IsIndex}
 use Rattle.memory_check.proofs.clocks.same_signal.Given as goal
 

@@ -9,7 +9,7 @@ use Rattle.memory_check.proofs.starts.are_enables.Goals as goal
 pub returns-else-is_all_constant : goal.returns-else-is_all_constant
 returns-else-is_all_constant c = record {
   value = λ kind has.
-      let signal = c.signal_at.ensures.value ∙ ap (λ ps. signal_at ps (pin_text En)) c.as_slice.ensures.value in
+      let signal = c.pin_signal.ensures.value ∙ ap (λ ps. signal_at ps (pin_text En)) c.as_slice.ensures.value in
       let constant = sym c.if-is_all_constant.false ∙ c.is_all_constant.ensures.value ∙ ap is_all_constant signal in
       (λ i. constant i || no_words c.args.shape.now kind c.args.cell.now has i);
 }

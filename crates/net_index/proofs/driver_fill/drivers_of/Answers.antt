@@ -1,8 +1,7 @@
 use Rattle.std.proofs.Common.{◌≡◌, ◌++◌, map, ◌∙◌, ap, subst}
-use Rattle.rtl_ir.specs.Drivers.{FromLink, cell_drives, drives_of, link_drives, port_drives, rule_drives, tree_drives}
-use Rattle.rtl_ir.specs.Follow.{Join}
+use Rattle.rtl_ir.specs.Drivers.{cell_drives, drives_of, link_drives, port_drives, rule_drives, tree_drives}
 use Rattle.net_index.specs.DriverFill.{Adds, join_drive}
-use Rattle.net_index.proofs.Indexing.{adds_alone, adds_both, drives_of_joins}
+use Rattle.net_index.proofs.Indexing.{adds_alone, adds_both}
 use Rattle.net_index.proofs.driver_fill.drivers_of.Goals as goal
 
 pub returns : goal.returns
@@ -11,7 +10,7 @@ returns c = record {
       let m = c.args.module.now in
       let none = c.in_ok-drivers.drivers in
       let links : map join_drive c.args.joins.now ≡ link_drives m.links =
-      drives_of_joins c.args.joins.now ∙ ap (map (λ (j : Join). record { bit = j.bit; source = FromLink j.source })) c.requires.joins in
+      ap (map join_drive) c.requires.joins in
       let by_ports : Adds none (port_drives 0 m.wires) c.add_ports.new.drivers =
       subst (λ ws. Adds none (port_drives 0 ws) c.add_ports.new.drivers) c.as_slice-wires.ensures.value c.in_ok-add_ports.ensures.ok in
       let by_cells : Adds c.add_ports.new.drivers (cell_drives ports 0 m.cells) c.add_cells.new.drivers =

@@ -4,7 +4,7 @@ use Rattle.rtl_sig.specs.declared.sig.WireBit.{WireBit}
 use Rattle.rtl_ir.specs.Follow.{joins}
 use Rattle.rtl_ir.specs.Tree.{CaseView}
 use Rattle.net_model.specs.Proc.Reset.{reset_places}
-use Rattle.tree_leaves.specs.Rounds.{AreLeaves}
+use Rattle.process_trees.specs.Rounds.{AreLeaves}
 use Rattle.proc_reset.specs.Places.{joins_of, leaves_at}
 use Rattle.proc_reset.proofs.places.places_of.Given as goal
 

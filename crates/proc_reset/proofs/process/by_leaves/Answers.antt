@@ -1,6 +1,6 @@
 use Rattle.std.proofs.Common.{◌≡◌, ◌++◌, refl, ◌∙◌, ap}
 use Rattle.net_model.specs.Proc.Reset.{reset_rule, with_level, with_reset}
-use Rattle.event_tests.specs.Edge.{edge_as}
+use Rattle.process_trees.specs.Edge.{edge_as}
 use Rattle.proc_reset.specs.Places.{leaves_at}
 use Rattle.proc_reset.proofs.Choosing.{answer_is}
 use Rattle.proc_reset.proofs.Leveled.{leveled}

@@ -1,6 +1,6 @@
 use Rattle.std.proofs.Common.{◌≡◌, ◌++◌, Some, option_map, sym, ◌∙◌, ap}
 use Rattle.net_model.specs.Proc.Reset.{reset_by}
-use Rattle.event_tests.specs.Edge.{edge_as}
+use Rattle.process_trees.specs.Edge.{edge_as}
 use Rattle.proc_reset.proofs.Choosing.{answer_is}
 use Rattle.proc_reset.proofs.process.by_second.Goals as goal
 

@@ -1,6 +1,6 @@
 use Rattle.std.proofs.Common.{◌≡◌, IfOk, cond, not, subst}
 use Rattle.rtl_ir.specs.EventTests.{switch_test}
-use Rattle.proc_reset.specs.Levels.{open_case}
+use Rattle.process_trees.specs.Levels.{open_case}
 use Rattle.proc_reset.proofs.process.level_root.Goals as goal
 
 pub returns : goal.returns

@@ -1,7 +1,7 @@
 use Rattle.std.proofs.Common.{◌≡◌, ◌++◌, option_map, sym, ◌∙◌, ap}
 use Rattle.rtl_ir.specs.Faults.TwoEdges.{edge_bit}
 use Rattle.net_model.specs.Proc.Reset.{reset_by}
-use Rattle.event_tests.specs.Edge.{edge_as}
+use Rattle.process_trees.specs.Edge.{edge_as}
 use Rattle.proc_reset.proofs.Choosing.{answer_is}
 use Rattle.proc_reset.proofs.process.reset_by.Goals as goal
 

@@ -1,6 +1,6 @@
 use Rattle.std.proofs.Common.{not}
 use Rattle.rtl_ir.specs.EventTests.{switch_test}
-use Rattle.proc_reset.specs.Levels.{open_case}
+use Rattle.process_trees.specs.Levels.{open_case}
 use Rattle.proc_reset.proofs.Choosing.{first_chosen, second_chosen}
 use Rattle.proc_reset.proofs.process.root_after.Goals as goal
 

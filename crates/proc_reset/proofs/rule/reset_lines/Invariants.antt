@@ -2,7 +2,7 @@
 use Rattle.std.proofs.Common.{◌≡◌, ◌++◌, List, drop, flat_map}
 use Rattle.rtl_sig.specs.declared.sig.WireBit.{WireBit}
 use Rattle.rtl_ir.specs.Tree.{CaseView}
-use Rattle.tree_leaves.specs.Rounds.{AreLeaves}
+use Rattle.process_trees.specs.Rounds.{AreLeaves}
 use Rattle.proc_reset.specs.Places.{reset_line}
 use Rattle.proc_reset.proofs.rule.reset_lines.Given as goal
 

@@ -1,8 +1,7 @@
 -- The bits so far and those of the places that are left are all.
 use Rattle.std.proofs.Common.{◌≡◌, ◌++◌, drop}
 use Rattle.net_model.specs.Proc.Sync.{right_side}
-use Rattle.proc_sync.specs.Joins.{joins_of}
 use Rattle.proc_sync.proofs.joins.right_side.Given as goal
 
 abbrev pub invariant-loop-place : goal.invariant-loop-place
-invariant-loop-place l = l.bits.items ++ right_side (joins_of (drop l.place-index l.places)) ≡ right_side (joins_of l.places)
+invariant-loop-place l = l.bits.items ++ right_side ((drop l.place-index l.places)) ≡ right_side l.places

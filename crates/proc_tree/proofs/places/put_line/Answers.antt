@@ -1,6 +1,6 @@
 use Rattle.std.proofs.Common.{map, arith, ◌++◌}
 use Rattle.rtl_ir.specs.Follow.{joins}
-use Rattle.net_index.proofs.IndexPlaces.{place_added, places_all}
+use Rattle.rtl_ir.proofs.JoinPlaces.{place_added, places_all}
 use Rattle.proc_tree.specs.Places.{join_of}
 use Rattle.proc_tree.proofs.places.put_line.Goals as goal
 

@@ -2,7 +2,7 @@ use Rattle.std.proofs.Common.{◌∙◌, ap}
 use Rattle.std.specs.Prelude.{codes, slice_index_or}
 use Rattle.rtl_bits.specs.declared.bit.Bit.TheVariants.{X}
 use Rattle.rtl_bits.specs.Tables.{seen_of}
-use Rattle.rtl_ir.specs.Flat.Start.{attribute_bits}
+use Rattle.rtl_ir.specs.Attributes.{attribute_bits}
 use Rattle.proc_tree.proofs.Placing.{bits_next}
 use Rattle.proc_tree.proofs.wires.start_bits.Goals as goal
 

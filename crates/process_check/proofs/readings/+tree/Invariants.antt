@@ -2,7 +2,8 @@
 use Rattle.std.proofs.Common.{◌≡◌, ◌++◌, List, drop}
 use Rattle.rtl_sig.specs.declared.sig.WireBit.{WireBit}
 use Rattle.rtl_ir.specs.Tree.{cases_of, switches_of}
-use Rattle.process_check.specs.Readings.{AreNumbers, cases_edges, switches_edges}
+use Rattle.process_trees.specs.Numbers.{AreNumbers}
+use Rattle.process_check.specs.Readings.{cases_edges, switches_edges}
 use Rattle.process_check.proofs.readings.+tree.Given as goal
 
 abbrev pub invariant-put_case-loop-switch : goal.invariant-put_case-loop-switch

@@ -2,7 +2,8 @@
 use Rattle.std.proofs.Common.{◌≡◌, ◌++◌, List, drop, flat_map}
 use Rattle.rtl_sig.specs.declared.sig.WireBit.{WireBit}
 use Rattle.rtl_ir.specs.Assigns.{left_bits}
-use Rattle.process_check.specs.Readings.{AreNumbers, bit_edges}
+use Rattle.process_trees.specs.Numbers.{AreNumbers}
+use Rattle.process_check.specs.Readings.{bit_edges}
 use Rattle.process_check.proofs.readings.put_assigns.Given as goal
 
 abbrev pub invariant-loop-line : goal.invariant-loop-line

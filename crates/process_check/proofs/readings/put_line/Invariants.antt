@@ -3,7 +3,8 @@ use Rattle.std.proofs.Common.{◌≡◌, ◌++◌, List, drop, flat_map}
 use Rattle.rtl_sig.specs.declared.sig.WireBit.{WireBit}
 use Rattle.rtl_ir.specs.declared.module.Link.{Link}
 use Rattle.rtl_ir.specs.Signals.{wire_bits}
-use Rattle.process_check.specs.Readings.{AreNumbers, AreSources, bit_edges}
+use Rattle.process_trees.specs.Numbers.{AreNumbers}
+use Rattle.process_check.specs.Readings.{AreSources, bit_edges}
 use Rattle.process_check.proofs.readings.put_line.Given as goal
 
 abbrev pub invariant-loop-bit : goal.invariant-loop-bit

@@ -1,7 +1,8 @@
 -- The numbers so far, and those of the places that are left, are all.
 use Rattle.std.proofs.Common.{◌≡◌, ◌++◌, List, drop}
 use Rattle.rtl_sig.specs.declared.sig.WireBit.{WireBit}
-use Rattle.process_check.specs.Readings.{AreNumbers, numbers_in}
+use Rattle.process_trees.specs.Numbers.{AreNumbers}
+use Rattle.process_check.specs.Readings.{numbers_in}
 use Rattle.process_check.proofs.readings.put_numbers.Given as goal
 
 abbrev pub invariant-loop-bit : goal.invariant-loop-bit

@@ -1,7 +1,7 @@
 use Rattle.std.proofs.Common.{◌∙◌, sym}
 use Rattle.std.proofs.lemmas.Result.{IfOk-weaker}
 use Rattle.rtl_ir.specs.Follow.{all_joins}
-use Rattle.event_tests.specs.Edge.{edge_as}
+use Rattle.process_trees.specs.Edge.{edge_as}
 use Rattle.process_check.proofs.Settled.{both_same, first_resets, none_resets, other_false, other_true, second_resets}
 use Rattle.process_check.proofs.two_edges.one_resets.Goals as goal
 

@@ -4,7 +4,7 @@ use Rattle.std.specs.List.{list_all}
 use Rattle.rtl_sig.specs.declared.sig.WireBit.{WireBit}
 use Rattle.rtl_ir.specs.Follow.{all_joins}
 use Rattle.rtl_ir.specs.Tree.{CaseView}
-use Rattle.tree_leaves.specs.Rounds.{AreLeaves}
+use Rattle.process_trees.specs.Rounds.{AreLeaves}
 use Rattle.process_check.specs.Values.{is_settled}
 use Rattle.process_check.proofs.values.settle_lines.Given as goal
 

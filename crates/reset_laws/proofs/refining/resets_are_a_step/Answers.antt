@@ -8,5 +8,5 @@ pub returns : goal.returns
 returns c = record {
   step = λ table m ready ruled starts placed trees.
       let good = (resets_refine (table_ports table.modules) m ready placed trees starts ruled (flat.table_ports table)).0 in
-      record { id = refl; ports = refl; instances = refl; driven = λ over agree h. good.driven over h; refines = good.refines };
+      record { id = refl; ports = refl; instances = refl; driven = λ over h. good.driven over h; refines = good.refines };
 }

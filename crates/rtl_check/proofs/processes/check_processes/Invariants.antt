@@ -6,7 +6,7 @@ use Rattle.rtl_ir.specs.Scope.{everything}
 use Rattle.rtl_ir.specs.Types.{Ports}
 use Rattle.rtl_ir.specs.WritePorts.{write_lines}
 use Rattle.net_index.specs.Types.{AreTypes}
-use Rattle.event_tests.specs.Fitting.{DoCellsFit}
+use Rattle.process_trees.specs.Fitting.{DoCellsFit}
 use Rattle.memory_check.specs.Memories.{KnowsCells, KnowsLines}
 use Rattle.process_check.specs.Values.{WereAsked}
 use Rattle.rtl_check.proofs.processes.check_processes.Given as goal

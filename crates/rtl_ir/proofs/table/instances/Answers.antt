@@ -1,29 +1,33 @@
-use Rattle.std.proofs.Common.{◌≡◌, ◌∙◌, ◌&&◌, not, true, false, ap, refl, sym}
-use Rattle.rtl_ir.specs.Ports.{instantiates, is_library_cell}
-use Rattle.rtl_ir.proofs.PortLemmas.{with_instance, with_other, AreNamed-insert_entry, all_instances, found_values}
+use Rattle.std.proofs.Common.{◌∙◌, ap, sym}
+use Rattle.rtl_ir.specs.Ports.{place_module}
+use Rattle.rtl_ir.proofs.NameOrder.{all_cells, instance_next, no_cells}
+use Rattle.rtl_ir.proofs.PortLemmas.{AreNamed-insert_entry, found_values, map-insert_entry-module}
 use Rattle.rtl_ir.proofs.table.instances.Goals as goal
+use Rattle.rtl_ir.proofs.table.instances.Goals.{in-Some+in_ok-insert, in_default}
 
-pub loop-at-preserved-in_ok-insert : goal.loop-at-preserved-in_ok-insert
-loop-at-preserved-in_ok-insert c =
-    let id = c.index-modules-at.result.id in
-    let instance : instantiates c.args.cells.now id ≡ true =
-    ap (λ b. not (is_library_cell id) && b) (sym (c.in_ok-types.ensures.value id)) ∙ sym (rw c.as_slice-id.ensures.value at c.if-is_instance.ensures.value) in
-    rw c.in_ok-insert.ensures.entries (record {
-      found = with_instance _ _ _ _ _ c.loop-at-test.true c.loop-at.auto.at c.index-modules-at.is c.loop-at.invariant.found _ _ c.as_slice-id.ensures.value refl instance c.loop-at.invariant.named;
-      named = AreNamed-insert_entry _ _ c.as_slice-id.ensures.value _ c.loop-at.invariant.named;
-    })
+pub loop-cell-init : goal.loop-cell-init
+loop-cell-init c = rw c.new-found.ensures.empty (record { found = λ modules are. sym (no_cells modules); named = tt })
 
-pub loop-at-preserved : goal.loop-at-preserved
-loop-at-preserved c =
-    let id = c.index-modules-at.result.id in
-    let other : instantiates c.args.cells.now id ≡ false =
-    ap (λ b. not (is_library_cell id) && b) (sym (c.in_ok-types.ensures.value id)) ∙ sym (rw c.as_slice-id.ensures.value at c.if-is_instance.ensures.value) in
-    record {
-      found = with_other _ _ _ _ _ c.loop-at-test.true c.loop-at.auto.at c.index-modules-at.is c.loop-at.invariant.found other;
-      named = c.loop-at.invariant.named;
-    }
+pub loop-cell-preserved : goal.loop-cell-preserved
+loop-cell-preserved c = elim c.match-instance_of.branch [
+  | in-Some+in_ok-insert w ↦
+      rw (w.found-is, w.in_ok-insert.ensures.entries) (record {
+        found = λ modules are.
+            map-insert_entry-module _ _ w.as_slice-in-Some.ensures.value _ c.loop-cell.invariant.named
+            ∙ ap (place_module w.in-Some.module.now) (c.loop-cell.invariant.found modules are)
+            ∙ sym (instance_next modules c.args.cells.now c.loop-cell.cell-index c.cell-item.result c.loop-cell-test.true c.cell-item.is _ c.as_slice.ensures.value _ (w.in-Some.ensures.value modules are));
+        named = AreNamed-insert_entry _ _ w.as_slice-in-Some.ensures.value _ c.loop-cell.invariant.named;
+      })
+  | in_default w ↦
+      rw w.found-is (record {
+        found = λ modules are.
+            c.loop-cell.invariant.found modules are
+            ∙ sym (instance_next modules c.args.cells.now c.loop-cell.cell-index c.cell-item.result c.loop-cell-test.true c.cell-item.is _ c.as_slice.ensures.value _ (w.in_default.ensures.value modules are));
+        named = c.loop-cell.invariant.named;
+      })
+]
 
 pub returns : goal.returns
 returns c = record {
-  value = found_values c.values_of.result c.loop-at.found.entries _ (all_instances _ _ _ _ c.loop-at-test.false c.loop-at.invariant.found) c.values_of.ensures.value;
+  value = λ modules are. found_values c.values_of.result c.loop-cell.found.entries _ (c.loop-cell.invariant.found modules are ∙ all_cells modules c.args.cells.now c.loop-cell.cell-index c.loop-cell-test.false) c.values_of.ensures.value;
 }

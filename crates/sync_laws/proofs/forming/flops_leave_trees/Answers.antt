@@ -1,4 +1,4 @@
-use Rattle.sync_laws.proofs.Formed.{are_ruled, none_left}
+use Rattle.sync_laws.proofs.Steps.{are_ruled, none_left}
 use Rattle.sync_laws.proofs.forming.flops_leave_trees.Goals as goal
 
 pub returns : goal.returns

@@ -1,10 +1,12 @@
-use Rattle.std.proofs.Common.{List, [], ◌∷◌, ◌∙◌, map, refl}
+use Rattle.std.proofs.Common.{List, [], ◌∷◌, ◌∙◌, map, refl, subst, sym}
 use Rattle.std.specs.Prelude.{reverse}
 use Rattle.rtl_ir.specs.Flat.Process.{always_row}
+use Rattle.process_trees.specs.Reaching.{AreReaching}
 use Rattle.flat_net.specs.declared.lines.Line.{Line}
 use Rattle.flat_net.specs.Lines.{join_of}
 use Rattle.flat_net.proofs.Adding.{Leads-last, Leads-none, Leads-read}
 use Rattle.flat_net.proofs.Kept.{within-Keeps}
+use Rattle.flat_net.proofs.Sourcing.{same_hold}
 use Rattle.flat_net.proofs.Reading.{Extends-refl, Extends-then}
 use Rattle.flat_net.proofs.builder.Builder.add_always.Goals as goal
 
@@ -21,9 +23,11 @@ loop-line-preserved c = record {
       let g = c.loop-line.invariant.grows in
       let root = c.args.rooted.now.root in
       let row = always_row start p c.args.wires.now root (reverse c.args.rooted.now.bits) in
-      let are = c.as_slice-bits.ensures.value ∙ c.in_ok-bits.ensures.value in
+      let bits = c.in_ok-bits.ensures.value in
+      let table = subst (AreReaching c.in_ok-reaching.reaching root) (c.as_slice.ensures.value ∙ sym c.as_slice-in-loop-line.ensures.value) c.in_ok-reaching.ensures.value in
+      let holds = same_hold _ root _ _ _ (c.as_slice-in-loop-line.ensures.value ∙ bits) (c.in_ok-holds.ensures.value root table) in
       Leads-read (λ (ls : List Line). map row (map join_of ls)) (λ l. row (join_of l) ∷ []) (λ l ls. refl) refl c.args.lines.now c.args.self.now _ c.loop-line.self c.add_always_bit.new.self c.loop-line.line-index _
-      c.loop-line-test.true (c.loop-line.invariant.rows p path start is) (c.in_ok-add_always_bit.ensures.rows p (g.paths _ _ path) start is are);
+      c.loop-line-test.true (c.loop-line.invariant.rows p path start is) (c.in_ok-add_always_bit.ensures.rows p (g.paths _ _ path) start is holds);
 }
 
 pub returns-clause-rows : goal.returns-clause-rows

@@ -1,7 +1,7 @@
 use Rattle.std.proofs.Common.{◌∙◌, map, sym, subst, ap}
 use Rattle.std.specs.Prelude.{option_map, reverse, true, false}
 use Rattle.rtl_ir.specs.Flat.Process.{no_modules}
-use Rattle.event_tests.specs.Edge.{edge_as}
+use Rattle.process_trees.specs.Edge.{edge_as}
 use Rattle.flat_net.specs.Adds.{Adds}
 use Rattle.flat_net.specs.Lines.{join_of}
 use Rattle.flat_net.proofs.Pairing.{race_rows}

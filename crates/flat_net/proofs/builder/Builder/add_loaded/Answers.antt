@@ -1,6 +1,7 @@
 use Rattle.std.proofs.Common.{◌∙◌, map, ap, refl, subst}
 use Rattle.rtl_ir.specs.Flat.Process.{level_row, loaded_row}
-use Rattle.rtl_ir.specs.Follow.{Join, source_at}
+use Rattle.rtl_ir.specs.Follow.{source_at}
+use Rattle.rtl_ir.specs.declared.follow.Join.{Join}
 use Rattle.flat_net.specs.Adds.{Adds}
 use Rattle.flat_net.specs.Lines.{join_of}
 use Rattle.flat_net.specs.Registers.{trigger_of}

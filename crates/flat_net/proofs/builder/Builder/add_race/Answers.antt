@@ -1,7 +1,7 @@
 use Rattle.std.proofs.Common.{map, refl}
 use Rattle.rtl_ir.specs.EventTests.{switch_test}
 use Rattle.rtl_ir.specs.Flat.Process.{no_modules}
-use Rattle.event_tests.specs.Edge.{edge_as}
+use Rattle.process_trees.specs.Edge.{edge_as}
 use Rattle.flat_net.specs.declared.leaves.Raced.{Raced}
 use Rattle.flat_net.specs.declared.net.Point.TheVariants.{At}
 use Rattle.flat_net.specs.Lines.{join_of}

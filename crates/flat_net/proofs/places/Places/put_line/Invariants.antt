@@ -2,7 +2,8 @@
 use Rattle.std.proofs.Common.{◌≡◌, ◌++◌, List, Some, slice_get, take}
 use Rattle.rtl_ir.specs.Faults.TwoEdges.{SwitchTest}
 use Rattle.rtl_ir.specs.Flat.Place.{Path}
-use Rattle.rtl_ir.specs.Follow.{Join, joins}
+use Rattle.rtl_ir.specs.Follow.{joins}
+use Rattle.rtl_ir.specs.declared.follow.Join.{Join}
 use Rattle.flat_net.specs.Known.{Extends}
 use Rattle.flat_net.specs.Trees.{AreAssigns}
 use Rattle.flat_net.proofs.places.Places.put_line.Given as goal

@@ -2,7 +2,7 @@
 use Rattle.std.proofs.Common.{List, map, take}
 use Rattle.rtl_sig.specs.declared.sig.WireBit.{WireBit}
 use Rattle.rtl_ir.specs.Tree.{CaseView}
-use Rattle.tree_leaves.specs.Rounds.{AreLeaves}
+use Rattle.process_trees.specs.Rounds.{AreLeaves}
 use Rattle.flat_net.specs.Lines.{join_of}
 use Rattle.flat_net.specs.Starts.{Gains, starts_by}
 use Rattle.flat_net.proofs.starts.Starts.give_all.Given as goal

@@ -1,7 +1,7 @@
 -- The table has the places of the list still.
 use Rattle.std.proofs.Common.{rules, map, ◌≡◌, length, cond, Some, None, sym, ◌∙◌, ap}
 use Rattle.std.specs.Option.{option_or}
-use Rattle.rtl_ir.specs.WritePorts.{same_signal}
+use Rattle.rtl_ir.specs.Signals.{same_signal}
 use Rattle.fsm_parts.specs.SignalTable.{place_in}
 use Rattle.fsm_code.specs.declared.outputs.Output.{Output}
 use Rattle.fsm_code.specs.Outputs.{first_output, pair_of}

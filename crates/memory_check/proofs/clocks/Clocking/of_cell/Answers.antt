@@ -9,7 +9,7 @@ use Rattle.memory_check.proofs.clocks.Clocking.of_cell.Goals as goal
 pub returns : goal.returns
 returns c = record {
   value = λ has links.
-      let clock = c.signal_at.ensures.value ∙ ap (λ ps. signal_at ps (pin_text Clk)) c.as_slice.ensures.value in
+      let clock = c.pin_signal.ensures.value ∙ ap (λ ps. signal_at ps (pin_text Clk)) c.as_slice.ensures.value in
       let rising = c.is_high.ensures.value ∙ rising_is c.args.shape.now c.args.cell.now has in
       (λ i. record { clock = map (follow links) (clock i); rising = rising i });
 }

@@ -1,6 +1,6 @@
 use Rattle.std.proofs.Common.{◌++◌, arith, subst}
 use Rattle.rtl_ir.specs.Follow.{joins}
-use Rattle.net_index.proofs.IndexPlaces.{places_all}
+use Rattle.rtl_ir.proofs.JoinPlaces.{places_all}
 use Rattle.net_alias.specs.Aliases.{AreAliases}
 use Rattle.net_alias.proofs.aliases.Aliases.connect_sides.Goals as goal
 

@@ -1,6 +1,7 @@
 -- Some places are in, and those that are left are the rest of all.
 use Rattle.std.proofs.Common.{◌≡◌, ◌++◌, List, drop}
-use Rattle.rtl_ir.specs.Follow.{Join, joins}
+use Rattle.rtl_ir.specs.Follow.{joins}
+use Rattle.rtl_ir.specs.declared.follow.Join.{Join}
 use Rattle.net_alias.specs.Aliases.{AreAliases}
 use Rattle.net_alias.proofs.aliases.Aliases.connect_sides.Given as goal
 

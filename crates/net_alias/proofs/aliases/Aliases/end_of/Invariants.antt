@@ -1,6 +1,6 @@
 -- All that is known is so, and so many steps were made.
 use Rattle.std.proofs.Common.{List}
-use Rattle.rtl_ir.specs.Follow.{Join}
+use Rattle.rtl_ir.specs.declared.follow.Join.{Join}
 use Rattle.net_alias.specs.Aliases.{AreAliases}
 use Rattle.net_alias.proofs.Learning.{Walked}
 use Rattle.net_alias.proofs.aliases.Aliases.end_of.Given as goal

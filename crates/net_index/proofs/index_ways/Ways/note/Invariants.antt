@@ -1,6 +1,6 @@
 -- All that is known is so, and what was found is so of the bit.
 use Rattle.std.proofs.Common.{List}
-use Rattle.rtl_ir.specs.Follow.{Join}
+use Rattle.rtl_ir.specs.declared.follow.Join.{Join}
 use Rattle.net_index.specs.IndexWays.{AreWays, IsFound}
 use Rattle.net_index.proofs.index_ways.Ways.note.Given as goal
 

@@ -29,7 +29,7 @@ pub returns-in_ok-first-in-None : goal.returns-in_ok-first-in-None
 returns-in_ok-first-in-None c = record {
   state = λ wires before s d here own is.
       let row = c.in_ok-row.ensures.value wires s.links is.view ∙ ap (λ x. row_of (traits_of (start_of wires []) s.links c.args.kind x)) (c.index-cells-at.is ∙ get_there c.args.cells.now c.args.at d here c.index-cells-at.result) in
-      c.in_ok-first-in-None.ensures.state wires before c.args.cells.now s d here own row (ap (at_row c.args.self.now.entries.table) (sym c.as_slice.ensures.value) ∙ sym c.in-None.ensures.value)
+      c.in_ok-first-in-None.ensures.state c.args.cells.now wires before s d here own row (ap (at_row c.args.self.now.entries.table) (sym c.as_slice.ensures.value) ∙ sym c.in-None.ensures.value)
       (record {
         view = c.row.ensures.keeps wires s.links is.view;
         table = is.table;

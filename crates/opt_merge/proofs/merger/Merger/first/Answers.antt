@@ -5,7 +5,7 @@ use Rattle.opt_merge.proofs.merger.Merger.first.Goals as goal
 
 pub returns : goal.returns
 returns c = record {
-  state = λ wires before cells s d here own row none is.
+  state = λ cells wires before s d here own row none is.
       state_first wires before cells c.args.at s d here c.args.kind own c.args.self.now _ is (record { kept = c.in_ok-push.ensures.items; readers = refl; links = refl }) c.in_ok-note.ensures.view
       (ap (at_row c.args.self.now.entries.table) (sym row) ∙ none) (subst (λ rs. PutsRow c.args.self.now.entries.table c.note.new.self.table rs c.args.at) row c.in_ok-note.ensures.table).all c.in_ok-note.ensures.kinds;
 }

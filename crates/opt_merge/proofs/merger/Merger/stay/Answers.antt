@@ -4,6 +4,6 @@ use Rattle.opt_merge.proofs.merger.Merger.stay.Goals as goal
 
 pub returns : goal.returns
 returns c = record {
-  state = λ wires before cells s d here none is.
+  state = λ cells wires before s d here none is.
       state_stay wires before cells c.args.at s d here c.args.self.now _ is none (record { kept = c.in_ok-push.ensures.items; readers = refl; links = refl }) refl;
 }

@@ -17,5 +17,5 @@ pub returns-in_ok-stay-in-None : goal.returns-in_ok-stay-in-None
 returns-in_ok-stay-in-None c = record {
   state = λ wires before s d here is.
       let none = ap merging_kind (sym (c.index-cells-at.is ∙ get_there c.args.cells.now c.args.at d here c.index-cells-at.result)) ∙ sym c.in_ok-kind.ensures.value ∙ c.in-None.is in
-      subst (λ o. IsState c.stay.new.self wires before c.args.cells.now (c.args.at + 1) (after_kind (start_of wires []) s d o)) (sym none) (c.in_ok-stay-in-None.ensures.state wires before c.args.cells.now s d here none is);
+      subst (λ o. IsState c.stay.new.self wires before c.args.cells.now (c.args.at + 1) (after_kind (start_of wires []) s d o)) (sym none) (c.in_ok-stay-in-None.ensures.state c.args.cells.now wires before s d here none is);
 }

@@ -1,0 +1,15 @@
+pub mod CountingItems
+pub mod CountingBits
+pub mod RebuildPlaces
+pub mod RebuildSpots
+pub mod RebuildBits
+pub mod RebuildMemories
+pub mod Orders
+pub mod Moments
+pub mod CellValues
+pub mod Growing
+pub mod Staying
+pub mod Built
+pub mod CellFits
+pub mod Meeting
+pub mod CountingPlaces

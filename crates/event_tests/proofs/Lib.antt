@@ -1,8 +1,0 @@
-pub mod Faultless
-pub mod Fits
-pub mod Opens
-pub mod Places
-pub mod Signals
-pub mod Stepping
-pub mod Testing
-pub mod Ways

@@ -1,8 +1,0 @@
--- The rules so far that act.
-use Rattle.std.proofs.Common.{take}
-use Rattle.rtl_ir.specs.Rules.{acting_rules}
-use Rattle.flat_net.specs.Acting.{Acts}
-use Rattle.flat_net.proofs.acting.acting_rules.Given as goal
-
-abbrev pub invariant-loop-rule : goal.invariant-loop-rule
-invariant-loop-rule l = Acts l.acting (acting_rules (take l.rule-index l.rules))

@@ -1,7 +1,0 @@
--- The constants so far, and those of the bits that are left, are all.
-use Rattle.std.proofs.Common.{◌≡◌, ◌++◌, map, drop}
-use Rattle.rtl_sig.specs.declared.sig.SigBit.TheVariants.{Fixed}
-use Rattle.fsm_code.proofs.numbers.fixed.Given as goal
-
-abbrev pub invariant-loop-bit : goal.invariant-loop-bit
-invariant-loop-bit l = l.signal ++ map Fixed (drop l.bit-index l.bits) ≡ map Fixed l.bits

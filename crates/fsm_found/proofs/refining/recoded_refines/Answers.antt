@@ -1,7 +1,0 @@
-use Rattle.fsm_found.proofs.Refined.{recoded_refines}
-use Rattle.fsm_found.proofs.refining.recoded_refines.Goals as goal
-
-pub returns : goal.returns
-returns c = record {
-  refines = λ table m at machine ready inside is. recoded_refines table m ready inside at machine is;
-}

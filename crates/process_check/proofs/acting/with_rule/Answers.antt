@@ -1,5 +1,0 @@
-use Rattle.process_check.proofs.RuleLemmas.{many_act}
-use Rattle.process_check.proofs.acting.with_rule.Goals as goal
-
-pub returns-in-Pair : goal.returns-in-Pair
-returns-in-Pair c = record { value = λ rules a. many_act c.args.acting rules c.args.rule.now a c.in-Pair.is }

@@ -1,0 +1,15 @@
+pub mod Reading
+pub mod Acting
+pub mod Edge
+pub mod Fitting
+pub mod Steps
+pub mod Tables
+pub mod Tested
+pub mod Levels
+pub mod Numbers
+pub mod Lines
+pub mod Reach
+pub mod Walk
+pub mod Reaching
+pub mod Leaves
+pub mod Rounds

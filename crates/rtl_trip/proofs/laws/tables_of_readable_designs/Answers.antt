@@ -1,5 +1,0 @@
-use Rattle.rtl_trip.proofs.PortTableLemmas.{readable_table}
-use Rattle.rtl_trip.proofs.laws.tables_of_readable_designs.Goals as goal
-
-pub returns : goal.returns
-returns c = readable_table

@@ -1,8 +1,0 @@
-use Rattle.std.proofs.Common.{◌≡◌, [], take, map}
-use Rattle.std.specs.List.{fold}
-use Rattle.rtl_trip.specs.PortTables.{with_line}
-use Rattle.rtl_trip.proofs.ports.modules_of.Given as goal
-
--- the modules of the lines so far
-abbrev pub invariant-loop-line : goal.invariant-loop-line
-invariant-loop-line l = l.modules.items ≡ fold with_line [] (map (λ line. line.now) (take l.line-index l.line-items))

@@ -1,6 +1,0 @@
--- What a reply of the code says.
-use Rattle.rtlsyn.specs.declared.reply.Reply.{Reply}
-use Rattle.rtlsyn.specs.Replies.{Said}
-
-abbrev pub said_of : Reply → Said
-said_of reply = record { text = reply.text; error = reply.error }

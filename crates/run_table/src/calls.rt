@@ -1,0 +1,116 @@
+//! Calls over memory.
+
+use rtl_bits::{Memory, Steps, Text};
+use std::alloc::Global;
+use synth_io::{MemSink, MemSource, Sink, Source};
+use synth_run::{Status, run};
+use table_rows::str_of;
+
+/// The name of the counter of builds.
+pub struct Builds;
+
+/// The most bytes that a call may write.
+const ROOM: u32 = 8_000_000;
+
+/// What a call is given: its words, parted by blanks, the numbers of the read and the write that fail, or none, and
+/// its input.
+#[derive(Clone, Copy)]
+pub struct Call<'a> {
+    pub words: &'a [u8],
+    pub read: &'a [u8],
+    pub write: &'a [u8],
+    pub input: &'a [u8],
+}
+
+/// How a call ended: its status, how many builds it counted, and what was written.
+#[derive(Drop)]
+pub struct Ended {
+    pub status: Status,
+    pub builds: u64,
+    pub sink: MemSink,
+}
+
+/// The list of the number in a field, or of none.
+fn numbers_of(alloc: Global, field: &[u8]) -> Result<Vec<u64>, Memory> {
+    let mut numbers = Vec::new(alloc);
+    if let Ok(number) = str_of(field).parse::<u64>() {
+        numbers.push(number)?;
+    }
+    Ok(numbers)
+}
+
+/// The words in a field.
+fn words_of(alloc: Global, field: &[u8]) -> Result<Vec<String>, Memory> {
+    let mut words = Vec::new(alloc);
+    for word in str_of(field).split(' ') {
+        if !word.is_empty() {
+            words.push(String::from_str(alloc, word)?)?;
+        }
+    }
+    Ok(words)
+}
+
+/// Makes a call over a source and a sink, and gives how it ended and how many builds it counted.
+pub fn count_builds<S: Source, K: Sink>(
+    alloc: Global,
+    words: &[String],
+    source: &mut S,
+    sink: &mut K,
+) -> (Status, u64) {
+    let mut meter = Steps::make(&Builds);
+    let status = run(alloc, words, source, sink, &mut meter);
+    (status, meter.end(&Builds))
+}
+
+/// Makes the call over memory.
+pub fn ended(alloc: Global, call: Call<'_>) -> Result<Ended, Memory> {
+    let words = words_of(alloc, call.words)?;
+    let input = Text::from_slice(alloc, call.input)?;
+    let mut source = MemSource::make(input, numbers_of(alloc, call.read)?);
+    let mut sink = MemSink::make(alloc, ROOM, numbers_of(alloc, call.write)?)?;
+    let (status, builds) = count_builds(alloc, words.as_slice(), &mut source, &mut sink);
+    Ok(Ended {
+        status,
+        builds,
+        sink,
+    })
+}
+
+/// Whether the status has this number.
+pub fn has_code(status: Status, code: &[u8]) -> bool {
+    str_of(code).parse::<u8>().ok() == Some(status.code())
+}
+
+/// Whether a call ends with a status, writes these bytes, and counts so many builds, where that is told.
+pub fn is_answered(alloc: Global, fields: &[&[u8]]) -> Result<bool, Memory> {
+    let [_, words, read, write, builds, code, input, output] = fields else {
+        return Ok(false);
+    };
+    let call = Call {
+        words,
+        read,
+        write,
+        input,
+    };
+    let ended = ended(alloc, call)?;
+    let is_told = builds.is_empty() || str_of(builds).parse::<u64>().ok() == Some(ended.builds);
+    Ok(is_told && has_code(ended.status, code) && ended.sink.bytes() == *output)
+}
+
+/// Whether so many lines of the netlist of an input begin with these bytes.
+pub fn has_lines(alloc: Global, fields: &[&[u8]]) -> Result<bool, Memory> {
+    let [_, start, count, input] = fields else {
+        return Ok(false);
+    };
+    let call = Call {
+        words: b"",
+        read: b"",
+        write: b"",
+        input,
+    };
+    let ended = ended(alloc, call)?;
+    let lines = ended.sink.bytes().split(|byte| *byte == b'\n');
+    let found = lines.filter(|line| line.starts_with(start)).count();
+    let is_counted = str_of(count).parse::<usize>().ok() == Some(found);
+    Ok(is_counted && ended.status == Status::Done)
+}

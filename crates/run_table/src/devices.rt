@@ -1,0 +1,35 @@
+//! Devices that fail in mid-stream.
+
+use crate::calls::{Call, ended, has_code};
+use rtl_bits::Memory;
+use std::alloc::{AllocError, Global};
+use table_rows::str_of;
+
+/// A module of so many wires, whose canonical text it is.
+pub fn wires_text(alloc: Global, count: u32) -> Result<String, AllocError> {
+    let mut text = String::from_str(alloc, "module \\m\n")?;
+    for at in 0..count {
+        let port = at.saturating_add(1);
+        let wire = format!(in alloc; "  wire input {port} \\w{at}\n")?;
+        text.push_str(wire.as_str())?;
+    }
+    text.push_str("end\n")?;
+    Ok(text)
+}
+
+/// Whether a call whose read or write of this number fails ends with a status, and has written so many bytes of the
+/// text.
+pub fn is_answered(alloc: Global, text: &[u8], fields: &[&[u8]]) -> Result<bool, Memory> {
+    let [_, read, write, code, held] = fields else {
+        return Ok(false);
+    };
+    let call = Call {
+        words: b"",
+        read,
+        write,
+        input: text,
+    };
+    let ended = ended(alloc, call)?;
+    let held = str_of(held).parse::<usize>().unwrap_or(usize::MAX);
+    Ok(has_code(ended.status, code) && Some(ended.sink.bytes()) == text.get(..held))
+}

@@ -1,5 +1,0 @@
-//! Rows for the crates that read and write text.
-#![tactic(auto)]
-
-#[cfg(test)]
-mod tests;

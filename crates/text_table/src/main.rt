@@ -1,0 +1,123 @@
+//! Goes through tables of texts: their tokens and values, what they are answered, and what is written of their designs.
+#![tactic(auto)]
+
+mod answer;
+mod designs;
+mod items;
+mod large;
+mod parts;
+mod ports;
+mod texts;
+mod tokens;
+mod values;
+
+use rtl_bits::Memory;
+use std::alloc::Global;
+use std::process::ExitCode;
+use table_rows::{LINES, TEXTS, Tally, report, text_of};
+
+/// The files whose rows are lines.
+const OF_LINES: [&str; 5] = ["values", "widths", "integers", "constants", "signals"];
+
+/// The files whose fields are texts.
+const OF_TEXTS: [&str; 7] = [
+    "tokens",
+    "items",
+    "strings",
+    "texts",
+    "first_designs",
+    "second_designs",
+    "ports",
+];
+
+/// Whether a row of the file of this name holds.
+fn holds(alloc: Global, file: &str, fields: &[&[u8]]) -> Result<bool, Memory> {
+    match file {
+        "tokens" => tokens::has_tokens(alloc, fields),
+        "items" => items::has_items(alloc, fields),
+        "values" => values::has_bits(alloc, fields),
+        "widths" => Ok(values::has_width(fields)),
+        "integers" => Ok(values::is_integer(fields)),
+        "strings" => values::has_characters(alloc, fields),
+        "texts" => texts::is_answered(alloc, fields),
+        "constants" => parts::is_constant(alloc, fields),
+        "signals" => parts::is_signal(alloc, fields),
+        "first_designs" | "second_designs" => designs::is_kept(alloc, fields),
+        "ports" => ports::is_kept(alloc, fields),
+        _ => Ok(false),
+    }
+}
+
+/// Counts the rows of the files.
+fn count_files(rt: &HostRuntime, tally: &mut Tally) -> Result<(), Memory> {
+    for file in OF_LINES {
+        tally.file(rt, file, LINES, |alloc, fields| holds(alloc, file, fields))?;
+    }
+    for file in OF_TEXTS {
+        tally.file(rt, file, TEXTS, |alloc, fields| holds(alloc, file, fields))?;
+    }
+    Ok(())
+}
+
+/// Counts the prefixes of the text that has every construct.
+fn count_prefixes(rt: &HostRuntime, tally: &mut Tally) -> Result<(), Memory> {
+    let Some(every) = text_of(rt, "every") else {
+        return tally.count("every", b"cannot be read", false);
+    };
+    let every = every.as_slice();
+    tally.file(rt, "prefixes", LINES, |alloc, fields| {
+        texts::is_prefix_answered(alloc, every, fields)
+    })
+}
+
+/// Counts the texts with parts in one another, up to the limit and once more.
+fn count_depths(alloc: Global, tally: &mut Tally) -> Result<(), Memory> {
+    let table = "depths";
+    let over = "error 17 1028:1";
+    tally.count(
+        table,
+        b"512 switches",
+        large::has_switches(alloc, 512, "read")?,
+    )?;
+    tally.count(
+        table,
+        b"513 switches",
+        large::has_switches(alloc, 513, over)?,
+    )?;
+    let over = "error 17 2:525";
+    tally.count(table, b"512 braces", large::has_braces(alloc, 512, "read")?)?;
+    tally.count(table, b"513 braces", large::has_braces(alloc, 513, over)?)
+}
+
+/// Counts the texts with many parts.
+fn count_sizes(alloc: Global, tally: &mut Tally) -> Result<(), Memory> {
+    let table = "sizes";
+    let over = "error 17 8193:1";
+    tally.count(
+        table,
+        b"4,096 modules",
+        large::has_modules(alloc, 4096, "read")?,
+    )?;
+    tally.count(
+        table,
+        b"4,097 modules",
+        large::has_modules(alloc, 4097, over)?,
+    )?;
+    tally.count(table, b"5,000 patterns", large::has_patterns(alloc, 5000)?)?;
+    tally.count(table, b"67,108,864 spaces", large::has_spaces(alloc)?)
+}
+
+/// Counts all rows.
+fn tally_of(rt: &HostRuntime) -> Result<Tally, Memory> {
+    let mut tally = Tally::make(rt.alloc());
+    count_files(rt, &mut tally)?;
+    count_prefixes(rt, &mut tally)?;
+    count_depths(rt.alloc(), &mut tally)?;
+    count_sizes(rt.alloc(), &mut tally)?;
+    Ok(tally)
+}
+
+/// Goes through the tables, and says how many rows held.
+fn main(rt: HostRuntime) -> ExitCode {
+    report(&rt, tally_of(&rt))
+}

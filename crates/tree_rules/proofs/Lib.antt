@@ -1,2 +1,0 @@
-pub mod PatternsLeft
-pub mod TreeReading

@@ -1,5 +1,0 @@
-use Rattle.write_laws.proofs.Steps.{is_step}
-use Rattle.write_laws.proofs.forming.storage_is_a_step.Goals as goal
-
-pub returns : goal.returns
-returns c = record { step = is_step }
