@@ -1,15 +1,15 @@
 //! Large modules, each made by a loop.
 
-use crate::passes::netlist_of;
+use crate::passes::{After, after};
 use rtl_bits::{Memory, Text};
 use std::alloc::Global;
 
 /// The ports of each module.
 const HEAD: &[u8] = b"module \\m\n wire input 1 \\a\n wire input 2 \\b\n wire output 3 \\y\n";
 
-/// A memory of 65,536 words of one bit, which one port writes and one reads.
-const MEMORY: &[u8] =
-    b"module \\m\n  wire input 1 \\clk\n  wire width 16 input 2 \\wa\n  wire input 3 \\d\n  wire width 16 input 4 \\ra\n  wire output 5 \\q\n  memory size 65536 \\k\n  cell $memwr_v2 $w\n    parameter \\MEMID \"\\\\k\"\n    parameter \\ABITS 16\n    parameter \\WIDTH 1\n    parameter \\CLK_ENABLE 1\n    parameter \\CLK_POLARITY 1\n    parameter \\PORTID 0\n    parameter \\PRIORITY_MASK 1'0\n    connect \\CLK \\clk\n    connect \\EN 1'1\n    connect \\ADDR \\wa\n    connect \\DATA \\d\n  end\n  cell $memrd $r\n    parameter \\MEMID \"\\\\k\"\n    parameter \\ABITS 16\n    parameter \\WIDTH 1\n    parameter \\CLK_ENABLE 0\n    parameter \\CLK_POLARITY 0\n    parameter \\TRANSPARENT 0\n    connect \\ADDR \\ra\n    connect \\DATA \\q\n  end\nend\n";
+/// The front of a module with a memory of 65,536 words of one bit, and its read port.
+const MEMORY_HEAD: &[u8] =
+    b"module \\m\n wire input 1 \\clk\n wire width 16 input 2 \\wa\n wire input 3 \\d\n wire width 16 input 4 \\ra\n wire output 5 \\q\n memory size 65536 \\k\n cell $memrd $r\n  parameter \\MEMID \"\\\\k\"\n  parameter \\ABITS 16\n  parameter \\WIDTH 1\n  parameter \\CLK_ENABLE 0\n  parameter \\CLK_POLARITY 0\n  parameter \\TRANSPARENT 0\n  connect \\ADDR \\ra\n  connect \\DATA \\q\n end\n";
 
 /// What is large.
 #[derive(Clone, Copy)]
@@ -65,9 +65,33 @@ fn module_text(alloc: Global, large: Large, gates: u32) -> Result<Text, Memory> 
     Ok(text)
 }
 
+/// The write port of this number of the memory, which writes all its bits.
+fn port_text(alloc: Global, number: u32) -> Result<String, Memory> {
+    let width = number.max(1);
+    Ok(format!(in alloc;
+        " cell $memwr_v2 $w{number}\n  parameter \\MEMID \"\\\\k\"\n  parameter \\ABITS 16\n  parameter \\WIDTH 1\n  parameter \\CLK_ENABLE 1\n  parameter \\CLK_POLARITY 1\n  parameter \\PORTID {number}\n  parameter \\PRIORITY_MASK {width}'0\n  connect \\CLK \\clk\n  connect \\EN 1'1\n  connect \\ADDR \\wa\n  connect \\DATA \\d\n end\n"
+    )?)
+}
+
+/// A module of the memory with so many write ports, and of so many gates beside it.
+fn memory_text(alloc: Global, ports: u32, gates: u32) -> Result<Text, Memory> {
+    let mut text = Text::from_slice(alloc, MEMORY_HEAD)?;
+    for number in 0..ports {
+        text.extend(port_text(alloc, number)?.as_bytes())?;
+    }
+    for number in 0..gates {
+        let gate = format!(in alloc;
+            " wire \\t{number}\n cell $_NOT_ $t{number}\n  connect \\A \\d\n  connect \\Y \\t{number}\n end\n"
+        )?;
+        text.extend(gate.as_bytes())?;
+    }
+    text.extend(b"end\n")?;
+    Ok(text)
+}
+
 /// Whether the first module of the text has so many cells after the word.
 fn has_cells(alloc: Global, text: &[u8], word: &str, cells: usize) -> Result<bool, Memory> {
-    let Some(netlist) = netlist_of(alloc, text, word.as_bytes())? else {
+    let After::Netlist(netlist) = after(alloc, text, word.as_bytes())? else {
         return Ok(false);
     };
     let first = netlist.modules.as_slice().first();
@@ -92,7 +116,20 @@ pub fn is_merged(alloc: Global) -> Result<bool, Memory> {
     has_cells(alloc, text.as_slice(), "opt_merge", 1)
 }
 
-/// Whether the large memory becomes a match, a choice and a register for each word, and the read tree.
+/// Whether a memory becomes a match, a choice and a register for each word, and the read tree.
 pub fn is_expanded(alloc: Global) -> Result<bool, Memory> {
-    has_cells(alloc, MEMORY, "memory", 262_143)
+    let text = memory_text(alloc, 1, 0)?;
+    has_cells(alloc, text.as_slice(), "memory", 262_143)
+}
+
+/// Whether a memory with seven write ports beside a gate becomes as many cells as a module may have.
+pub fn is_largest(alloc: Global) -> Result<bool, Memory> {
+    let text = memory_text(alloc, 7, 1)?;
+    has_cells(alloc, text.as_slice(), "memory", 1_048_576)
+}
+
+/// Whether the same memory beside two gates passes the limit.
+pub fn is_over(alloc: Global) -> Result<bool, Memory> {
+    let text = memory_text(alloc, 7, 2)?;
+    Ok(matches!(after(alloc, text.as_slice(), b"memory")?, After::Over))
 }

@@ -17,7 +17,9 @@ fn count_large(rt: &HostRuntime, tally: &mut Tally) -> Result<(), Memory> {
     tally.count(table, b"a chain to nothing", large::is_cleaned(alloc)?)?;
     tally.count(table, b"gates that pass a bit on", large::is_folded(alloc)?)?;
     tally.count(table, b"equal gates", large::is_merged(alloc)?)?;
-    tally.count(table, b"a memory", large::is_expanded(alloc)?)
+    tally.count(table, b"a memory", large::is_expanded(alloc)?)?;
+    tally.count(table, b"as many cells as fit", large::is_largest(alloc)?)?;
+    tally.count(table, b"one cell more", large::is_over(alloc)?)
 }
 
 /// Counts the rows at standard input, and the large modules.

@@ -17,6 +17,16 @@ use std::alloc::Global;
 /// The name of the counter of builds.
 struct Builds;
 
+/// What passes make of the design of a text.
+pub enum After {
+    /// The design after them.
+    Netlist(Design),
+    /// A limit would be passed.
+    Over,
+    /// The text is none of a design without a fault, or the word is none.
+    Fault,
+}
+
 /// The words, by their names.
 const WORDS: [(&str, Word); 8] = [
     ("proc", Word::Proc),
@@ -97,47 +107,51 @@ fn design_after(alloc: Global, design: &Checked, script: &Script) -> Result<Opti
 }
 
 /// The design after the script, where the design has no fault.
-fn checked_after(alloc: Global, design: Design, script: &Script) -> Result<Option<Design>, Memory>
+fn checked_after(alloc: Global, design: Design, script: &Script) -> Result<After, Memory>
     requires readable { IsReadable design }
 {
-    match check(alloc, design) {
-        Ok(checked) => design_after(alloc, &checked, script),
-        Err(_) => Ok(None),
+    let Ok(checked) = check(alloc, design) else {
+        return Ok(After::Fault);
+    };
+    match design_after(alloc, &checked, script)? {
+        Some(netlist) => Ok(After::Netlist(netlist)),
+        None => Ok(After::Over),
     }
 }
 
-/// The design of the text after the script, where the text is one of a design without a fault.
+/// What the script makes of the design of the text.
 #[tactic(auto, using(rtl_write::proofs::Kept::readable))]
-fn text_after(alloc: Global, text: &[u8], script: &Script) -> Result<Option<Design>, Memory> {
+fn text_after(alloc: Global, text: &[u8], script: &Script) -> Result<After, Memory> {
     match read(alloc, text) {
         Ok(design) => checked_after(alloc, design, script),
         Err(ReadFault::Memory) => Err(Memory),
-        Err(_) => Ok(None),
+        Err(_) => Ok(After::Fault),
     }
 }
 
-/// The design of the text after `proc opt memory opt`, gates of its bitwise cells, and `opt`.
-fn bitwise_netlist(alloc: Global, text: &[u8]) -> Result<Option<Design>, Memory> {
-    let Some(design) = text_after(alloc, text, &memory_script(alloc)?)? else {
-        return Ok(None);
+/// What `proc opt memory opt`, gates of bitwise cells, and `opt` make of the design of the text.
+fn after_bitwise(alloc: Global, text: &[u8]) -> Result<After, Memory> {
+    let design = match text_after(alloc, text, &memory_script(alloc)?)? {
+        After::Netlist(design) => design,
+        refused => return Ok(refused),
     };
     match with_gates(alloc, &design) {
         Ok(mapped) => {
             let between = write(alloc, &mapped)?;
             text_after(alloc, between.as_slice(), &script_of(alloc, Word::Opt)?)
         }
-        Err(PassFault::Over) => Ok(None),
+        Err(PassFault::Over) => Ok(After::Over),
         Err(PassFault::Memory) => Err(Memory),
     }
 }
 
-/// The design of the text after `proc` and the word of this name, or after what `bitwise` stands for.
-pub fn netlist_of(alloc: Global, text: &[u8], name: &[u8]) -> Result<Option<Design>, Memory> {
+/// What `proc` and the word of this name make of the design of the text, or what `bitwise` stands for.
+pub fn after(alloc: Global, text: &[u8], name: &[u8]) -> Result<After, Memory> {
     if name == b"bitwise".as_slice() {
-        return bitwise_netlist(alloc, text);
+        return after_bitwise(alloc, text);
     }
     match word_of(name) {
         Some(word) => text_after(alloc, text, &script_of(alloc, word)?),
-        None => Ok(None),
+        None => Ok(After::Fault),
     }
 }
