@@ -63,7 +63,7 @@ pub fn count_builds<S: Source, K: Sink>(
 }
 
 /// Makes the call over memory.
-pub fn ended(alloc: Global, call: Call<'_>) -> Result<Ended, Memory> {
+pub fn make_call(alloc: Global, call: Call<'_>) -> Result<Ended, Memory> {
     let words = words_of(alloc, call.words)?;
     let input = Text::from_slice(alloc, call.input)?;
     let mut source = MemSource::make(input, numbers_of(alloc, call.read)?);
@@ -92,7 +92,7 @@ pub fn is_answered(alloc: Global, fields: &[&[u8]]) -> Result<bool, Memory> {
         write,
         input,
     };
-    let ended = ended(alloc, call)?;
+    let ended = make_call(alloc, call)?;
     let is_told = builds.is_empty() || str_of(builds).parse::<u64>().ok() == Some(ended.builds);
     Ok(is_told && has_code(ended.status, code) && ended.sink.bytes() == *output)
 }
@@ -108,7 +108,7 @@ pub fn has_lines(alloc: Global, fields: &[&[u8]]) -> Result<bool, Memory> {
         write: b"",
         input,
     };
-    let ended = ended(alloc, call)?;
+    let ended = make_call(alloc, call)?;
     let lines = ended.sink.bytes().split(|byte| *byte == b'\n');
     let found = lines.filter(|line| line.starts_with(start)).count();
     let is_counted = str_of(count).parse::<usize>().ok() == Some(found);

@@ -1,6 +1,6 @@
 //! Devices that fail in mid-stream.
 
-use crate::calls::{Call, ended, has_code};
+use crate::calls::{Call, has_code, make_call};
 use rtl_bits::Memory;
 use std::alloc::{AllocError, Global};
 use table_rows::str_of;
@@ -29,7 +29,7 @@ pub fn is_answered(alloc: Global, text: &[u8], fields: &[&[u8]]) -> Result<bool,
         write,
         input: text,
     };
-    let ended = ended(alloc, call)?;
+    let ended = make_call(alloc, call)?;
     let held = str_of(held).parse::<usize>().unwrap_or(usize::MAX);
     Ok(has_code(ended.status, code) && Some(ended.sink.bytes()) == text.get(..held))
 }
