@@ -18,6 +18,7 @@ use std::alloc::Global;
 struct Builds;
 
 /// What passes make of the design of a text.
+#[derive(Drop)]
 pub enum After {
     /// The design after them.
     Netlist(Design),
