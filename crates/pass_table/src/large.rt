@@ -1,6 +1,6 @@
 //! Large modules, each made by a loop.
 
-use crate::passes::{After, after};
+use crate::passes::{After, after_word};
 use rtl_bits::{Memory, Text};
 use std::alloc::Global;
 
@@ -91,7 +91,7 @@ fn memory_text(alloc: Global, ports: u32, gates: u32) -> Result<Text, Memory> {
 
 /// Whether the first module of the text has so many cells after the word.
 fn has_cells(alloc: Global, text: &[u8], word: &str, cells: usize) -> Result<bool, Memory> {
-    let After::Netlist(netlist) = after(alloc, text, word.as_bytes())? else {
+    let After::Netlist(netlist) = after_word(alloc, text, word.as_bytes())? else {
         return Ok(false);
     };
     let first = netlist.modules.as_slice().first();
@@ -131,5 +131,5 @@ pub fn is_largest(alloc: Global) -> Result<bool, Memory> {
 /// Whether the same memory beside two gates passes the limit.
 pub fn is_over(alloc: Global) -> Result<bool, Memory> {
     let text = memory_text(alloc, 7, 2)?;
-    Ok(matches!(after(alloc, text.as_slice(), b"memory")?, After::Over))
+    Ok(matches!(after_word(alloc, text.as_slice(), b"memory")?, After::Over))
 }

@@ -147,7 +147,7 @@ fn after_bitwise(alloc: Global, text: &[u8]) -> Result<After, Memory> {
 }
 
 /// What `proc` and the word of this name make of the design of the text, or what `bitwise` stands for.
-pub fn after(alloc: Global, text: &[u8], name: &[u8]) -> Result<After, Memory> {
+pub fn after_word(alloc: Global, text: &[u8], name: &[u8]) -> Result<After, Memory> {
     if name == b"bitwise".as_slice() {
         return after_bitwise(alloc, text);
     }

@@ -1,6 +1,6 @@
 //! The rows of the table: a name, a word, a text, and the text that is wanted, or `over` where a limit would be passed.
 
-use crate::passes::{After, after};
+use crate::passes::{After, after_word};
 use rtl_bits::Memory;
 use rtl_write::write;
 use std::alloc::Global;
@@ -10,7 +10,7 @@ pub fn holds(alloc: Global, fields: &[&[u8]]) -> Result<bool, Memory> {
     let [_, word, text, wanted] = fields else {
         return Ok(false);
     };
-    match after(alloc, text, word)? {
+    match after_word(alloc, text, word)? {
         After::Netlist(netlist) => Ok(write(alloc, &netlist)?.as_slice() == *wanted),
         After::Over => Ok(*wanted == b"over".as_slice()),
         After::Fault => Ok(false),
