@@ -44,7 +44,7 @@ module _ (ps : List Place) (values : List Bit) (apart : AreApart ps) (same : len
   word_same [] h = refl
   word_same (p ∷ points) h = λ i. read_same p h.0 i ∷ word_same points h.1 i
 
-  inputs_same : (c : Logic) → IsLogicWithin (length ps) c → read_words (shown ps values) (inputs_of ps c) ≡ number_inputs values c
+  pub inputs_same : (c : Logic) → IsLogicWithin (length ps) c → read_words (shown ps values) (inputs_of ps c) ≡ number_inputs values c
   inputs_same c h = λ i. word_same c.a h.a i ∷ word_same c.b h.b i ∷ word_same c.s h.s i ∷ []
 
   pins_same : (pins : StorePins) (n : ℕ) → ArePinsWithin (length ps) pins → n < length ps → value.pins_of (shown ps values) (pins_of ps pins) (place_at ps n) ≡ number_pins values pins n
@@ -61,14 +61,14 @@ module _ (ps : List Place) (values : List Bit) (apart : AreApart ps) (same : len
     q = found_at X ps values n apart same l i;
   }
 
-given_same : (ps : List Place) (moment : Moment) (at : ℕ) (values : List Bit) → value_of (Given at) (time_of ps moment) (shown ps values) ≡ given_of moment at
+pub given_same : (ps : List Place) (moment : Moment) (at : ℕ) (values : List Bit) → value_of (Given at) (time_of ps moment) (shown ps values) ≡ given_of moment at
 given_same ps Start at values = refl
 given_same ps (Step before inputs first) at values = refl
 
 joined_same : (ps : List Place) (t : Time Place) (j : Join) (values : List Bit) → value_of (Joined (point_of ps j.from)) t (shown ps values) ≡ passed_of (read (shown ps values) (point_of ps j.from))
 joined_same ps t j values = refl
 
-kept_same : (ps : List Place) (moment : Moment) (shape : Shape) (b : StoreBit) (values : List Bit) → IsBoard ps moment values → IsStoreWithin (length ps) b → value_of (store_row ps shape b).driver (time_of ps moment) (shown ps values) ≡ kept_of moment shape b values
+pub kept_same : (ps : List Place) (moment : Moment) (shape : Shape) (b : StoreBit) (values : List Bit) → IsBoard ps moment values → IsStoreWithin (length ps) b → value_of (store_row ps shape b).driver (time_of ps moment) (shown ps values) ≡ kept_of moment shape b values
 kept_same ps Start shape b values h l = refl
 kept_same ps (Step before inputs first) shape b values h l =
     λ i. store_bit_of shape b.at (pins_same ps before.now h.apart h.before b.pins b.number l.1 l.0 i) (pins_same ps values h.apart h.now b.pins b.number l.1 l.0 i) first

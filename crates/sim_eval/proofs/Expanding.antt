@@ -75,7 +75,7 @@ module _ (ps : List Place) (values : List Bit) (apart : AreApart ps) (same : len
       Are n bits = AreExpanded ps values reset leaves root width n bits
 
       -- a round more
-      more : (n : ℕ) (given : Source → Bit) → ((s : Source) → IsSourceWithin (length ps) width s → come n s ≡ given s) → (at : ℕ) → come (suc n) (tree_source at) ≡ tree_value values reset given at root
+      pub more : (n : ℕ) (given : Source → Bit) → ((s : Source) → IsSourceWithin (length ps) width s → come n s ≡ given s) → (at : ℕ) → come (suc n) (tree_source at) ≡ tree_value values reset given at root
       more n given agree at =
           root_same ps values apart same (leaf_at ps values leaves) reset (expanded_pick ps root n) given width agree (sym (unassigned_same n) ∙ agree unassigned (tt, tt)) at root within
 

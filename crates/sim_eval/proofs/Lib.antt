@@ -17,3 +17,9 @@ pub mod Remembering
 pub mod Reading
 pub mod Common
 pub mod SameBits
+pub mod Places
+pub mod Agreeing
+pub mod AddingReads
+pub mod Marking
+pub mod Driving
+pub mod Stepping

@@ -47,7 +47,7 @@ word_at values first address (c ∷ columns) zero = refl
 word_at values first address (c ∷ columns) (suc at) = word_at values first address columns at
 
 module _ (ps : List Place) (values : List Bit) (apart : AreApart ps) (same : length ps ≡ length values) where
-  column_same : (columns : List (List ℕ)) (at : ℕ) → AllByRecursion (AllByRecursion (λ n. n < length ps)) columns → read_all (shown ps values) (column_of ps columns at) ≡ number_column values (get_or columns at [])
+  pub column_same : (columns : List (List ℕ)) (at : ℕ) → AllByRecursion (AllByRecursion (λ n. n < length ps)) columns → read_all (shown ps values) (column_of ps columns at) ≡ number_column values (get_or columns at [])
   column_same [] at h = refl
   column_same (c ∷ columns) zero h = each c h.0
     where

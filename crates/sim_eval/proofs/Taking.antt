@@ -1,14 +1,14 @@
 -- Values that bits are given by number.
-use Rattle.std.proofs.Common.{◌||◌, take, replicate, ◌≡◌, ℕ, zero, suc, ◌+◌, ◌<◌, ◌≤◌, Bool, true, false, not, ◌&&◌, cond, List, [], ◌∷◌, ◌++◌, length, get_or, set, map, inl, ⊎_elim, refl, sym, ◌∙◌, ap, subst, arith}
-use Rattle.std.specs.Prelude.{if◌then◌else◌, nat_lt, flat_map, Result, Ok, Err, IfOk}
+use Rattle.std.proofs.Common.{◌||◌, take, replicate, ◌≡◌, ℕ, zero, suc, ◌+◌, ◌<◌, ◌≤◌, Bool, true, false, not, ◌&&◌, cond, List, [], ◌∷◌, ◌++◌, length, get_or, set, map, inl, inr, ⊎_elim, refl, sym, ◌∙◌, ap, subst, arith}
+use Rattle.std.specs.Prelude.{if◌then◌else◌, nat_eq, nat_lt, flat_map, Result, Ok, Err, IfOk, OnOk}
 use Rattle.std.specs.List.{AllByRecursion}
-use Rattle.std.proofs.lemmas.List.{take_more, append-nil}
+use Rattle.std.proofs.lemmas.List.{take_more, append-nil, get_or-set_other}
 use Rattle.std.proofs.lemmas.Grind.{flat_map-append}
-use Rattle.std.proofs.lemmas.Bool.{true≢false, cond_both, and_parts, lt-ltb, ltb-true}
+use Rattle.std.proofs.lemmas.Bool.{true≢false, cond_both, and_parts, eq-eqb, eqb-true, lt-ltb, ltb-true}
 use Rattle.rtl_bits.specs.declared.bit.Bit.{Bit}
 use Rattle.rtl_bits.specs.declared.bit.Bit.TheVariants.{S0, S1, X, Z, M, Dash}
 use Rattle.rtl_bits.specs.Knowledge.{FlatBelow}
-use Rattle.rtl_bits.proofs.Orders.{FlatBelow_trans}
+use Rattle.rtl_bits.proofs.Orders.{FlatBelow_from_equal, FlatBelow_trans}
 use Rattle.rtl_ir.specs.Flat.Driver.{Driven}
 use Rattle.rtl_ir.specs.Flat.Place.{Place, place_same}
 use Rattle.flat_net.specs.Points.{place_at, AreApart}
@@ -20,7 +20,7 @@ use Rattle.net_model.proofs.Drivers.{value_kept, time_refl}
 use Rattle.net_model.proofs.Members.{In-left, In-right, In-cases, In-map, In-mapped, map-append}
 use Rattle.net_model.proofs.Orders.{flat as flat_order}
 use Rattle.net_model.proofs.Places.{place_same-same}
-use Rattle.sim_eval.specs.Advance.{AreMet, Advances, AreHeld, Fact, Takes, unknowns, AreFewer, AreLeast, AreUnder}
+use Rattle.sim_eval.specs.Advance.{AreMet, Advances, AreHeld, Fact, HasOrIsGiven, Takes, unknowns, AreFewer, AreUnder}
 use Rattle.sim_eval.specs.Numbers.{is_x, gains, put_of}
 use Rattle.sim_eval.specs.Shown.{shown}
 use Rattle.sim_eval.proofs.Tables.{found_at, found_set, shown_unknown}
@@ -34,7 +34,12 @@ pub advances_by : (ps : List Place) (t : Time Place) (rows : List Driven) (old n
 advances_by ps t rows old new changed k = record {
   below = λ w m le. k.below w (held w m le) le;
   still = k.still;
-  met = λ e w m le r i. k.met e w (held w m le) le (fact_of t (shown ps old) r) (In-map (fact_of t (shown ps old)) r rows i);
+  grows = k.grows;
+  driven = λ n. ⊎_elim
+      (λ e. inl e)
+      (λ f. let r = In-mapped (fact_of t (shown ps old)) f.0 rows f.1 in inr (r.0, r.1, sym (ap (λ (z : Fact). z.place) r.2) ∙ f.2))
+      (k.given n);
+  reached = λ w m le r i. k.held w (held w m le) le (fact_of t (shown ps old) r) (In-map (fact_of t (shown ps old)) r rows i);
 }
   where
     held : (w : Valuation) → AreMet rows t w → Pointwise FlatBelow (shown ps old) w → AreHeld (map (fact_of t (shown ps old)) rows) w
@@ -46,19 +51,33 @@ or_false : (a b : Bool) → (a || b) ≡ false → (a ≡ false) × (b ≡ false
 or_false true b e = absurd (true≢false e)
 or_false false b e = (refl, e)
 
+-- values stand below themselves
+same_below : (v : Valuation) → Pointwise FlatBelow v v
+same_below v q = FlatBelow_from_equal (v q) (v q) refl
+
 -- rows that lead nowhere
 pub advances_none : (ps : List Place) (t : Time Place) (old : List Bit) → Advances ps t [] old old false
-advances_none ps t old = record { below = λ w m le. le; still = λ e. refl; met = λ e w m le r i. absurd i }
+advances_none ps t old = record {
+  below = λ w m le. le;
+  still = λ e. refl;
+  grows = same_below (shown ps old);
+  driven = λ n. inl refl;
+  reached = λ w m le r i. absurd i;
+}
 
 -- rows after rows
 pub advances_more : (ps : List Place) (t : Time Place) (rows more : List Driven) (a b c : List Bit) (f g : Bool) → Advances ps t rows a b f → Advances ps t more b c g → Advances ps t (rows ++ more) a c (f || g)
 advances_more ps t rows more a b c f g h k = record {
   below = λ w m le. k.below w (right w m) (h.below w (left w m) le);
   still = λ e. let p = or_false f g e in h.still p.0 ∙ k.still p.1;
-  met = λ e w m le r i. let p = or_false f g e in
-      ⊎_elim
-      (λ j. h.met p.0 w (left w m) le r j)
-      (λ j. subst (λ z. FlatBelow (value_of r.driver t (shown ps z)) (shown ps z r.place)) (sym (h.still p.0)) (k.met p.1 w (right w m) (h.below w (left w m) le) r j))
+  grows = λ q. FlatBelow_trans _ _ _ (h.grows q) (k.grows q);
+  driven = λ n. ⊎_elim
+      (λ e. ⊎_elim (λ d. inl (e ∙ d)) (λ r. inr (r.0, In-right r.0 rows more r.1, r.2)) (k.driven n))
+      (λ r. inr (r.0, In-left r.0 rows more r.1, r.2))
+      (h.driven n);
+  reached = λ w m le r i. ⊎_elim
+      (λ j. FlatBelow_trans _ _ _ (h.reached w (left w m) le r j) (k.grows r.place))
+      (λ j. FlatBelow_trans _ _ _ (value_kept FlatBelow flat_order r.driver t t (time_refl FlatBelow flat_order t) (shown ps a) (shown ps b) h.grows) (k.reached w (right w m) (h.below w (left w m) le) r j))
       (In-cases r rows more i);
 }
   where
@@ -69,17 +88,27 @@ advances_more ps t rows more a b c f g h k = record {
     right w m r i = m r (In-right r rows more i)
 
 pub takes_none : (ps : List Place) (old : List Bit) → Takes ps [] old old false
-takes_none ps old = record { below = λ w m le. le; still = λ e. refl; met = λ e w m le r i. absurd i }
+takes_none ps old = record {
+  below = λ w m le. le;
+  still = λ e. refl;
+  grows = same_below (shown ps old);
+  given = λ n. inl refl;
+  held = λ w m le f i. absurd i;
+}
 
 -- values after values
 pub takes_more : (ps : List Place) (facts more : List Fact) (a b c : List Bit) (f g : Bool) → Takes ps facts a b f → Takes ps more b c g → Takes ps (facts ++ more) a c (f || g)
 takes_more ps facts more a b c f g h k = record {
   below = λ w m le. k.below w (right w m) (h.below w (left w m) le);
   still = λ e. let p = or_false f g e in h.still p.0 ∙ k.still p.1;
-  met = λ e w m le r i. let p = or_false f g e in
-      ⊎_elim
-      (λ j. h.met p.0 w (left w m) le r j)
-      (λ j. subst (λ z. FlatBelow r.value (shown ps z r.place)) (sym (h.still p.0)) (k.met p.1 w (right w m) (h.below w (left w m) le) r j))
+  grows = λ q. FlatBelow_trans _ _ _ (h.grows q) (k.grows q);
+  given = λ n. ⊎_elim
+      (λ e. ⊎_elim (λ d. inl (e ∙ d)) (λ r. inr (r.0, In-right r.0 facts more r.1, r.2)) (k.given n))
+      (λ r. inr (r.0, In-left r.0 facts more r.1, r.2))
+      (h.given n);
+  held = λ w m le r i. ⊎_elim
+      (λ j. FlatBelow_trans _ _ _ (h.held w (left w m) le r j) (k.grows r.place))
+      (λ j. k.held w (right w m) (h.below w (left w m) le) r j)
       (In-cases r facts more i);
 }
   where
@@ -90,7 +119,7 @@ takes_more ps facts more a b c f g h k = record {
     right w m r i = m r (In-right r facts more i)
 
 -- a bit that is not x, below another, is the other
-known_same : (a c : Bit) → is_x a ≡ false → FlatBelow a c → c ≡ a
+pub known_same : (a c : Bit) → is_x a ≡ false → FlatBelow a c → c ≡ a
 known_same X c e h = absurd (true≢false e)
 known_same S0 c e h = h
 known_same S1 c e h = h
@@ -128,20 +157,53 @@ module _ (ps : List Place) (old : List Bit) (n : ℕ) (value : Bit) (apart : Are
       within : nat_lt n (length old) ≡ true
       within = lt-ltb n (length old) (omega arith)
 
+      -- a bit stands where it stood, or has the value
+      set_cases : (P : Place → Bit → Type 0) → P (place_at ps n) value → (q : Place) → P q (shown ps old q) → P q (shown ps (set old n value) q)
+      set_cases P h q k =
+          subst (P q) (sym (found_set X ps old n value q apart same l)) (cond_both (place_same (place_at ps n) q) value (shown ps old q) (P q) (λ e. subst (λ z. P z value) ((place_same-same (place_at ps n) q).0 e) h) (λ e. k))
+
       set_below : (w : Valuation) → FlatBelow value (w (place_at ps n)) → Pointwise FlatBelow (shown ps old) w → Pointwise FlatBelow (shown ps (set old n value)) w
-      set_below w h le q =
-          subst (λ z. FlatBelow z (w q)) (sym (found_set X ps old n value q apart same l)) (cond_both (place_same (place_at ps n) q) value (shown ps old q) (λ z. FlatBelow z (w q)) (λ e. subst (λ z. FlatBelow value (w z)) ((place_same-same (place_at ps n) q).0 e) h) (λ e. le q))
+      set_below w h le q = set_cases (λ p b. FlatBelow b (w p)) h q (le q)
+
+      at : shown ps old (place_at ps n) ≡ get_or old n X
+      at = found_at X ps old n apart same l
+
+      at_set : shown ps (set old n value) (place_at ps n) ≡ value
+      at_set =
+          found_set X ps old n value (place_at ps n) apart same l ∙ ap (λ s. cond s value (shown ps old (place_at ps n))) ((place_same-same (place_at ps n) (place_at ps n)).1 refl)
+
+      -- a bit that gains a value was x
+      was : gains old n value ≡ true → is_x (get_or old n X) ≡ true
+      was e = (and_parts (is_x (get_or old n X)) (not (is_x value)) (and_parts (nat_lt n (length old)) (is_x (get_or old n X) && not (is_x value)) e).1).0
+
+      set_grows : gains old n value ≡ true → Pointwise FlatBelow (shown ps old) (shown ps (set old n value))
+      set_grows e q =
+          set_cases (λ p b. FlatBelow (shown ps old p) b) (x_below (shown ps old (place_at ps n)) value (ap is_x at ∙ was e)) q (same_below (shown ps old) q)
+
+      set_given : (k : ℕ) → HasOrIsGiven ps (fact ∷ []) old (set old n value) k
+      set_given k = by (nat_eq n k) refl
+        where
+          by : (s : Bool) → nat_eq n k ≡ s → HasOrIsGiven ps (fact ∷ []) old (set old n value) k
+          by true e = inr (fact, inl refl, ap (place_at ps) (eqb-true n k e))
+          by false e = inl (sym (get_or-set_other old n k value X (λ f. true≢false (sym (eq-eqb n k (sym f)) ∙ e))))
 
       by : (g : Bool) → gains old n value ≡ g → Takes ps (fact ∷ []) old (if g then set old n value else old) g
       by true e = record {
         below = λ w m le. set_below w (m fact (inl refl)) le;
         still = λ f. absurd (true≢false f);
-        met = λ f. absurd (true≢false f);
+        grows = set_grows e;
+        given = set_given;
+        held = λ w m le r i. ⊎_elim
+            (λ j. subst (λ z. FlatBelow z.value (shown ps (set old n value) z.place)) (sym j) (FlatBelow_from_equal value (shown ps (set old n value) (place_at ps n)) (sym at_set)))
+            (λ j. absurd j)
+            i;
       }
       by false e = record {
         below = λ w m le. le;
         still = λ f. refl;
-        met = λ f w m le r i. ⊎_elim
+        grows = same_below (shown ps old);
+        given = λ k. inl refl;
+        held = λ w m le r i. ⊎_elim
             (λ j. subst (λ z. FlatBelow z.value (shown ps old z.place)) (sym j) (kept w (m fact (inl refl)) le))
             (λ j. absurd j)
             i;
@@ -149,7 +211,6 @@ module _ (ps : List Place) (old : List Bit) (n : ℕ) (value : Bit) (apart : Are
         where
           kept : (w : Valuation) → FlatBelow value (w (place_at ps n)) → Pointwise FlatBelow (shown ps old) w → FlatBelow value (shown ps old (place_at ps n))
           kept w h le =
-              let at = found_at X ps old n apart same l in
               subst (λ z. FlatBelow value z) (sym at) (kept_above (get_or old n X) value (w (place_at ps n)) (sym (ap (λ z. z && (is_x (get_or old n X) && not (is_x value))) within) ∙ e) (subst (λ z. FlatBelow z (w (place_at ps n))) at (le (place_at ps n))) h)
 
 -- a bit that was x and is not is an x less
@@ -249,13 +310,12 @@ pub if_ok_more : {A E : Type 0} (r : Result A E) (P Q : A → Type 0) → ((a : 
 if_ok_more (Ok a) P Q h k = h a k
 if_ok_more (Err e) P Q h k = k
 
+-- what follows of what is so where all went well
+pub on_ok_more : {A E : Type 0} (r : Result A E) (P Q : Type 0) → (P → Q) → OnOk r P → OnOk r Q
+on_ok_more (Ok a) P Q h k = h k
+on_ok_more (Err e) P Q h k = k
+
 -- values that are all x are below any others
 pub under_unknown : (ps : List Place) (t : Time Place) (rows : List Driven) (values : List Bit) (n : ℕ) → values ≡ replicate n X → AreUnder ps t rows values
 under_unknown ps t rows values n e w m q =
     subst (λ z. FlatBelow z (w q)) (sym (ap (λ z. shown ps z q) e ∙ shown_unknown ps n q)) tt
-
--- a sweep that changes nothing ends them
-pub least_at : (ps : List Place) (t : Time Place) (rows : List Driven) (old new : List Bit) → AreUnder ps t rows old → Advances ps t rows old new false → AreLeast ps t rows new
-least_at ps t rows old new h k =
-    let e = k.still refl in
-    subst (AreLeast ps t rows) e (record { under = h; met = λ w m. k.met refl w m (h w m) })

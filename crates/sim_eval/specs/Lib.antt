@@ -12,3 +12,6 @@ pub mod Written
 pub mod Fetched
 pub mod Advance
 pub mod Limits
+pub mod Reads
+pub mod Drives
+pub mod Agenda

@@ -96,7 +96,8 @@ pub(crate) fn update_logic(alloc: Global, cell: &Logic, now: &mut [Bit]) -> Resu
     ensures fewer { IfOk result (AreFewer now.old now.new) }
     ensures advances { IfOk result (λ changed. (ps : List Place) → AreApart ps → length ps ≡ length now.old →
         IsLogicWithin (length ps) cell.now → (t : Time Place) →
-        Advances ps t (map (output_row ps cell.now.shape (inputs_of ps cell.now)) cell.now.outputs) now.old now.new changed) }
+        Advances ps t (map (output_row ps cell.now.shape (inputs_of ps cell.now)) cell.now.outputs) now.old now.new
+        changed) }
 {
     if cell.outputs.as_slice().is_empty() {
         return Ok(false);

@@ -13,8 +13,10 @@ use flat_net::{Source, Tree};
 use rtl_bits::{Bit, Memory};
 use std::alloc::Global;
 
-/// What the tree bits come to, expanded as often as there are tree bits: in the first round each source is a leaf, and in
-/// each further one a source that is a tree bit has what the round before gave it. A round that changes nothing ends them.
+/// What the tree bits come to, expanded as often as there are tree bits: in the first round each source is a leaf, and
+/// in
+/// each further one a source that is a tree bit has what the round before gave it. A round that changes nothing ends
+/// them.
 pub(crate) fn expanded_bits(
     alloc: Global,
     values: &[Bit],
@@ -53,7 +55,8 @@ fn next_bits(
     tree: &Tree,
 ) -> Result<Vec<Bit>, Memory>
     ensures value { IfOk result (λ bits. (at : ℕ) → at < tree.now.width →
-        bit_of bits.items at ≡ tree_value values.now reset (followed (leaf_of leaves values.now) (Some last.now)) at tree.now.root) }
+        bit_of bits.items at ≡ tree_value values.now reset (followed (leaf_of leaves values.now) (Some last.now)) at
+        tree.now.root) }
 {
     let last = Some(last);
     let walk = Walk {

@@ -44,7 +44,8 @@ fn update_ports(
 ) -> Result<bool, Memory>
     ensures fewer { IfOk result (AreFewer now.old now.new) }
     ensures advances { IfOk result (λ changed. (ps : List Place) → AreApart ps → length ps ≡ length now.old →
-        IsFetchedWithin (length ps) fetched.now → AllByRecursion (IsReadPortWithin (length ps)) ports.now → (t : Time Place) →
+        IsFetchedWithin (length ps) fetched.now → AllByRecursion (IsReadPortWithin (length ps)) ports.now →
+        (t : Time Place) →
         Advances ps t (flat_map (port_rows ps fetched.now) ports.now) now.old now.new changed) }
 {
     let mut changed = false;
@@ -77,7 +78,8 @@ fn word_of(
     fetched: &Fetched,
     address: &[Point],
 ) -> Result<Bits, Memory>
-    ensures value { IfOk result (λ word. word ≡ map (number_fetched values.now fetched.now.first address.now) fetched.now.columns) }
+    ensures value { IfOk result (λ word. word ≡ map (number_fetched values.now fetched.now.first address.now)
+        fetched.now.columns) }
 {
     let place = place_of(values, address, fetched.first);
     let mut word = Seq::make(alloc);
@@ -90,12 +92,14 @@ fn word_of(
 /// The place of the word at an address, behind the first one; none where the address is unknown or below it.
 fn place_of(values: &[Bit], address: &[Point], first: u32) -> Option<u128>
     ensures value { (words : List Bit) → length words ≤ 2 ^ 64 →
-        option_map_or (λ place. slice_index_or words place Bit.X) result Bit.X ≡ fetched_of (number_word values.now address.now) first words }
+        option_map_or (λ place. slice_index_or words place Bit.X) result Bit.X ≡ fetched_of
+        (number_word values.now address.now) first words }
 {
     number_of(values, address)?.checked_sub(u128::from(first))
 }
 
-/// The number that an address is, where all its bits are known. One of 2^100 or more, at which no word can stand, is taken
+/// The number that an address is, where all its bits are known. One of 2^100 or more, at which no word can stand, is
+/// taken
 /// as 2^100.
 fn number_of(values: &[Bit], address: &[Point]) -> Option<u128>
     ensures value { IsNumber (2 ^ 100) (number_word values.now address.now) result }
@@ -121,7 +125,8 @@ fn digit_of(bit: Bit) -> Option<u128>
 
 /// What the bit has that stands at a place of a column, x where there is none.
 fn bit_of(values: &[Bit], column: &[u32], place: Option<u128>) -> Bit
-    ensures value { result ≡ option_map_or (λ place. slice_index_or (number_column values.now column.now) place Bit.X) place Bit.X }
+    ensures value { result ≡ option_map_or (λ place. slice_index_or (number_column values.now column.now) place Bit.X)
+        place Bit.X }
 {
     match place {
         Some(place) if place < column.len() as u128 => bit_at(values, column[place as usize]),

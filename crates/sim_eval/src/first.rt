@@ -1,6 +1,7 @@
 //! The first driver of each bit.
 
-ghost use Rattle.std.specs.Prelude.{◌≡◌, ◌++◌, ℕ, false, not, true, List, IfOk, OnOk, length, slice_index_or, slice_set};
+ghost use Rattle.std.specs.Prelude.{◌≡◌, ◌++◌, ℕ, false, not, true, List, IfOk, OnOk, length, slice_index_or};
+ghost use Rattle.std.specs.Prelude.{slice_set};
 ghost use Rattle.rtl_ir.specs.Flat.Cell.{listed};
 ghost use Rattle.rtl_ir.specs.Flat.Place.{Place};
 ghost use Rattle.flat_net.specs.declared.net.Output.{Output};
@@ -10,7 +11,8 @@ ghost use Rattle.flat_net.specs.declared.net.StoreBit.{StoreBit};
 ghost use Rattle.flat_net.specs.Parts.{parts_rows};
 ghost use Rattle.flat_net.specs.Points.{AreApart};
 ghost use Rattle.flat_net.specs.Within.{ArePartsWithin};
-ghost use Rattle.sim_eval.specs.First.{IsFirstOf, firsts, marked, marked_ports, unmarked, unmarked_port, unmarked_ports};
+ghost use Rattle.sim_eval.specs.First.{IsFirstOf, firsts, marked, marked_ports, unmarked, unmarked_port};
+ghost use Rattle.sim_eval.specs.First.{unmarked_ports};
 ghost use Rattle.sim_eval.specs.Shown.{found};
 
 use flat_net::{HeldBit, Output, Part, ReadPort, StoreBit, WordBit};
@@ -159,7 +161,8 @@ fn first_of_part(alloc: Global, part: Part, seen: &mut [bool]) -> Result<Option<
 /// The parts without the bits whose numbers have a mark or were driven before. They get one.
 fn first_of_parts(alloc: Global, parts: Seq<Part>, seen: &mut [bool]) -> Result<Seq<Part>, Memory>
     ensures rows { IfOk result (λ kept. (ps : List Place) → AreApart ps → length ps ≡ length seen.old →
-        ArePartsWithin (length ps) parts → parts_rows ps kept ≡ firsts (found false ps seen.old) (parts_rows ps parts)) }
+        ArePartsWithin (length ps) parts →
+        parts_rows ps kept ≡ firsts (found false ps seen.old) (parts_rows ps parts)) }
     ensures within { IfOk result (λ kept. (count : ℕ) → ArePartsWithin count parts → ArePartsWithin count kept) }
 {
     let mut kept = Seq::make(alloc);

@@ -74,7 +74,8 @@ fn update_held_bit(
     Ok(put(now, bit.number, value))
 }
 
-/// What a bit that may hold has: its old value where its value comes to the bit itself, its new value where it does not.
+/// What a bit that may hold has: its old value where its value comes to the bit itself, its new value where it does
+/// not.
 fn held(
     alloc: Global,
     moment: &Moment,

@@ -1,6 +1,7 @@
 //! The evaluator: the outputs of a module of a design for one input vector after another.
 #![tactic(auto)]
 
+mod agenda;
 mod cell;
 mod expand;
 mod fetched;
@@ -11,10 +12,12 @@ mod matching;
 mod moment;
 mod race;
 mod raced;
+mod readers;
+mod reads;
 mod remembered;
+mod settle;
 mod sim;
 mod store;
-mod sweep;
 mod tree;
 mod values;
 mod walk;

@@ -8,7 +8,8 @@ ghost use Rattle.sim_eval.specs.Race.{common_option};
 use rtl_bits::{Bit, bit_or, merge};
 
 /// What two edges make of a bit: the merge of the values that count. Those with the reset as it was and as it is count
-/// unless the clock's edge is impossible, that with the reset active unless the reset's edge is impossible, and the old one
+/// unless the clock's edge is impossible, that with the reset active unless the reset's edge is impossible, and the old
+/// one
 /// unless an edge is certain.
 pub(crate) fn raced_of(
     clock_edge: Bit,
@@ -37,7 +38,8 @@ fn unless_certain(edge: Bit, bit: Bit) -> Option<Bit>
     }
 }
 
-/// What the bit has in common with those behind it, where there are any; the bit does not count where the edge is impossible.
+/// What the bit has in common with those behind it, where there are any; the bit does not count where the edge is
+/// impossible.
 fn unless_impossible(edge: Bit, bit: Bit, common: Option<Bit>) -> Option<Bit>
     ensures value { (bits : List Bit) → common ≡ common_option bits →
         result ≡ common_option (unless_impossible edge (bit ∷ []) ++ bits) }

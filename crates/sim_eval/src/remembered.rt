@@ -78,7 +78,8 @@ fn update_word_bit(
     Ok(put(now, bit.number, value))
 }
 
-/// What a bit of a word has: before the first step its start value, else what the ports make of it at their clock's edge.
+/// What a bit of a word has: before the first step its start value, else what the ports make of it at their clock's
+/// edge.
 fn remembered(
     alloc: Global,
     moment: &Moment,
@@ -109,7 +110,8 @@ fn at_edge(
 ) -> Result<Bit, Memory>
     ensures value { IfOk result (λ value. (ps : List Place) → AreApart ps → length ps ≡ length before.now →
         AllByRecursion (IsWritePortWithin (length ps)) ports.now →
-        value ≡ pick_of edge (after_ports (shown ps before.now) bit.now.address [] (ports_at bit.now.at [] (map (ported_of ps) ports.now)) (slice_index_or before.now bit.now.number Bit.X))
+        value ≡ pick_of edge (after_ports (shown ps before.now) bit.now.address []
+        (ports_at bit.now.at [] (map (ported_of ps) ports.now)) (slice_index_or before.now bit.now.number Bit.X))
         (slice_index_or before.now bit.now.number Bit.X)) }
 {
     let old = bit_at(before, bit.number);

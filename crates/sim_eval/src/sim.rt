@@ -1,11 +1,13 @@
 //! A simulation of a module.
 
-ghost use Rattle.std.specs.Prelude.{IsTrue};
+ghost use Rattle.std.specs.Prelude.{IsTrue, length};
 ghost use Rattle.sim_eval.specs.Limits.{are_computable};
+ghost use Rattle.sim_eval.specs.Reads.{AreRead};
 
 use crate::first::first_drivers;
 use crate::moment::Moment;
-use crate::sweep::settle;
+use crate::readers::Readers;
+use crate::settle::settle;
 use crate::values::bits_of;
 use flat_net::{Net, Part, flatten};
 use rtl_bits::{Bit, Bits, Memory, Seq};
@@ -16,10 +18,12 @@ use std::alloc::Global;
 #[derive(Drop)]
 pub struct Sim {
     parts: Seq<Part>,
+    readers: Readers,
     outputs: Seq<u32>,
     values: Vec<Bit>,
     started: bool,
     ghost computable: { IsTrue (are_computable parts) },
+    ghost read: { AreRead readers parts (length values.items) },
 }
 
 impl Sim {
@@ -34,7 +38,8 @@ impl Sim {
     ghost use Rattle.sim_eval.specs.After.{outputs_after, valuation_after};
     ghost use Rattle.sim_eval.specs.Sim.{AreAt, IsAt, IsFaultlessNet, IsSimOf};
 
-    /// The module at a place of a design without faults, before the first step: every storage bit has its start value, all inputs
+    /// The module at a place of a design without faults, before the first step: every storage bit has its start value,
+    /// all inputs
     /// are x, and all other bits are settled.
     pub fn start(alloc: Global, design: &Design, at: u32) -> Result<Sim, Memory>
         requires in_range { at < length design.now.modules }
@@ -49,7 +54,8 @@ impl Sim {
     /// The netlist, before the first step.
     fn of(alloc: Global, net: Net) -> Result<Sim, Memory>
         requires faultless { IsFaultlessNet net }
-        ensures settled { (d : Design) (m : Module) (ps : List Place) → IsNetOf net d m ps → IfOk result (λ sim. IsSimOf sim d m []) }
+        ensures settled { (d : Design) (m : Module) (ps : List Place) → IsNetOf net d m ps →
+            IfOk result (λ sim. IsSimOf sim d m []) }
     {
         let Net {
             parts,
@@ -57,9 +63,17 @@ impl Sim {
             outputs,
         } = net;
         let parts = first_drivers(alloc, parts, count as usize)?;
-        let values = settle(alloc, &Moment::Start, parts.as_slice(), count as usize)?;
+        let readers = Readers::of(alloc, parts.as_slice(), count as usize)?;
+        let values = settle(
+            alloc,
+            &Moment::Start,
+            parts.as_slice(),
+            &readers,
+            count as usize,
+        )?;
         Ok(Sim {
             parts,
+            readers,
             outputs,
             values,
             started: false,
@@ -85,8 +99,10 @@ impl Sim {
 
     /// What all bits have in the next step.
     fn next(&self, alloc: Global, inputs: &Bits) -> Result<Vec<Bit>, Memory>
-        ensures settled { (d : Design) (m : Module) (stimulus : List (List Bit)) (ps : List Place) → IsAt self.now d m stimulus ps →
+        ensures settled { (d : Design) (m : Module) (stimulus : List (List Bit)) (ps : List Place) →
+            IsAt self.now d m stimulus ps →
             IfOk result (λ now. AreAt ps now.items (valuation_after d m (stimulus ++ inputs.now ∷ []))) }
+        ensures count { IfOk result (λ now. length now.items ≡ length self.now.values.items) }
     {
         let before = self.values.as_slice();
         let moment = Moment::Step {
@@ -94,6 +110,12 @@ impl Sim {
             inputs: inputs.as_slice(),
             first: !self.started,
         };
-        settle(alloc, &moment, self.parts.as_slice(), before.len())
+        settle(
+            alloc,
+            &moment,
+            self.parts.as_slice(),
+            &self.readers,
+            before.len(),
+        )
     }
 }

@@ -4,7 +4,8 @@ ghost use Rattle.std.specs.Prelude.{◌≡◌, ◌<◌, ℕ, IfOk, OnOk, length,
 ghost use Rattle.rtl_bits.specs.Tables.{merge_of};
 ghost use Rattle.net_model.specs.Picked.{tested_of};
 ghost use Rattle.sim_eval.specs.Trees.{bit_of, merged_with};
-ghost use Rattle.sim_eval.specs.Walk.{leaf_of, number_mark, walked, walked_assigns, walked_branch, walked_branches, walked_signal, walked_tree};
+ghost use Rattle.sim_eval.specs.Walk.{leaf_of, number_mark, walked, walked_assigns, walked_branch, walked_branches};
+ghost use Rattle.sim_eval.specs.Walk.{walked_signal, walked_tree};
 
 use crate::matching::branch_match;
 use crate::values::{bit_at, bit_in, read, read_all};
@@ -171,7 +172,9 @@ fn mark(own: u32, from: Point) -> Bit
 
 /// One more branch that may match gave these bits.
 fn put_open(merged: &mut Option<Vec<Bit>>, bits: Vec<Bit>)
-    ensures value { (at : ℕ) (b : Bit) → merged_with (option_map (λ v. v.items) merged.new) at b ≡ merged_with (option_map (λ v. v.items) merged.old) at (merge_of (bit_of bits.items at) b) }
+    ensures value { (at : ℕ) (b : Bit) →
+        merged_with (option_map (λ v. v.items) merged.new) at b ≡ merged_with (option_map (λ v. v.items) merged.old)
+        at (merge_of (bit_of bits.items at) b) }
 {
     match merged {
         Some(merged) => merge_all(merged, bits.as_slice()),
@@ -181,7 +184,8 @@ fn put_open(merged: &mut Option<Vec<Bit>>, bits: Vec<Bit>)
 
 /// Merges these bits with what the branches gave that may match.
 fn merge_open(bits: &mut [Bit], merged: &Option<Vec<Bit>>)
-    ensures value { (at : ℕ) → at < length bits.old → bit_of bits.new at ≡ merged_with (option_map (λ v. v.items) merged.now) at (bit_of bits.old at) }
+    ensures value { (at : ℕ) → at < length bits.old →
+        bit_of bits.new at ≡ merged_with (option_map (λ v. v.items) merged.now) at (bit_of bits.old at) }
 {
     if let Some(merged) = merged {
         merge_all(bits, merged.as_slice());

@@ -29,7 +29,8 @@ pub(crate) fn written(
 ) -> Result<Bit, Memory>
     ensures value { IfOk result (λ value. (ps : List Place) → AreApart ps → length ps ≡ length values.now →
         AllByRecursion (IsWritePortWithin (length ps)) ports.now →
-        value ≡ after_ports (shown ps values.now) bit.now.address [] (ports_at bit.now.at [] (map (ported_of ps) ports.now)) old) }
+        value ≡ after_ports (shown ps values.now) bit.now.address [] (ports_at bit.now.at []
+        (map (ported_of ps) ports.now)) old) }
 {
     let mut writers = Vec::new(alloc);
     let mut value = old;
@@ -39,7 +40,8 @@ pub(crate) fn written(
     Ok(value)
 }
 
-/// What a port makes of a bit of a word, behind the ports of these numbers, which may write it. Where this one may write
+/// What a port makes of a bit of a word, behind the ports of these numbers, which may write it. Where this one may
+/// write
 /// it too, its number is put last.
 fn after_port(
     values: &[Bit],
@@ -49,9 +51,12 @@ fn after_port(
     old: Bit,
 ) -> Result<Bit, Memory>
     ensures value { IfOk result (λ value.
-        value ≡ pick_of (number_hit values.now bit.now.address bit.now.at port.now) (if follows_all port.now.mask writers.old.items then number_at values.now port.now.word bit.now.at else Bit.X) old) }
+        value ≡ pick_of (number_hit values.now bit.now.address bit.now.at port.now)
+        (if follows_all port.now.mask writers.old.items then number_at values.now port.now.word bit.now.at else Bit.X)
+        old) }
     ensures writers { OnOk result (
-        writers.new.items ≡ (if is_zero (number_hit values.now bit.now.address bit.now.at port.now) then writers.old.items else writers.old.items ++ port.now.number ∷ [])) }
+        writers.new.items ≡ (if is_zero (number_hit values.now bit.now.address bit.now.at port.now) then
+        writers.old.items else writers.old.items ++ port.now.number ∷ [])) }
 {
     let hit = hit_of(values, port, bit);
     if hit == Bit::S0 {

@@ -10,7 +10,8 @@ ghost use Rattle.sim_text.specs.Ports.{AreWidths};
 /// A line that is written of bits 0, 1, x and z is read as these bits, and the words of a line that is
 /// read are those that are written of its bits.
 pub fn written_lines_are_read()
-    ensures written { (widths : List ℕ) (bits : List Bit) → AreWidths widths → length bits ≡ sum widths → AreDigits bits →
+    ensures written { (widths : List ℕ) (bits : List Bit) → AreWidths widths → length bits ≡ sum widths →
+        AreDigits bits →
         step_of widths (step_line widths bits) ≡ Some bits }
     ensures read { (widths line : List ℕ) (bits : List Bit) →
         step_of widths line ≡ Some bits → words_of line ≡ line_words widths bits }

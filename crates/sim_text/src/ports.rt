@@ -25,7 +25,8 @@ pub fn port_widths(alloc: Global, role: Role, module: &Module) -> Result<Vec<u32
 
 /// The wires that are ports, in order of number; of one number, in the order of the list.
 fn port_wires<'a>(alloc: Global, wires: &'a [Wire]) -> Result<Vec<&'a Wire>, Memory>
-    ensures value { IfOk result (λ ports. map (λ w. w.now) ports.items ≡ in_number_order (filter (λ w. is_port w.role) wires.now)) }
+    ensures value { IfOk result (λ ports. map (λ w. w.now) ports.items ≡ in_number_order
+        (filter (λ w. is_port w.role) wires.now)) }
 {
     let mut ports = BTreeMap::new(alloc);
     for at in (0..wires.len()).rev() {

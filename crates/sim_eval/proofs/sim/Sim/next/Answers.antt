@@ -1,6 +1,7 @@
 use Rattle.std.proofs.Common.{◌≡◌, ◌∙◌, ap, length, subst, sym}
 use Rattle.flat_net.specs.Within.{ArePartsWithin}
 use Rattle.sim_eval.proofs.Simulating.{if_ok_two, next_at}
+use Rattle.sim_eval.proofs.Taking.{if_ok_more}
 use Rattle.sim_eval.proofs.sim.Sim.next.Goals as goal
 
 pub returns : goal.returns
@@ -15,4 +16,5 @@ returns c = record {
       next_at d m stimulus ps c.args.self.now before c.as_slice.result.now c.args.inputs.now now.items parts at was c.as_slice.ensures.value same long
       (least ps at.apart count count (subst (ArePartsWithin (length ps)) (sym same) at.within)))
       c.settle.ensures.count c.settle.ensures.least;
+  count = if_ok_more c.settle.result _ _ (λ now e. e ∙ ap length c.as_slice-before.ensures.value) c.settle.ensures.count;
 }
