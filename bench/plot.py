@@ -13,7 +13,7 @@ import sys
 TOP = os.path.dirname(os.path.dirname(os.path.abspath(__file__)))
 COLUMNS = ['Bytes', 'User time', 'Yosys: user time']
 COLOURS = {'rtlsyn': '#0b6e4f', 'Yosys 0.23': '#b5502b'}
-WIDE, HIGH, LEFT, TOP_EDGE, RIGHT, LOW = 400, 320, 60, 40, 15, 45
+WIDE, HIGH, LEFT, TOP_EDGE, RIGHT, LOW = 400, 320, 60, 40, 30, 45
 
 
 def number(text):
@@ -60,7 +60,7 @@ def unit(power, words):
 
 
 def panel(title, rows, left):
-    """One picture: axes with their powers of ten, and a line and dots for each program."""
+    """One picture: axes with their powers of ten, and dots for each program."""
     x_low, x_high = scale([row[0] for row in rows])
     y_low, y_high = scale([time for row in rows for time in row[1:]])
     wide, high = WIDE - LEFT - RIGHT, HIGH - TOP_EDGE - LOW
@@ -75,10 +75,8 @@ def panel(title, rows, left):
         y = y_of(10 ** power)
         yield f'<line x1="{left + LEFT}" y1="{y:.1f}" x2="{left + LEFT + wide}" y2="{y:.1f}" stroke="#ddd"/>'
         yield f'<text x="{left + LEFT - 6}" y="{y + 4:.1f}" text-anchor="end">{unit(power, "s")}</text>'
-    for column, (name, colour) in enumerate(COLOURS.items(), start=1):
+    for column, colour in enumerate(COLOURS.values(), start=1):
         dots = [(x_of(row[0]), y_of(row[column])) for row in rows]
-        points = ' '.join(f'{x:.1f},{y:.1f}' for x, y in dots)
-        yield f'<polyline points="{points}" fill="none" stroke="{colour}"/>'
         yield from (f'<circle cx="{x:.1f}" cy="{y:.1f}" r="3.5" fill="{colour}"/>' for x, y in dots)
 
 
@@ -87,7 +85,7 @@ def drawing():
     wide = WIDE * len(found)
     parts = [line for at, (title, rows) in enumerate(found) for line in panel(title, rows, WIDE * at)]
     for at, (name, colour) in enumerate(COLOURS.items()):
-        x = wide - 210 + 90 * at
+        x = WIDE - 190 + 70 * at
         parts += [f'<circle cx="{x}" cy="18" r="3.5" fill="{colour}"/>', f'<text x="{x + 8}" y="22">{name}</text>']
     head = f'<svg xmlns="http://www.w3.org/2000/svg" viewBox="0 0 {wide} {HIGH}" width="{wide}" height="{HIGH}"'
     style = f'font-family="sans-serif" font-size="12"><rect width="{wide}" height="{HIGH}" fill="white"/>'
