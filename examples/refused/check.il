@@ -1,4 +1,4 @@
-# As Yosys writes an assertion with `read_verilog -sv` and no -formal from version 0.39 on; written by hand.
+# As newer versions of Yosys write an assertion where -formal is not given. By hand.
 module \checked
   wire width 4 input 2 \a
   wire input 1 \clk

@@ -1,4 +1,4 @@
-# As Yosys writes `always @(posedge clk) $display("%d", a);` from version 0.36 on; written by hand.
+# As newer versions of Yosys write `always @(posedge clk) $display("%d", a);`. By hand.
 module \shown
   wire width 4 input 2 \a
   wire input 1 \clk

@@ -1,4 +1,4 @@
-# As `flatten` of Yosys leaves it from version 0.38 on; written by hand.
+# As `flatten` of newer versions of Yosys leaves it. By hand.
 module \flat
   wire input 1 \a
   wire output 2 \y
