@@ -3,14 +3,11 @@ autoidx 2
 attribute \top 1
 attribute \src "tribuf.v:2.1-4.10"
 module \driver
-  attribute \src "tribuf.v:3.16-3.29"
-  wire $ternary$tribuf.v:3$1_Y
   attribute \src "tribuf.v:2.21-2.22"
   wire input 1 \a
   attribute \src "tribuf.v:2.30-2.32"
   wire input 2 \on
   attribute \src "tribuf.v:2.41-2.42"
   wire output 3 \y
-  connect \y $ternary$tribuf.v:3$1_Y
-  connect $ternary$tribuf.v:3$1_Y \a
+  connect \y \a
 end

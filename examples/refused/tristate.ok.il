@@ -3,13 +3,6 @@ autoidx 6
 attribute \top 1
 attribute \src "tristate.v:2.1-7.10"
 module \bus
-  wire $auto$rtlil.cc:2469:Pmux$5
-  attribute \src "tristate.v:4.19-4.34"
-  wire $ternary$tristate.v:4$1_Y
-  attribute \src "tristate.v:5.19-5.34"
-  wire $ternary$tristate.v:5$2_Y
-  attribute \src "tristate.v:6.16-6.24"
-  wire $xor$tristate.v:6$3_Y
   attribute \src "tristate.v:2.18-2.19"
   wire input 1 \a
   attribute \src "tristate.v:2.27-2.31"
@@ -30,7 +23,7 @@ module \bus
     connect \A 1'x
     connect \B { \a \b }
     connect \S { \a_on \b_on }
-    connect \Y $auto$rtlil.cc:2469:Pmux$5
+    connect \Y \line
   end
   attribute \src "tristate.v:6.16-6.24"
   cell $xor $xor$tristate.v:6$3
@@ -41,10 +34,6 @@ module \bus
     parameter \Y_WIDTH 1
     connect \A \line
     connect \B \c
-    connect \Y $xor$tristate.v:6$3_Y
+    connect \Y \y
   end
-  connect \line $ternary$tristate.v:4$1_Y
-  connect \line $ternary$tristate.v:5$2_Y
-  connect \y $xor$tristate.v:6$3_Y
-  connect $ternary$tristate.v:5$2_Y $auto$rtlil.cc:2469:Pmux$5
 end
