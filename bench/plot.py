@@ -1,7 +1,9 @@
 #!/usr/bin/env python3
 """Draws docs/time.svg from the tables of bench/README.md: user time beside the size of the text, for rtlsyn and Yosys.
 
-A table is drawn where it has the columns Bytes, User time and "Yosys: user time"; tables under one heading make one picture.
+A table is drawn where it has the columns Bytes, User time and "Yosys: user time". Tables under one heading make one
+picture.
+
   bench/plot.py          writes docs/time.svg
   bench/plot.py --check  prints whether docs/time.svg is what would be written
 """
@@ -97,7 +99,8 @@ def main(words):
     if words == ['--check']:
         with open(path, encoding='utf-8') as file:
             same = file.read() == drawing()
-        print('plot: docs/time.svg has the figures of bench/README.md' if same else 'plot: docs/time.svg is old: bench/plot.py')
+        said = 'has the figures of bench/README.md' if same else 'is old: bench/plot.py'
+        print(f'plot: docs/time.svg {said}')
         return 0 if same else 1
     with open(path, 'w', encoding='utf-8') as file:
         file.write(drawing())
