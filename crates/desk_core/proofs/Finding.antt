@@ -1,0 +1,123 @@
+-- The results beside modules, one module after another.
+use Rattle.std.proofs.Common.{◌≡◌, ◌≢◌, ◌⊎◌, ⊎_elim, inl, inr, ℕ, ◌+◌, ◌<◌, ◌≤◌, List, [], ◌∷◌, Bool, true, false, not, cond, ◌||◌, length, set, slice_get, Option, Some, None, refl, sym, ap, subst, ◌∙◌, arith}
+use Rattle.std.specs.Str.{bytes_eq}
+use Rattle.std.proofs.lemmas.List.{length-set}
+use Rattle.rtl_sig.specs.Names.{has_name}
+use Rattle.rtl_ir.specs.declared.module.Design.{Design}
+use Rattle.rtl_ir.specs.declared.module.Module.{Module}
+use Rattle.result_cache.specs.Filled.{HoldsNone, filled_keys, new_count, with_key, with_keys}
+use Rattle.result_cache.proofs.FilledKeys.{filled_known}
+use Rattle.result_cache.proofs.Keys.{bytes_same}
+use Rattle.result_cache.proofs.NewKeys.{keys_below, fresh, below_more, new_snoc, with_keys_snoc, still_among}
+use Rattle.result_cache.proofs.Rising.{among_with}
+use Rattle.script_core.specs.declared.built.Built.{Built}
+use Rattle.script_core.specs.declared.word.Word.{Word}
+use Rattle.script_core.specs.Built.{IsValueOf}
+use Rattle.script_core.specs.Keys.{key_of}
+use Rattle.desk_core.specs.declared.results.Results.{Results}
+use Rattle.desk_core.specs.Netlist.{key_text_at}
+use Rattle.desk_core.specs.Results.{AreSound, IsFoundAt, IsResultAt}
+use Rattle.desk_core.proofs.Lists.{same_number, get_set_same, get_set_other, set_got}
+
+with_itself : (key : List ℕ) (keys : List (List ℕ)) → has_name (with_key key keys) key ≡ true
+with_itself key keys = among_with key key keys ∙ ap (λ (b : Bool). b || has_name keys key) (bytes_same key key refl)
+
+with_still : (key : List ℕ) (keys : List (List ℕ)) (q : List ℕ) → has_name keys q ≡ true → has_name (with_key key keys) q ≡ true
+with_still key keys q is = among_with q key keys ∙ ap (λ (b : Bool). bytes_eq q key || b) is ∙ right (bytes_eq q key)
+  where
+    right : (a : Bool) → (a || true) ≡ true
+    right true = refl
+    right false = refl
+
+module _ {design : Design} {script : List Word} where
+  -- the results stay sound where neither what is kept nor what stands beside the modules changes
+  pub sound_same : (old new : Results) → AreSound design script old → HoldsNone new.shard → new.found.items ≡ old.found.items
+      → filled_keys new.shard ≡ filled_keys old.shard → AreSound design script new
+  sound_same old new h idle found filled = record {
+    readable = h.readable;
+    idle = idle;
+    beside = ap length found ∙ h.beside;
+    own = λ at built is.
+        subst (λ (kept : List (List ℕ)). IsResultAt script design.modules kept at built) (sym filled)
+        (h.own at built (sym (ap (λ (l : List (Option Built)). slice_get l at) found) ∙ is));
+  }
+
+  -- they stay sound where the result of the key of a module is put beside it
+  pub sound_found : (old new : Results) (at : ℕ) (built : Built) → AreSound design script old → HoldsNone new.shard → at < length design.modules
+      → new.found.items ≡ set old.found.items at (Some built) → filled_keys new.shard ≡ with_key (key_text_at script design.modules at) (filled_keys old.shard)
+      → built.key ≡ key_of design.modules at script → IsValueOf built.key built.outcome → AreSound design script new
+  sound_found old new at built h idle within found filled key value = record {
+    readable = h.readable;
+    idle = idle;
+    beside = ap length found ∙ length-set old.found.items at (Some built) ∙ h.beside;
+    own = λ k other is. by k other (ap (λ (l : List (Option Built)). slice_get l k) (sym found) ∙ is) (same_number k at);
+  }
+    where
+      text : List ℕ
+      text = key_text_at script design.modules at
+
+      by : (k : ℕ) (other : Built) → slice_get (set old.found.items at (Some built)) k ≡ Some (Some other) → (k ≡ at) ⊎ (k ≢ at)
+          → IsResultAt script design.modules (filled_keys new.shard) k other
+      by k other is (inl e) =
+          let there : slice_get (set old.found.items at (Some built)) at ≡ Some (Some built) = get_set_same old.found.items at (Some built) (omega (arith, h.beside, within)) in
+          let one : Some (Some built) ≡ Some (Some other) = sym there ∙ ap (slice_get (set old.found.items at (Some built))) (sym e) ∙ is in
+          let same : built ≡ other = cc in
+          subst (λ (b : Built). IsResultAt script design.modules (filled_keys new.shard) k b) same
+          (subst (λ (n : ℕ). IsResultAt script design.modules (filled_keys new.shard) n built) (sym e)
+          record { key = key; value = value; kept = ap (λ (l : List (List ℕ)). has_name l text) filled ∙ with_itself text (filled_keys old.shard) })
+      by k other is (inr ne) =
+          let before = h.own k other (sym (get_set_other old.found.items at k (Some built) ne) ∙ is) in
+          record {
+            key = before.key;
+            value = before.value;
+            kept = ap (λ (l : List (List ℕ)). has_name l (key_text_at script design.modules k)) filled ∙ with_still text (filled_keys old.shard) (key_text_at script design.modules k) before.kept;
+          }
+
+  -- a result that stands beside its module already is found there
+  pub found_known : (old : Results) (at : ℕ) (built : Built) → AreSound design script old → slice_get old.found.items at ≡ Some (Some built)
+      → with_key (key_text_at script design.modules at) (filled_keys old.shard) ≡ filled_keys old.shard
+  found_known old at built h is = filled_known old.shard (key_text_at script design.modules at) (h.own at built is).kept
+
+-- the results of the modules below a place are found, and these were built
+pub record AreFoundBelow (design : Design) (script : List Word) (before now : Results) (at built : ℕ) : Type 0 where
+  pub sound : AreSound design script now
+  pub filled : filled_keys now.shard ≡ with_keys (filled_keys before.shard) (keys_below (key_text_at script design.modules) at)
+  pub built_is : built ≡ new_count (filled_keys before.shard) (keys_below (key_text_at script design.modules) at)
+  pub found : (k : ℕ) → k < at → (b : Built) × (slice_get now.found.items k ≡ Some (Some b))
+
+module _ {design : Design} {script : List Word} {before now : Results} {at built : ℕ} where
+  f : ℕ → List ℕ
+  f = key_text_at script design.modules
+
+  -- whether one more was built
+  pub new_here : AreFoundBelow design script before now at built
+      → new_count (filled_keys before.shard) (keys_below (key_text_at script design.modules) (at + 1)) ≡ built + fresh (has_name (filled_keys now.shard) (key_text_at script design.modules at))
+  new_here h =
+      ap (new_count (filled_keys before.shard)) (below_more (key_text_at script design.modules) at)
+      ∙ new_snoc (filled_keys before.shard) (keys_below (key_text_at script design.modules) at) (key_text_at script design.modules at)
+      ∙ (let there : fresh (has_name (with_keys (filled_keys before.shard) (keys_below (key_text_at script design.modules) at)) (key_text_at script design.modules at))
+      ≡ fresh (has_name (filled_keys now.shard) (key_text_at script design.modules at)) =
+      ap (λ (l : List (List ℕ)). fresh (has_name l (key_text_at script design.modules at))) (sym h.filled) in
+      omega (arith, h.built_is, there))
+
+  pub found_more : (new : Results) (more : ℕ) → AreFoundBelow design script before now at built → at < length design.modules → AreSound design script new
+      → filled_keys new.shard ≡ with_key (key_text_at script design.modules at) (filled_keys now.shard)
+      → IsFoundAt now.found.items new.found.items at
+      → more ≡ built + fresh (has_name (filled_keys now.shard) (key_text_at script design.modules at))
+      → AreFoundBelow design script before new (at + 1) more
+  found_more new more h within sound filled found count = record {
+    sound = sound;
+    filled =
+        filled ∙ ap (with_key (key_text_at script design.modules at)) h.filled
+        ∙ sym (ap (with_keys (filled_keys before.shard)) (below_more (key_text_at script design.modules) at)
+        ∙ with_keys_snoc (filled_keys before.shard) (keys_below (key_text_at script design.modules) at) (key_text_at script design.modules at));
+    built_is = count ∙ sym (new_here h);
+    found = λ k lt. by k lt (same_number k at);
+  }
+    where
+      by : (k : ℕ) → k < at + 1 → (k ≡ at) ⊎ (k ≢ at) → (b : Built) × (slice_get new.found.items k ≡ Some (Some b))
+      by k lt (inl e) =
+          (found.0, ap (slice_get new.found.items) e ∙ ap (λ (l : List (Option Built)). slice_get l at) found.1 ∙ get_set_same now.found.items at (Some found.0) (omega (arith, h.sound.beside, within)))
+      by k lt (inr ne) =
+          let was = h.found k (omega (arith, lt, ne)) in
+          (was.0, ap (λ (l : List (Option Built)). slice_get l k) found.1 ∙ get_set_other now.found.items at k (Some found.0) ne ∙ was.1)
