@@ -13,7 +13,8 @@ unsupported =
     ∷ codes "$fair" ∷ codes "$equiv" ∷ codes "$print" ∷ codes "$check"
     ∷ codes "$anyconst" ∷ codes "$anyseq" ∷ codes "$allconst" ∷ codes "$allseq"
     ∷ codes "$initstate" ∷ codes "$specify2" ∷ codes "$specify3" ∷ codes "$specrule"
-    ∷ codes "$scopeinfo"
+    ∷ codes "$scopeinfo" ∷ codes "$buf" ∷ codes "$bwmux" ∷ codes "$bmux"
+    ∷ codes "$demux"
     ∷ [])
 
 -- the name is one of them

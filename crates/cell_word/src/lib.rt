@@ -7,7 +7,6 @@ mod choice;
 mod folds;
 mod integer;
 pub mod laws;
-mod parts;
 mod shift;
 mod value;
 mod words;

@@ -18,6 +18,4 @@ pub mod FoldLaws
 pub mod Meant
 pub mod Distances
 pub mod ShiftLaws
-pub mod PartNumbers
-pub mod PartLaws
 pub mod RuleLaws

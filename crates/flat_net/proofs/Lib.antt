@@ -9,6 +9,7 @@ pub mod Assigning
 pub mod Branching
 pub mod Rooting
 pub mod Sourcing
+pub mod Chars
 pub mod Celling
 pub mod Fitting
 pub mod Pairing

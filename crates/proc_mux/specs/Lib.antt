@@ -1,6 +1,4 @@
-pub mod Lines
-pub mod Begins
-pub mod Givens
-pub mod Rows
 pub mod Trees
+pub mod Lines
+pub mod Givens
 pub mod Limits

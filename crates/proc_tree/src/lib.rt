@@ -2,6 +2,7 @@
 #![tactic(auto)]
 
 mod leaves;
+mod places;
 mod processes;
 mod starts;
 mod wires;

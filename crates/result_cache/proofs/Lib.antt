@@ -4,6 +4,3 @@ pub mod Calls
 pub mod Facts
 pub mod Filled
 pub mod Holders
-pub mod Rising
-pub mod FilledKeys
-pub mod NewKeys

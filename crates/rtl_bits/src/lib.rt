@@ -8,9 +8,7 @@ pub mod laws;
 mod memory;
 mod numbers;
 mod seq;
-mod short;
 mod steps;
-mod text;
 
 pub use bit::{Bit, bit_and, bit_mux, bit_not, bit_or, bit_xor, merge};
 pub use knowledge::all_known;
@@ -18,7 +16,9 @@ pub use memory::Memory;
 pub use numbers::{digit_of, is_one, low_bit_of, number_of, top_of};
 pub use seq::{Copied, Seq};
 pub use steps::Steps;
-pub use text::Text;
+
+/// A text, as its bytes.
+pub type Text = Seq<u8>;
 
 /// A list of bits, the least significant first.
 pub type Bits = Seq<Bit>;

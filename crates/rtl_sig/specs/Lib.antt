@@ -1,3 +1,2 @@
 pub mod Signal
 pub mod Names
-pub mod Storage

@@ -2,5 +2,6 @@ pub mod Constant
 pub mod Signal
 pub mod Text
 pub mod Ports
+pub mod Readable
 pub mod Bodies
 pub mod PortTables

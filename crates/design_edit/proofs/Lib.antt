@@ -1,5 +1,0 @@
-pub mod Placing
-pub mod Readings
-pub mod Editing
-pub mod Seeking
-pub mod Naming

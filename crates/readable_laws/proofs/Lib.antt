@@ -1,4 +1,0 @@
-pub mod Fresh
-pub mod Extending
-pub mod Parts
-pub mod Cells

@@ -1,4 +1,0 @@
-pub mod Grown
-pub mod Counting
-pub mod Signals
-pub mod Changing
