@@ -1,5 +1,6 @@
 #!/bin/sh
-# Memory and time of a module of gates, each with three pins of one bit and a name of its own: made, and made and copied.
+# Memory, time and, where valgrind is installed, allocations of a module of gates, each with three pins of one bit and a
+# name of its own: made, and made and copied.
 # It writes a program into a temporary folder beside copies of the crates, has it proved and built, and runs it there.
 # usage: bench/gates.sh [GATES]      a million without a number
 set -eu
@@ -67,5 +68,8 @@ END
 cd "$work/crates/gates"
 rt run >"$work/log" 2>&1 || { cat "$work/log"; exit 1; }
 for copy in '' copy; do
-    /usr/bin/time -f '%e s, %M KB at most' ./out/gates $copy
+    /usr/bin/time -f '%U s user, %S s system, %e s, %M KB at most' ./out/gates $copy
+    if command -v valgrind >/dev/null; then
+        valgrind ./out/gates $copy 2>&1 | sed -n 's/.*total heap usage: //p'
+    fi
 done

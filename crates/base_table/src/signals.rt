@@ -73,7 +73,7 @@ pub fn is_joined(alloc: Global, fields: &[&[u8]]) -> Result<bool, Memory> {
 pub fn stays(alloc: Global, text: &[u8]) -> Result<bool, Memory> {
     let copy = signal(alloc, text)?.copy()?;
     let again = SigSpec::from_slice(alloc, copy.as_slice())?;
-    is_signal(alloc, &SigSpec::from_vec(again.into_vec()), text)
+    is_signal(alloc, &SigSpec::from_vec(again.into_vec()?)?, text)
 }
 
 /// Whether a signal has 4,194,304 bits, and none has one more.

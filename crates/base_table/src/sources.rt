@@ -8,7 +8,7 @@ use table_rows::str_of;
 /// So many bytes, of which no two pieces are alike.
 pub fn bytes_of(alloc: Global, count: usize) -> Result<Text, Memory> {
     let bytes = (0..count).map(|at| (at % 251) as u8).collect(alloc)?;
-    Ok(Text::from_vec(bytes))
+    Text::from_vec(bytes)
 }
 
 /// Whether the source gives these bytes, and then none.

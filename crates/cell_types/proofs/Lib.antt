@@ -1,3 +1,5 @@
 pub mod NumberLemmas
 pub mod BoundLemmas
 pub mod Within
+pub mod Lengths
+pub mod Apart

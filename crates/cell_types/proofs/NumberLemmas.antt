@@ -1,6 +1,7 @@
 -- numbers by their digits, and products of numbers that are cut off at a bound
-use Rattle.std.proofs.Common.{◌≡◌, ℕ, ◌+◌, ◌*◌, ◌≤◌, ◌<◌, min, Bool, true, false, ltb, zero, suc, List, [], ◌∷◌, drop, refl, ◌∙◌, add-one, arith}
+use Rattle.std.proofs.Common.{◌≡◌, ℕ, ◌+◌, ◌*◌, ◌^◌, ◌≤◌, ◌<◌, min, Bool, true, false, ltb, zero, suc, List, [], ◌∷◌, drop, refl, ◌∙◌, add-one, arith}
 use Rattle.std.proofs.Math.Nat.{le-mul_of_pos_right, mul_comm}
+use Rattle.std.proofs.Math.Pow.{pow_mono}
 use Rattle.std.proofs.lemmas.Bool.{ltb-true, ltb-false}
 use Rattle.rtl_bits.specs.declared.bit.Bit.{Bit}
 use Rattle.rtl_bits.specs.Numbers.{number_of}
@@ -43,3 +44,25 @@ pub product_is : (a b x y top m r : ℕ) → 0 < m → m ≤ top → x ≡ min a
 product_is a b x y top m r h low x_is y_is r_is =
     let r_of : r ≡ min (x * y) m = omega arith in
     r_of ∙ rw (x_is, y_is) (min_product a b m h)
+
+-- so many words of some bits are at least as many as the words are
+words_many : (w s : ℕ) → 0 < w → 2 ^ s ≤ w * 2 ^ s
+words_many w s some = rw (mul_comm w (2 ^ s)) (le-mul_of_pos_right (2 ^ s) some)
+
+-- few bits have so few values
+pub few_bits : (w s : ℕ) → 0 < w → w * 2 ^ s ≤ 4096 → s ≤ 12
+few_bits w s some low = by (ltb 12 s) refl
+  where
+    by : (t : Bool) → ltb 12 s ≡ t → s ≤ 12
+    by true e =
+        let more : 2 ^ 13 ≤ 2 ^ s = pow_mono {i = 13} {j = s} (omega (arith, ltb-true 12 s e)) in
+        let all : 2 ^ s ≤ w * 2 ^ s = words_many w s some in
+        absurd (omega arith)
+    by false e = ltb-false 12 s e
+
+-- words for many bits are many
+pub parts_many : (w s : ℕ) → 0 < w → 64 ≤ s → min (w * 2 ^ s) (2 ^ 64) ≡ 2 ^ 64
+parts_many w s some far =
+    let more : 2 ^ 64 ≤ 2 ^ s = pow_mono {i = 64} {j = s} far in
+    let all : 2 ^ s ≤ w * 2 ^ s = words_many w s some in
+    omega arith

@@ -1,5 +1,5 @@
 -- the shape of each kind of cell is within bounds
-use Rattle.std.proofs.Common.{◌≡◌, ℕ, ◌+◌, ◌*◌, ◌<◌, ◌≤◌, Bool, true, false, ltb, List, None, refl, sym, ◌∙◌, subst, arith}
+use Rattle.std.proofs.Common.{◌≡◌, ℕ, ◌+◌, ◌*◌, ◌^◌, ◌<◌, ◌≤◌, Bool, true, false, ltb, List, None, refl, sym, ◌∙◌, subst, arith}
 use Rattle.std.proofs.lemmas.Bool.{ltb-false}
 use Rattle.cell_types.specs.declared.given.Param.{Param}
 use Rattle.cell_types.specs.declared.given.PinWidth.{PinWidth}
@@ -15,7 +15,7 @@ use Rattle.cell_types.specs.declared.word.UnaryKind.TheVariants as UnaryOf
 use Rattle.cell_types.specs.declared.storage_gate.StorageGate.{StorageGate}
 use Rattle.cell_types.specs.declared.storage_gate.StorageGate.TheVariants as Gate
 use Rattle.cell_types.specs.declared.word.WordKind.{WordKind}
-use Rattle.cell_types.specs.declared.word.WordKind.TheVariants.{Unary, Fold, Bitwise, Logic, Equal, Order, Arith, Division, Shift, Mux, Pmux, Slice, Concat}
+use Rattle.cell_types.specs.declared.word.WordKind.TheVariants.{Unary, Fold, Bitwise, Logic, Equal, Order, Arith, Division, Shift, Mux, Pmux, Slice, Concat, Buf, Bwmux, Bmux, Demux}
 use Rattle.cell_types.specs.Bounds.{AreWordWidths, IsWithin, KeepsBounds, KindKeeps, ResetsFit, OneOperand, TwoOperands}
 use Rattle.cell_types.specs.Fault.{fault_of, has_no_meaning, is_bad, is_given, is_wide, is_wide_pin, limit_of}
 use Rattle.cell_types.specs.Given.{number_in}
@@ -24,6 +24,7 @@ use Rattle.cell_types.specs.Pins.{pins_of}
 use Rattle.cell_types.specs.Shape.{made_shape, pin_widths, small}
 use Rattle.cell_types.specs.StorageGate.{kind_of_gate}
 use Rattle.cell_types.proofs.BoundLemmas.{EachIs, each_none, filling, not_bad, positive}
+use Rattle.cell_types.proofs.NumberLemmas.{few_bits}
 
 within : (limit n : ℕ) → 0 < n → ltb limit n ≡ false → IsWithin limit (small n)
 within limit n some narrow =
@@ -69,6 +70,18 @@ concat a b narrow =
     let low : a + b ≤ 4096 = ltb-false 4096 (a + b) narrow in
     (omega arith, omega arith)
 
+-- of parts, as many as some bits have values
+parts : (w s : ℕ) → 0 < w → 0 < s → ltb 4096 w ≡ false → ltb 4096 (w * 2 ^ s) ≡ false → IsWithin 4096 (small w) × IsWithin 12 (small s) × (small (w * 2 ^ s) ≡ small w * 2 ^ small s) × (small (w * 2 ^ s) ≤ 4096)
+parts w s w_some s_some w_narrow narrow =
+    let low : w * 2 ^ s ≤ 4096 = ltb-false 4096 (w * 2 ^ s) narrow in
+    let few : s ≤ 12 = few_bits w s w_some low in
+    let same : small s ≡ s = omega arith in (
+      within 4096 w w_some w_narrow,
+      (omega arith, omega arith),
+      rw (small_is (w * 2 ^ s) narrow, small_is w w_narrow, same) refl,
+      omega arith,
+    )
+
 -- of a combinational cell on words
 pub word_bounds : (kind : WordKind) (params : List Param) → EachIs true (is_given (Cell.Word kind) params) (params_of (Cell.Word kind)) → EachIs false (is_wide_pin kind params) (pins_of (Cell.Word kind)) → has_no_meaning (Cell.Word kind) params ≡ false → AreWordWidths kind (pin_widths (Cell.Word kind) params) (small (number_in params Offset))
 word_bounds (Unary kind) params g n m = one (Unary kind) params (limit_of (Unary kind)) g.1.0 g.1.1.0 n.0 n.1.0
@@ -102,6 +115,13 @@ word_bounds Concat params g n m =
       sum.0,
       sum.1,
     )
+word_bounds Buf params g n m = (within 4096 _ (positive (Cell.Word Buf) params Width refl g.0) n.0, refl)
+word_bounds Bwmux params g n m =
+    (within 4096 _ (positive (Cell.Word Bwmux) params Width refl g.0) n.0, refl, refl, refl)
+word_bounds Bmux params g n m =
+    parts _ _ (positive (Cell.Word Bmux) params Width refl g.0) (positive (Cell.Word Bmux) params SWidth refl g.1.0) n.1.1.0 n.0
+word_bounds Demux params g n m =
+    parts _ _ (positive (Cell.Word Demux) params Width refl g.0) (positive (Cell.Word Demux) params SWidth refl g.1.0) n.0 n.1.1.0
 
 -- the first parameter of each storage cell is its width
 storage_bounds : (kind : StorageKind) (params : List Param) → EachIs true (is_given (Cell.Storage kind) params) (params_of (Cell.Storage kind)) → 0 < number_in params Width

@@ -1,5 +1,5 @@
 -- what the shapes of cells keep to
-use Rattle.std.specs.Prelude.{◌≡◌, ℕ, ◌+◌, ◌*◌, ◌<◌, ◌≤◌, length, ⊤}
+use Rattle.std.specs.Prelude.{◌≡◌, ℕ, ◌+◌, ◌*◌, ◌^◌, ◌<◌, ◌≤◌, length, ⊤}
 use Rattle.cell_types.specs.declared.kind.CellKind.{CellKind}
 use Rattle.cell_types.specs.declared.kind.CellKind.TheVariants as Cell
 use Rattle.cell_types.specs.declared.shape.Shape.{Shape}
@@ -7,7 +7,7 @@ use Rattle.cell_types.specs.declared.shape.Widths.{Widths}
 use Rattle.cell_types.specs.declared.storage.StorageKind.{StorageKind}
 use Rattle.cell_types.specs.declared.storage.StorageKind.TheVariants.{Adff, Adffe, Adlatch, Sdff, Sdffe, Sdffce}
 use Rattle.cell_types.specs.declared.word.WordKind.{WordKind}
-use Rattle.cell_types.specs.declared.word.WordKind.TheVariants.{Unary, Fold, Bitwise, Logic, Equal, Order, Arith, Division, Shift, Mux, Pmux, Slice, Concat}
+use Rattle.cell_types.specs.declared.word.WordKind.TheVariants.{Unary, Fold, Bitwise, Logic, Equal, Order, Arith, Division, Shift, Mux, Pmux, Slice, Concat, Buf, Bwmux, Bmux, Demux}
 use Rattle.cell_types.specs.Fault.{limit_of}
 use Rattle.cell_types.specs.StorageGate.{kind_of_gate}
 
@@ -38,6 +38,10 @@ AreWordWidths Mux w offset = IsWithin 4096 w.a × (w.b ≡ w.a) × (w.s ≡ 1) �
 AreWordWidths Pmux w offset = IsWithin 4096 w.a × (w.b ≡ w.a * w.s) × IsWithin 4096 w.s × (w.y ≡ w.a) × (w.b ≤ 4096)
 AreWordWidths Slice w offset = OneOperand 4096 w × (offset + w.y ≤ w.a)
 AreWordWidths Concat w offset = IsWithin 4096 w.a × IsWithin 4096 w.b × (w.y ≡ w.a + w.b) × (w.y ≤ 4096)
+AreWordWidths Buf w offset = IsWithin 4096 w.a × (w.y ≡ w.a)
+AreWordWidths Bwmux w offset = IsWithin 4096 w.a × (w.b ≡ w.a) × (w.s ≡ w.a) × (w.y ≡ w.a)
+AreWordWidths Bmux w offset = IsWithin 4096 w.y × IsWithin 12 w.s × (w.a ≡ w.y * 2 ^ w.s) × (w.a ≤ 4096)
+AreWordWidths Demux w offset = IsWithin 4096 w.a × IsWithin 12 w.s × (w.y ≡ w.a * 2 ^ w.s) × (w.y ≤ 4096)
 
 -- the reset that a storage cell has sets each of its bits
 abbrev pub ResetsFit : StorageKind → Shape → Type 0

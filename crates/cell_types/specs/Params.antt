@@ -19,6 +19,10 @@ word_params Word.Mux = Width ∷ []
 word_params Word.Pmux = Width ∷ SWidth ∷ []
 word_params Word.Slice = Offset ∷ AWidth ∷ YWidth ∷ []
 word_params Word.Concat = AWidth ∷ BWidth ∷ []
+word_params Word.Buf = Width ∷ []
+word_params Word.Bwmux = Width ∷ []
+word_params Word.Bmux = Width ∷ SWidth ∷ []
+word_params Word.Demux = Width ∷ SWidth ∷ []
 word_params _ = ASigned ∷ AWidth ∷ BSigned ∷ BWidth ∷ YWidth ∷ []
 
 -- of storage cells on words

@@ -22,6 +22,10 @@ word_pins Word.Mux = A ∷ B ∷ S ∷ Y ∷ []
 word_pins Word.Pmux = A ∷ B ∷ S ∷ Y ∷ []
 word_pins Word.Slice = A ∷ Y ∷ []
 word_pins Word.Concat = A ∷ B ∷ Y ∷ []
+word_pins Word.Buf = A ∷ Y ∷ []
+word_pins Word.Bwmux = A ∷ B ∷ S ∷ Y ∷ []
+word_pins Word.Bmux = A ∷ S ∷ Y ∷ []
+word_pins Word.Demux = A ∷ S ∷ Y ∷ []
 word_pins _ = A ∷ B ∷ Y ∷ []
 
 -- of combinational gates

@@ -13,8 +13,7 @@ unsupported =
     ∷ codes "$fair" ∷ codes "$equiv" ∷ codes "$print" ∷ codes "$check"
     ∷ codes "$anyconst" ∷ codes "$anyseq" ∷ codes "$allconst" ∷ codes "$allseq"
     ∷ codes "$initstate" ∷ codes "$specify2" ∷ codes "$specify3" ∷ codes "$specrule"
-    ∷ codes "$scopeinfo" ∷ codes "$buf" ∷ codes "$bwmux" ∷ codes "$bmux"
-    ∷ codes "$demux"
+    ∷ codes "$scopeinfo"
     ∷ [])
 
 -- the name is one of them

@@ -1,5 +1,5 @@
 -- the widths that a cell's parameters give its pins
-use Rattle.std.specs.Prelude.{ℕ, List, ◌+◌, ◌*◌}
+use Rattle.std.specs.Prelude.{ℕ, List, ◌+◌, ◌*◌, ◌^◌}
 use Rattle.cell_types.specs.declared.given.Param.{Param}
 use Rattle.cell_types.specs.declared.kind.CellKind.{CellKind}
 use Rattle.cell_types.specs.declared.kind.CellKind.TheVariants as Cell
@@ -9,7 +9,7 @@ use Rattle.cell_types.specs.declared.param_name.ParamName.TheVariants.{AWidth, B
 use Rattle.cell_types.specs.declared.pin_name.PinName.{PinName}
 use Rattle.cell_types.specs.declared.pin_name.PinName.TheVariants.{A, B, S, Y, En, Set, Clr, Ad, D, Q, Addr, Data}
 use Rattle.cell_types.specs.declared.word.WordKind.{WordKind}
-use Rattle.cell_types.specs.declared.word.WordKind.TheVariants.{Mux, Pmux, Concat}
+use Rattle.cell_types.specs.declared.word.WordKind.TheVariants.{Mux, Pmux, Concat, Buf, Bwmux, Bmux, Demux}
 use Rattle.cell_types.specs.Given.{number_in}
 
 -- each pin has the width that is named for it
@@ -37,11 +37,39 @@ concat_width params B = number_in params BWidth
 concat_width params Y = number_in params AWidth + number_in params BWidth
 concat_width params _ = 0
 
+-- a word, and the word itself
+abbrev pub buf_width : List Param → PinName → ℕ
+buf_width params A = number_in params Width
+buf_width params Y = number_in params Width
+buf_width params _ = 0
+
+-- as many words as the bits that choose have values
+abbrev pub parts_in : List Param → ℕ
+parts_in params = number_in params Width * 2 ^ number_in params SWidth
+
+-- parts, and the bits that choose one of them
+abbrev pub bmux_width : List Param → PinName → ℕ
+bmux_width params A = parts_in params
+bmux_width params S = number_in params SWidth
+bmux_width params Y = number_in params Width
+bmux_width params _ = 0
+
+-- a word, and parts of which one takes it
+abbrev pub demux_width : List Param → PinName → ℕ
+demux_width params A = number_in params Width
+demux_width params S = number_in params SWidth
+demux_width params Y = parts_in params
+demux_width params _ = 0
+
 -- of combinational cells on words
 abbrev pub word_width : WordKind → List Param → PinName → ℕ
 word_width Mux params pin = mux_width params pin
 word_width Pmux params pin = pmux_width params pin
 word_width Concat params pin = concat_width params pin
+word_width Buf params pin = buf_width params pin
+word_width Bwmux params pin = number_in params Width
+word_width Bmux params pin = bmux_width params pin
+word_width Demux params pin = demux_width params pin
 word_width _ params pin = own_width params pin
 
 -- of storage cells: words, and single bits that control them

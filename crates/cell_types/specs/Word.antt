@@ -54,6 +54,10 @@ words =
     ∷ (codes "$pmux", Word.Pmux)
     ∷ (codes "$slice", Word.Slice)
     ∷ (codes "$concat", Word.Concat)
+    ∷ (codes "$buf", Word.Buf)
+    ∷ (codes "$bwmux", Word.Bwmux)
+    ∷ (codes "$bmux", Word.Bmux)
+    ∷ (codes "$demux", Word.Demux)
     ∷ [])
 
 -- the word cell of this name

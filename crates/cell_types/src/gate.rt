@@ -38,26 +38,49 @@ pub enum GateKind {
 }
 
 #[rattlefmt::skip]
-const GATES: [(&[u8], GateKind); 12] = [
+const GATES_OF_5: [(&[u8], GateKind); 1] = [
+    (b"$_OR_", GateKind::Or),
+];
+
+#[rattlefmt::skip]
+const GATES_OF_6: [(&[u8], GateKind); 6] = [
     (b"$_BUF_", GateKind::Buf),
     (b"$_NOT_", GateKind::Not),
     (b"$_AND_", GateKind::And),
-    (b"$_NAND_", GateKind::Nand),
-    (b"$_OR_", GateKind::Or),
     (b"$_NOR_", GateKind::Nor),
     (b"$_XOR_", GateKind::Xor),
-    (b"$_XNOR_", GateKind::Xnor),
-    (b"$_ANDNOT_", GateKind::AndNot),
-    (b"$_ORNOT_", GateKind::OrNot),
     (b"$_MUX_", GateKind::Mux),
+];
+
+#[rattlefmt::skip]
+const GATES_OF_7: [(&[u8], GateKind); 3] = [
+    (b"$_NAND_", GateKind::Nand),
+    (b"$_XNOR_", GateKind::Xnor),
     (b"$_NMUX_", GateKind::Nmux),
+];
+
+#[rattlefmt::skip]
+const GATES_OF_8: [(&[u8], GateKind); 1] = [
+    (b"$_ORNOT_", GateKind::OrNot),
+];
+
+#[rattlefmt::skip]
+const GATES_OF_9: [(&[u8], GateKind); 1] = [
+    (b"$_ANDNOT_", GateKind::AndNot),
 ];
 
 /// The gate of this name.
 pub(crate) fn gate_named(name: &[u8]) -> Option<GateKind>
     ensures value { result ≡ gate_of name.now }
 {
-    find_named(&GATES, name)
+    match name.len() {
+        5 => find_named(&GATES_OF_5, name),
+        6 => find_named(&GATES_OF_6, name),
+        7 => find_named(&GATES_OF_7, name),
+        8 => find_named(&GATES_OF_8, name),
+        9 => find_named(&GATES_OF_9, name),
+        _ => None,
+    }
 }
 
 impl GateKind {

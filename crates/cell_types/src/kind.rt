@@ -31,11 +31,11 @@ pub enum CellKind {
 pub fn kind_of(name: &[u8]) -> Option<CellKind>
     ensures value { result ≡ kind_of name.now }
 {
-    if let Some(kind) = storage_gate_named(name) {
-        return Some(CellKind::StorageGate(kind));
-    }
     if let Some(kind) = gate_named(name) {
         return Some(CellKind::Gate(kind));
+    }
+    if let Some(kind) = storage_gate_named(name) {
+        return Some(CellKind::StorageGate(kind));
     }
     if let Some(kind) = word_named(name) {
         return Some(CellKind::Word(kind));

@@ -26,9 +26,9 @@ pub enum MemoryKind {
 #[rattlefmt::skip]
 const MEMORIES: [(&[u8], MemoryKind); 5] = [
     (b"$memrd", MemoryKind::Memrd),
+    (b"$meminit", MemoryKind::Meminit),
     (b"$memrd_v2", MemoryKind::MemrdV2),
     (b"$memwr_v2", MemoryKind::MemwrV2),
-    (b"$meminit", MemoryKind::Meminit),
     (b"$meminit_v2", MemoryKind::MeminitV2),
 ];
 

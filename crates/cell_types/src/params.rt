@@ -34,8 +34,8 @@ fn word_params(kind: WordKind) -> &'static [ParamName]
 {
     match kind {
         WordKind::Unary(_) | WordKind::Fold(_) => &[ASigned, AWidth, YWidth],
-        WordKind::Mux => &[Width],
-        WordKind::Pmux => &[Width, SWidth],
+        WordKind::Mux | WordKind::Buf | WordKind::Bwmux => &[Width],
+        WordKind::Pmux | WordKind::Bmux | WordKind::Demux => &[Width, SWidth],
         WordKind::Slice => &[Offset, AWidth, YWidth],
         WordKind::Concat => &[AWidth, BWidth],
         _ => &[ASigned, AWidth, BSigned, BWidth, YWidth],

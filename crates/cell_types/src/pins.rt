@@ -34,6 +34,10 @@ fn word_pins(kind: WordKind) -> &'static [PinName]
         WordKind::Mux => &[A, B, S, Y],
         WordKind::Pmux => &[A, B, S, Y],
         WordKind::Slice => &[A, Y],
+        WordKind::Buf => &[A, Y],
+        WordKind::Bwmux => &[A, B, S, Y],
+        WordKind::Bmux => &[A, S, Y],
+        WordKind::Demux => &[A, S, Y],
         WordKind::Concat => &[A, B, Y],
         _ => &[A, B, Y],
     }

@@ -45,30 +45,63 @@ pub enum StorageKind {
 }
 
 #[rattlefmt::skip]
-const STORAGES: [(&[u8], StorageKind); 16] = [
+const STORAGES_OF_3: [(&[u8], StorageKind); 2] = [
     (b"$ff", StorageKind::Ff),
+    (b"$sr", StorageKind::Sr),
+];
+
+#[rattlefmt::skip]
+const STORAGES_OF_4: [(&[u8], StorageKind); 1] = [
     (b"$dff", StorageKind::Dff),
+];
+
+#[rattlefmt::skip]
+const STORAGES_OF_5: [(&[u8], StorageKind); 3] = [
     (b"$dffe", StorageKind::Dffe),
     (b"$sdff", StorageKind::Sdff),
-    (b"$sdffe", StorageKind::Sdffe),
-    (b"$sdffce", StorageKind::Sdffce),
     (b"$adff", StorageKind::Adff),
+];
+
+#[rattlefmt::skip]
+const STORAGES_OF_6: [(&[u8], StorageKind); 4] = [
+    (b"$sdffe", StorageKind::Sdffe),
     (b"$adffe", StorageKind::Adffe),
     (b"$aldff", StorageKind::Aldff),
-    (b"$aldffe", StorageKind::Aldffe),
     (b"$dffsr", StorageKind::Dffsr),
+];
+
+#[rattlefmt::skip]
+const STORAGES_OF_7: [(&[u8], StorageKind); 4] = [
+    (b"$sdffce", StorageKind::Sdffce),
+    (b"$aldffe", StorageKind::Aldffe),
     (b"$dffsre", StorageKind::Dffsre),
     (b"$dlatch", StorageKind::Dlatch),
+];
+
+#[rattlefmt::skip]
+const STORAGES_OF_8: [(&[u8], StorageKind); 1] = [
     (b"$adlatch", StorageKind::Adlatch),
+];
+
+#[rattlefmt::skip]
+const STORAGES_OF_9: [(&[u8], StorageKind); 1] = [
     (b"$dlatchsr", StorageKind::Dlatchsr),
-    (b"$sr", StorageKind::Sr),
 ];
 
 /// The storage cell of this name.
 pub(crate) fn storage_named(name: &[u8]) -> Option<StorageKind>
     ensures value { result ≡ storage_of name.now }
 {
-    find_named(&STORAGES, name)
+    match name.len() {
+        3 => find_named(&STORAGES_OF_3, name),
+        4 => find_named(&STORAGES_OF_4, name),
+        5 => find_named(&STORAGES_OF_5, name),
+        6 => find_named(&STORAGES_OF_6, name),
+        7 => find_named(&STORAGES_OF_7, name),
+        8 => find_named(&STORAGES_OF_8, name),
+        9 => find_named(&STORAGES_OF_9, name),
+        _ => None,
+    }
 }
 
 impl StorageKind {

@@ -6,7 +6,7 @@ ghost use Rattle.cell_types.specs.Unsupported.{is_unsupported};
 use crate::names::is_among;
 
 #[rattlefmt::skip]
-const UNSUPPORTED: [&[u8]; 37] = [
+const UNSUPPORTED: [&[u8]; 33] = [
     b"$eqx", b"$nex", b"$bweqx", b"$tribuf",
     b"$_TBUF_", b"$pow", b"$lut", b"$sop",
     b"$alu", b"$lcu", b"$fa", b"$macc",
@@ -15,8 +15,7 @@ const UNSUPPORTED: [&[u8]; 37] = [
     b"$fair", b"$equiv", b"$print", b"$check",
     b"$anyconst", b"$anyseq", b"$allconst", b"$allseq",
     b"$initstate", b"$specify2", b"$specify3", b"$specrule",
-    b"$scopeinfo", b"$buf", b"$bwmux", b"$bmux",
-    b"$demux",
+    b"$scopeinfo",
 ];
 
 /// Whether this names a cell that is known and not accepted. It takes no memory.

@@ -2,7 +2,7 @@
 
 ghost use Rattle.std.specs.Prelude.{◌≡◌, ◌*◌, ◌^◌, min};
 ghost use Rattle.cell_types.specs.Given.{number_in};
-ghost use Rattle.cell_types.specs.Widths.{concat_width, init_width, memory_width, mux_width, own_width, pin_width, pmux_width, read_width, storage_width, word_width, write_width};
+ghost use Rattle.cell_types.specs.Widths.{bmux_width, buf_width, concat_width, demux_width, init_width, memory_width, mux_width, own_width, parts_in, pin_width, pmux_width, read_width, storage_width, word_width, write_width};
 
 use crate::given::{Param, number_in};
 use crate::kind::CellKind;
@@ -31,6 +31,10 @@ fn word_width(kind: WordKind, params: &[Param], pin: PinName) -> u128
         WordKind::Mux => mux_width(params, pin),
         WordKind::Pmux => pmux_width(params, pin),
         WordKind::Concat => concat_width(params, pin),
+        WordKind::Buf => buf_width(params, pin),
+        WordKind::Bwmux => number_in(params, ParamName::Width),
+        WordKind::Bmux => bmux_width(params, pin),
+        WordKind::Demux => demux_width(params, pin),
         _ => own_width(params, pin),
     }
 }
@@ -75,6 +79,52 @@ fn concat_width(params: &[Param], pin: PinName) -> u128
         PinName::B => b,
         PinName::Y => (a + b).min(MANY),
         _ => 0,
+    }
+}
+
+fn buf_width(params: &[Param], pin: PinName) -> u128
+    ensures value { result ≡ min (buf_width params.now pin) (2 ^ 64) }
+{
+    match pin {
+        PinName::A | PinName::Y => number_in(params, ParamName::Width),
+        _ => 0,
+    }
+}
+
+fn bmux_width(params: &[Param], pin: PinName) -> u128
+    ensures value { result ≡ min (bmux_width params.now pin) (2 ^ 64) }
+{
+    match pin {
+        PinName::A => parts_in(params),
+        PinName::S => number_in(params, ParamName::SWidth),
+        PinName::Y => number_in(params, ParamName::Width),
+        _ => 0,
+    }
+}
+
+fn demux_width(params: &[Param], pin: PinName) -> u128
+    ensures value { result ≡ min (demux_width params.now pin) (2 ^ 64) }
+{
+    match pin {
+        PinName::A => number_in(params, ParamName::Width),
+        PinName::S => number_in(params, ParamName::SWidth),
+        PinName::Y => parts_in(params),
+        _ => 0,
+    }
+}
+
+/// As many words as the bits that choose have values.
+fn parts_in(params: &[Param]) -> u128
+    ensures value { result ≡ min (parts_in params.now) (2 ^ 64) }
+{
+    let width = number_in(params, ParamName::Width);
+    let choosing = number_in(params, ParamName::SWidth);
+    if width == 0 {
+        0
+    } else if choosing >= 64 {
+        MANY
+    } else {
+        width.saturating_mul(1 << choosing).min(MANY)
     }
 }
 

@@ -141,55 +141,110 @@ pub enum WordKind {
     Slice,
     /// `$concat`: A below B.
     Concat,
+    /// `$buf`: A.
+    Buf,
+    /// `$bwmux`: bit by bit, A for S 0, B for S 1.
+    Bwmux,
+    /// `$bmux`: the part of A whose number S is.
+    Bmux,
+    /// `$demux`: A at the part whose number S is, and 0 elsewhere.
+    Demux,
 }
 
 #[rattlefmt::skip]
-const WORDS: [(&[u8], WordKind); 38] = [
-    (b"$not", WordKind::Unary(UnaryKind::Not)),
-    (b"$pos", WordKind::Unary(UnaryKind::Pos)),
-    (b"$neg", WordKind::Unary(UnaryKind::Neg)),
-    (b"$reduce_and", WordKind::Fold(FoldKind::And)),
-    (b"$reduce_or", WordKind::Fold(FoldKind::Or)),
-    (b"$reduce_xor", WordKind::Fold(FoldKind::Xor)),
-    (b"$reduce_xnor", WordKind::Fold(FoldKind::Xnor)),
-    (b"$reduce_bool", WordKind::Fold(FoldKind::Bool)),
-    (b"$logic_not", WordKind::Fold(FoldKind::LogicNot)),
-    (b"$and", WordKind::Bitwise(BitwiseKind::And)),
+const WORDS_OF_3: [(&[u8], WordKind); 7] = [
     (b"$or", WordKind::Bitwise(BitwiseKind::Or)),
-    (b"$xor", WordKind::Bitwise(BitwiseKind::Xor)),
-    (b"$xnor", WordKind::Bitwise(BitwiseKind::Xnor)),
-    (b"$logic_and", WordKind::Logic(LogicKind::And)),
-    (b"$logic_or", WordKind::Logic(LogicKind::Or)),
     (b"$eq", WordKind::Equal(EqualKind::Eq)),
     (b"$ne", WordKind::Equal(EqualKind::Ne)),
     (b"$lt", WordKind::Order(OrderKind::Lt)),
     (b"$le", WordKind::Order(OrderKind::Le)),
     (b"$ge", WordKind::Order(OrderKind::Ge)),
     (b"$gt", WordKind::Order(OrderKind::Gt)),
+];
+
+#[rattlefmt::skip]
+const WORDS_OF_4: [(&[u8], WordKind); 14] = [
+    (b"$not", WordKind::Unary(UnaryKind::Not)),
+    (b"$pos", WordKind::Unary(UnaryKind::Pos)),
+    (b"$neg", WordKind::Unary(UnaryKind::Neg)),
+    (b"$and", WordKind::Bitwise(BitwiseKind::And)),
+    (b"$xor", WordKind::Bitwise(BitwiseKind::Xor)),
     (b"$add", WordKind::Arith(ArithKind::Add)),
     (b"$sub", WordKind::Arith(ArithKind::Sub)),
     (b"$mul", WordKind::Arith(ArithKind::Mul)),
     (b"$div", WordKind::Division(DivisionKind::Div)),
     (b"$mod", WordKind::Division(DivisionKind::Mod)),
+    (b"$shl", WordKind::Shift(ShiftKind::Shl)),
+    (b"$shr", WordKind::Shift(ShiftKind::Shr)),
+    (b"$mux", WordKind::Mux),
+    (b"$buf", WordKind::Buf),
+];
+
+#[rattlefmt::skip]
+const WORDS_OF_5: [(&[u8], WordKind); 5] = [
+    (b"$xnor", WordKind::Bitwise(BitwiseKind::Xnor)),
+    (b"$sshl", WordKind::Shift(ShiftKind::Sshl)),
+    (b"$sshr", WordKind::Shift(ShiftKind::Sshr)),
+    (b"$pmux", WordKind::Pmux),
+    (b"$bmux", WordKind::Bmux),
+];
+
+#[rattlefmt::skip]
+const WORDS_OF_6: [(&[u8], WordKind); 4] = [
+    (b"$shift", WordKind::Shift(ShiftKind::Shift)),
+    (b"$slice", WordKind::Slice),
+    (b"$bwmux", WordKind::Bwmux),
+    (b"$demux", WordKind::Demux),
+];
+
+#[rattlefmt::skip]
+const WORDS_OF_7: [(&[u8], WordKind); 2] = [
+    (b"$shiftx", WordKind::Shift(ShiftKind::Shiftx)),
+    (b"$concat", WordKind::Concat),
+];
+
+#[rattlefmt::skip]
+const WORDS_OF_9: [(&[u8], WordKind); 3] = [
+    (b"$logic_or", WordKind::Logic(LogicKind::Or)),
     (b"$divfloor", WordKind::Division(DivisionKind::DivFloor)),
     (b"$modfloor", WordKind::Division(DivisionKind::ModFloor)),
-    (b"$shl", WordKind::Shift(ShiftKind::Shl)),
-    (b"$sshl", WordKind::Shift(ShiftKind::Sshl)),
-    (b"$shr", WordKind::Shift(ShiftKind::Shr)),
-    (b"$sshr", WordKind::Shift(ShiftKind::Sshr)),
-    (b"$shift", WordKind::Shift(ShiftKind::Shift)),
-    (b"$shiftx", WordKind::Shift(ShiftKind::Shiftx)),
-    (b"$mux", WordKind::Mux),
-    (b"$pmux", WordKind::Pmux),
-    (b"$slice", WordKind::Slice),
-    (b"$concat", WordKind::Concat),
+];
+
+#[rattlefmt::skip]
+const WORDS_OF_10: [(&[u8], WordKind); 3] = [
+    (b"$reduce_or", WordKind::Fold(FoldKind::Or)),
+    (b"$logic_not", WordKind::Fold(FoldKind::LogicNot)),
+    (b"$logic_and", WordKind::Logic(LogicKind::And)),
+];
+
+#[rattlefmt::skip]
+const WORDS_OF_11: [(&[u8], WordKind); 2] = [
+    (b"$reduce_and", WordKind::Fold(FoldKind::And)),
+    (b"$reduce_xor", WordKind::Fold(FoldKind::Xor)),
+];
+
+#[rattlefmt::skip]
+const WORDS_OF_12: [(&[u8], WordKind); 2] = [
+    (b"$reduce_xnor", WordKind::Fold(FoldKind::Xnor)),
+    (b"$reduce_bool", WordKind::Fold(FoldKind::Bool)),
 ];
 
 /// The word cell of this name.
 pub(crate) fn word_named(name: &[u8]) -> Option<WordKind>
     ensures value { result ≡ word_of name.now }
 {
-    find_named(&WORDS, name)
+    match name.len() {
+        3 => find_named(&WORDS_OF_3, name),
+        4 => find_named(&WORDS_OF_4, name),
+        5 => find_named(&WORDS_OF_5, name),
+        6 => find_named(&WORDS_OF_6, name),
+        7 => find_named(&WORDS_OF_7, name),
+        9 => find_named(&WORDS_OF_9, name),
+        10 => find_named(&WORDS_OF_10, name),
+        11 => find_named(&WORDS_OF_11, name),
+        12 => find_named(&WORDS_OF_12, name),
+        _ => None,
+    }
 }
 
 impl UnaryKind {
@@ -335,6 +390,10 @@ impl WordKind {
             WordKind::Pmux => b"$pmux",
             WordKind::Slice => b"$slice",
             WordKind::Concat => b"$concat",
+            WordKind::Buf => b"$buf",
+            WordKind::Bwmux => b"$bwmux",
+            WordKind::Bmux => b"$bmux",
+            WordKind::Demux => b"$demux",
         }
     }
 }

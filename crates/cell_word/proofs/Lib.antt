@@ -3,6 +3,7 @@ pub mod Residues
 pub mod Signs
 pub mod Operands
 pub mod Distances
+pub mod Numbered
 pub mod Monotone
 pub mod Limits
 pub mod Floor

@@ -1,5 +1,5 @@
 -- Words keep the orders of knowledge, since they are made of functions that do.
-use Rattle.std.proofs.Common.{◌≡◌, refl, sym, ◌∙◌, ap, subst, ℕ, zero, suc, ◌+◌, ◌*◌, ◌-◌, max, Bool, true, false, ◌&&◌, List, [], ◌∷◌, ◌++◌, map, replicate, length, slice_index_or, ℤ, pos, negsuc, ◌+ℤ◌, arith}
+use Rattle.std.proofs.Common.{◌≡◌, refl, sym, ◌∙◌, ap, subst, ℕ, zero, suc, ◌+◌, ◌*◌, ◌/◌, ◌%◌, ◌^◌, ◌-◌, max, Bool, true, false, ◌&&◌, List, [], ◌∷◌, ◌++◌, map, replicate, length, slice_index_or, ℤ, pos, negsuc, ◌+ℤ◌, arith}
 use Rattle.std.specs.Prelude.{if◌then◌else◌, nat_lt, ◌==◌, count_by, unsigned_abs, neg_ℤ}
 use Rattle.std.specs.List.{range_with_len, fold}
 use Rattle.std.proofs.lemmas.List.{length-replicate}
@@ -7,7 +7,7 @@ use Rattle.std.proofs.lemmas.List.FromFn.{length-map-range_with_len}
 use Rattle.rtl_bits.specs.declared.bit.Bit.{Bit}
 use Rattle.rtl_bits.specs.declared.bit.Bit.TheVariants.{S0, S1, X}
 use Rattle.rtl_bits.specs.Knowledge.{AreKnown, all_known, Placewise, Below, FlatBelow, AreBelow, AreFlatBelow, IsMonotone2}
-use Rattle.rtl_bits.specs.Tables.{seen_of, not_of, and_of, or_of, xor_of}
+use Rattle.rtl_bits.specs.Tables.{seen_of, not_of, and_of, or_of, xor_of, mux_of}
 use Rattle.rtl_bits.specs.Numbers.{bits_of, top_of, is_one}
 use Rattle.rtl_bits.proofs.Keeping.{Keeps, below_kept, flat_kept}
 use Rattle.rtl_bits.proofs.Lists.{placewise_refl, placewise_length, all_known_true}
@@ -38,7 +38,9 @@ use Rattle.cell_word.specs.Folds.{all_of, any_of, folded_of, logic_of, agreeing_
 use Rattle.cell_word.specs.Integers.{integer_in, integer_bits}
 use Rattle.cell_word.specs.Arithmetic.{negative_of, result_of, arith_of, quotient_bits_of, quotient_of, division_of, is_ordered, order_of}
 use Rattle.cell_word.specs.Shifts.{distance_of, below_of, read_at, read_of, moved_of, shifted_of}
-use Rattle.cell_word.specs.Choice.{muxed_of, part_of, place_of, selected_of, picked_of}
+use Rattle.cell_word.specs.Parts.{bmuxed_bit, bmuxed_of, demuxed_of, placed_bit, placed_parts}
+use Rattle.cell_word.proofs.Numbered.{halved_of, hits_of, merged_halved, placed_hits}
+use Rattle.cell_word.specs.Choice.{bwmuxed_of, muxed_of, part_of, place_of, selected_of, picked_of}
 
 length_inverse : (bits : List Bit) → length (map not_of bits) ≡ length bits
 length_inverse [] = refl
@@ -301,6 +303,53 @@ module _ (order : Bit → Bit → Type 0) (k : Keeps order) where
   append_kept (a ∷ as') [] b b' h i = absurd h
   append_kept (a ∷ as') (c ∷ cs) b b' h i = (h.0, append_kept as' cs b b' h.1 i)
 
+  bwmuxed_kept : (a a' b b' s s' : List Bit) (width : ℕ) → Placewise order a a' → Placewise order b b' → Placewise order s s' → Placewise order (bwmuxed_of a b s width) (bwmuxed_of a' b' s' width)
+  bwmuxed_kept a a' b b' s s' width h i j =
+      word_kept _ _ (λ at. k.mux _ _ _ _ _ _ (at_kept a a' X X h (k.self X) at) (at_kept b b' X X i (k.self X) at) (at_kept s s' X X j (k.self X) at)) 0 width
+
+  halved_kept : (f g : ℕ → Bit) → ((i : ℕ) → order (f i) (g i)) → (s s' : List Bit) → Placewise order s s' → order (halved_of f s) (halved_of g s')
+  halved_kept f g e [] [] h = k.seen _ _ (e 0)
+  halved_kept f g e [] (b ∷ bs) h = absurd h
+  halved_kept f g e (b ∷ s) [] h = absurd h
+  halved_kept f g e (b ∷ s) (c ∷ s') h =
+      halved_kept (λ p. mux_of (f (p + p)) (f (p + p + 1)) b) (λ p. mux_of (g (p + p)) (g (p + p + 1)) c) (λ p. k.mux _ _ _ _ _ _ (e (p + p)) (e (p + p + 1)) h.0) s s' h.1
+
+  bmuxed_bit_kept : (a a' s s' : List Bit) (width at : ℕ) → Placewise order a a' → Placewise order s s' → order (bmuxed_bit a s width at) (bmuxed_bit a' s' width at)
+  bmuxed_bit_kept a a' s s' width at h j =
+      subst (λ z. order z (bmuxed_bit a' s' width at)) (sym (merged_halved s (λ part. slice_index_or a (part * width + at) X)))
+      (subst (order (halved_of (λ part. slice_index_or a (part * width + at) X) s)) (sym (merged_halved s' (λ part. slice_index_or a' (part * width + at) X)))
+      (halved_kept _ _ (λ part. at_kept a a' X X h (k.self X) (part * width + at)) s s' j))
+
+  bmuxed_kept : (a a' s s' : List Bit) (width : ℕ) → Placewise order a a' → Placewise order s s' → Placewise order (bmuxed_of a s width) (bmuxed_of a' s' width)
+  bmuxed_kept a a' s s' width h j = word_kept _ _ (λ at. bmuxed_bit_kept a a' s s' width at h j) 0 width
+
+  hits_kept : (s s' : List Bit) (n : ℕ) → Placewise order s s' → order (hits_of s n) (hits_of s' n)
+  hits_kept [] [] n h = k.self S1
+  hits_kept [] (b ∷ bs) n h = absurd h
+  hits_kept (b ∷ s) [] n h = absurd h
+  hits_kept (b ∷ s) (c ∷ s') n h =
+      k.and _ _ _ _ (choose_either (n % 2 == 1) _ _ _ _ (k.seen _ _ h.0) (k.not _ _ h.0)) (hits_kept s s' (n / 2) h.1)
+
+  placed_kept : (s s' : List Bit) (n : ℕ) (b b' : Bit) → Placewise order s s' → order b b' → order (placed_bit s n b) (placed_bit s' n b')
+  placed_kept s s' n b b' j h =
+      subst (λ z. order z (placed_bit s' n b')) (sym (placed_hits s n b))
+      (subst (order (and_of (hits_of s n) b)) (sym (placed_hits s' n b')) (k.and _ _ _ _ (hits_kept s s' n j) h))
+
+  part_placed : (a a' s s' : List Bit) (n : ℕ) → Placewise order a a' → Placewise order s s' → Placewise order (map (placed_bit s n) a) (map (placed_bit s' n) a')
+  part_placed [] [] s s' n h j = tt
+  part_placed [] (b ∷ bs) s s' n h j = absurd h
+  part_placed (b ∷ a) [] s s' n h j = absurd h
+  part_placed (b ∷ a) (c ∷ a') s s' n h j = (placed_kept s s' n b c j h.0, part_placed a a' s s' n h.1 j)
+
+  parts_placed : (a a' s s' : List Bit) (n : ℕ) → Placewise order a a' → Placewise order s s' → Placewise order (placed_parts a s n) (placed_parts a' s' n)
+  parts_placed a a' s s' zero h j = tt
+  parts_placed a a' s s' (suc n) h j =
+      append_kept (placed_parts a s n) (placed_parts a' s' n) _ _ (parts_placed a a' s s' n h j) (part_placed a a' s s' n h j)
+
+  demuxed_kept : (a a' s s' : List Bit) → Placewise order a a' → Placewise order s s' → Placewise order (demuxed_of a s) (demuxed_of a' s')
+  demuxed_kept a a' s s' h j =
+      subst (λ n. Placewise order (demuxed_of a s) (placed_parts a' s' (2 ^ n))) (placewise_length order s s' j) (parts_placed a a' s s' (2 ^ length s) h j)
+
   pub value_kept : (kind : WordKind) (shape : Shape) (a a' b b' s s' : List Bit) → Placewise order a a' → Placewise order b b' → Placewise order s s' → Placewise order (value_of kind shape a b s) (value_of kind shape a' b' s')
   value_kept (Word.Unary Not) shape a a' b b' s s' h i j = inverse_kept shape.signs.a a a' shape.widths.y h
   value_kept (Word.Unary Pos) shape a a' b b' s s' h i j = itself_kept shape.signs.a a a' shape.widths.y h
@@ -317,6 +366,10 @@ module _ (order : Bit → Bit → Type 0) (k : Keeps order) where
   value_kept Word.Pmux shape a a' b b' s s' h i j = picked_kept a a' b b' s s' shape.widths.y h i j
   value_kept Word.Slice shape a a' b b' s s' h i j = part_kept a a' shape.offset shape.widths.y h
   value_kept Word.Concat shape a a' b b' s s' h i j = seen_kept _ _ (append_kept a a' b b' h i)
+  value_kept Word.Buf shape a a' b b' s s' h i j = itself_kept false a a' shape.widths.y h
+  value_kept Word.Bwmux shape a a' b b' s s' h i j = bwmuxed_kept a a' b b' s s' shape.widths.y h i j
+  value_kept Word.Bmux shape a a' b b' s s' h i j = bmuxed_kept a a' s s' shape.widths.y h j
+  value_kept Word.Demux shape a a' b b' s s' h i j = demuxed_kept a a' s s' h j
 
   value_by_kept : (kind : CellKind) (shape : Shape) (low high : List (List Bit)) → InputsBelow order low high → Placewise order (value_by kind shape low) (value_by kind shape high)
   value_by_kept (Cell.Word kind) shape low high h = value_kept kind shape _ _ _ _ _ _ (h 0) (h 1) (h 2)

@@ -12,6 +12,11 @@ use Rattle.cell_word.specs.Words.{word_of, unknown_of}
 abbrev pub muxed_of : List Bit → List Bit → Bit → ℕ → List Bit
 muxed_of a b s width = word_of (λ at. mux_of (slice_index_or a at X) (slice_index_or b at X) s) width
 
+-- `$bwmux`: bit by bit, A where S is 0, B where it is 1, else what the two have in common
+abbrev pub bwmuxed_of : List Bit → List Bit → List Bit → ℕ → List Bit
+bwmuxed_of a b s width =
+    word_of (λ at. mux_of (slice_index_or a at X) (slice_index_or b at X) (slice_index_or s at X)) width
+
 -- the part of a word from a place on, as wide as a width says
 abbrev pub part_of : List Bit → ℕ → ℕ → List Bit
 part_of a offset width = word_of (λ at. seen_of (slice_index_or a (offset + at) X)) width

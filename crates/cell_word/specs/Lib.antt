@@ -2,6 +2,7 @@ pub mod Words
 pub mod Bitwise
 pub mod Folds
 pub mod Choice
+pub mod Parts
 pub mod Integers
 pub mod Sizes
 pub mod Arithmetic

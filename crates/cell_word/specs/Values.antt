@@ -1,5 +1,5 @@
 -- The values of combinational cells on words.
-use Rattle.std.specs.Prelude.{ℕ, ◌≤◌, ◌&&◌, Bool, List, [], length, slice_index_or}
+use Rattle.std.specs.Prelude.{ℕ, ◌≤◌, ◌&&◌, Bool, false, List, [], length, slice_index_or}
 use Rattle.rtl_bits.specs.declared.bit.Bit.{Bit}
 use Rattle.rtl_bits.specs.declared.bit.Bit.TheVariants.{X}
 use Rattle.rtl_bits.specs.Knowledge.{Placewise}
@@ -9,13 +9,14 @@ use Rattle.cell_types.specs.declared.shape.Shape.{Shape}
 use Rattle.cell_types.specs.declared.word.UnaryKind.{UnaryKind}
 use Rattle.cell_types.specs.declared.word.UnaryKind.TheVariants.{Not, Pos, Neg}
 use Rattle.cell_types.specs.declared.word.WordKind.{WordKind}
-use Rattle.cell_types.specs.declared.word.WordKind.TheVariants.{Unary, Fold, Bitwise, Logic, Equal, Order, Arith, Division, Shift, Mux, Pmux, Slice, Concat}
+use Rattle.cell_types.specs.declared.word.WordKind.TheVariants.{Unary, Fold, Bitwise, Logic, Equal, Order, Arith, Division, Shift, Mux, Pmux, Slice, Concat, Buf, Bwmux, Bmux, Demux}
 use Rattle.cell_word.specs.Words.{one_bit_of}
 use Rattle.cell_word.specs.Bitwise.{inverse_of, itself_of, bitwise_of}
 use Rattle.cell_word.specs.Folds.{folded_of, logic_of, equality_of}
 use Rattle.cell_word.specs.Arithmetic.{negative_of, arith_of, division_of, order_of}
 use Rattle.cell_word.specs.Shifts.{shifted_of}
-use Rattle.cell_word.specs.Choice.{muxed_of, picked_of, part_of, joined_of}
+use Rattle.cell_word.specs.Choice.{muxed_of, bwmuxed_of, picked_of, part_of, joined_of}
+use Rattle.cell_word.specs.Parts.{bmuxed_of, demuxed_of}
 
 -- whether both operands of a shape are signed
 abbrev pub both_signed : Shape → Bool
@@ -42,6 +43,10 @@ value_of Mux shape a b s = muxed_of a b (slice_index_or s 0 X) shape.widths.y
 value_of Pmux shape a b s = picked_of a b s shape.widths.y
 value_of Slice shape a b s = part_of a shape.offset shape.widths.y
 value_of Concat shape a b s = joined_of a b
+value_of Buf shape a b s = itself_of false a shape.widths.y
+value_of Bwmux shape a b s = bwmuxed_of a b s shape.widths.y
+value_of Bmux shape a b s = bmuxed_of a s shape.widths.y
+value_of Demux shape a b s = demuxed_of a s
 
 -- the word at an input, by its place among the pins A, B and S
 abbrev pub input_of : List (List Bit) → ℕ → List Bit
@@ -57,13 +62,17 @@ value_by kind shape inputs = []
 abbrev pub word_value_of : Shape → List (List Bit) → List Bit
 word_value_of shape inputs = value_by shape.kind shape inputs
 
--- how many inputs a kind has
+-- how many inputs a kind has, counted up to its last one
 abbrev pub input_count : WordKind → ℕ
 input_count (Unary _) = 1
 input_count (Fold _) = 1
 input_count Slice = 1
 input_count Mux = 3
 input_count Pmux = 3
+input_count Buf = 1
+input_count Bwmux = 3
+input_count Bmux = 3
+input_count Demux = 3
 input_count _ = 2
 
 -- a kind has the pins A and B alone
@@ -73,7 +82,20 @@ IsBinary (Fold _) = ⊥
 IsBinary Slice = ⊥
 IsBinary Mux = ⊥
 IsBinary Pmux = ⊥
+IsBinary Buf = ⊥
+IsBinary Bwmux = ⊥
+IsBinary Bmux = ⊥
+IsBinary Demux = ⊥
 IsBinary _ = Unit {0}
+
+-- a kind has the pin S
+abbrev pub IsChoice : WordKind → Type 0
+IsChoice Mux = Unit {0}
+IsChoice Pmux = Unit {0}
+IsChoice Bwmux = Unit {0}
+IsChoice Bmux = Unit {0}
+IsChoice Demux = Unit {0}
+IsChoice _ = ⊥
 
 -- the widths within which a kind is computed
 abbrev pub IsWithin : WordKind → List Bit → List Bit → List Bit → ℕ → Type 0
@@ -83,6 +105,8 @@ IsWithin (Arith kind) a b s y = (length a ≤ 128) × (length b ≤ 128) × (y �
 IsWithin (Division kind) a b s y = (length a ≤ 128) × (length b ≤ 128) × (y ≤ 128)
 IsWithin (Shift kind) a b s y = length a ≤ 4096
 IsWithin Pmux a b s y = length s ≤ 4096
+IsWithin Bmux a b s y = length s ≤ 12
+IsWithin Demux a b s y = length s ≤ 12
 IsWithin kind a b s y = Unit {0}
 
 -- the inputs of a word cell are there, and within the limits of its kind

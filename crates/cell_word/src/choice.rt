@@ -3,7 +3,7 @@
 ghost use Rattle.std.specs.Prelude.{◌≡◌, ◌<◌, ◌≤◌, ◌^◌, IfOk, IfSome, OnOk, length, ◌++◌, map, position};
 ghost use Rattle.rtl_bits.specs.Tables.{seen_of};
 ghost use Rattle.rtl_bits.specs.Numbers.{is_one};
-ghost use Rattle.cell_word.specs.Choice.{joined_of, muxed_of, part_of, picked_of, place_of, selected_of};
+ghost use Rattle.cell_word.specs.Choice.{bwmuxed_of, joined_of, muxed_of, part_of, picked_of, place_of, selected_of};
 
 use crate::words::{are_known, at_or, unknown};
 use rtl_bits::{Bit, Bits, Memory, bit_mux};
@@ -18,6 +18,29 @@ pub(crate) fn muxed(alloc: Global, a: &[Bit], b: &[Bit], s: Bit, width: u32) -> 
     for at in 0..width {
         let at = at as usize;
         bits.push(bit_mux(at_or(a, at, Bit::X), at_or(b, at, Bit::X), s))?;
+    }
+    Ok(bits)
+}
+
+/// Bit by bit, A where S is 0, B where it is 1, else what the two have in common.
+#[tactic(auto, using(crate::proofs::Places::word_of_more))]
+pub(crate) fn bwmuxed(
+    alloc: Global,
+    a: &[Bit],
+    b: &[Bit],
+    s: &[Bit],
+    width: u32,
+) -> Result<Bits, Memory>
+    ensures value { IfOk result (λ bits. bits ≡ bwmuxed_of a.now b.now s.now width) }
+{
+    let mut bits = Bits::make(alloc);
+    for at in 0..width {
+        let at = at as usize;
+        bits.push(bit_mux(
+            at_or(a, at, Bit::X),
+            at_or(b, at, Bit::X),
+            at_or(s, at, Bit::X),
+        ))?;
     }
     Ok(bits)
 }

@@ -7,6 +7,7 @@ mod choice;
 mod folds;
 mod integer;
 pub mod laws;
+mod parts;
 mod shift;
 mod value;
 mod words;

@@ -1,12 +1,13 @@
 //! The value of a combinational cell on words.
 
 ghost use Rattle.std.specs.Prelude.{◌≡◌, ◌≤◌, [], IfOk, length};
-ghost use Rattle.cell_word.specs.Values.{HasInputs, IsBinary, IsWithin, input_count, input_of, unary_of, value_of, word_value_of};
+ghost use Rattle.cell_word.specs.Values.{HasInputs, IsBinary, IsChoice, IsWithin, input_count, input_of, unary_of, value_of, word_value_of};
 
 use crate::arithmetic::{arith, division, negative, order};
 use crate::bitwise::{bitwise, inverse, itself};
-use crate::choice::{joined, muxed, part, picked};
+use crate::choice::{bwmuxed, joined, muxed, part, picked};
 use crate::folds::{equality, folded, logic};
+use crate::parts::{bmuxed, demuxed};
 use crate::shift::shifted;
 use crate::words::{at_or, one_bit};
 use cell_types::{CellKind, Shape, UnaryKind, WordKind};
@@ -14,11 +15,12 @@ use rtl_bits::{Bit, Bits, Memory};
 use std::alloc::Global;
 
 /// The value of a combinational cell on words, of the words at its pins A, B and S, in this order,
-/// as far as it has them. In the Yosys manual, "Word-level cells", the sections "Unary operators",
+/// as far as it has them; where it has S and no B, an empty word stands for B. In the Yosys manual, "Word-level cells", the sections "Unary operators",
 /// "Binary operators" and "Multiplexers".
 ///
 /// Each unknown bit counts as x. Negation, sums, products, quotients and orders take words of at
-/// most 128 bits; a shift takes an A, and `$pmux` an S, of at most 4,096.
+/// most 128 bits; a shift takes an A, and `$pmux` an S, of at most 4,096; `$bmux` and `$demux` take an S of
+/// at most 12.
 pub fn word_value(alloc: Global, shape: &Shape, inputs: &[Bits]) -> Result<Bits, Memory>
     requires inputs { HasInputs shape.now.kind shape.now inputs.now }
     ensures value { IfOk result (λ bits. bits ≡ word_value_of shape.now inputs.now) }
@@ -42,20 +44,34 @@ fn value(alloc: Global, kind: WordKind, shape: &Shape, inputs: &[Bits]) -> Resul
         WordKind::Unary(kind) => unary(alloc, kind, shape.signs.a, a, y),
         WordKind::Fold(kind) => one_bit(alloc, folded(kind, a.as_slice()), y),
         WordKind::Slice => part(alloc, a.as_slice(), shape.offset as usize, y),
-        WordKind::Mux => {
-            let s = at_or(inputs[2].as_slice(), 0, Bit::X);
-            muxed(alloc, a.as_slice(), inputs[1].as_slice(), s, y)
-        }
-        WordKind::Pmux => {
-            picked(
-                alloc,
-                a.as_slice(),
-                inputs[1].as_slice(),
-                inputs[2].as_slice(),
-                y,
-            )
+        WordKind::Buf => itself(alloc, false, a.as_slice(), y),
+        WordKind::Mux | WordKind::Pmux | WordKind::Bwmux | WordKind::Bmux | WordKind::Demux => {
+            chosen(alloc, kind, shape, inputs)
         }
         _ => binary(alloc, kind, shape, a, &inputs[1]),
+    }
+}
+
+/// A cell with the pin S.
+fn chosen(alloc: Global, kind: WordKind, shape: &Shape, inputs: &[Bits]) -> Result<Bits, Memory>
+    requires choice { IsChoice kind }
+    requires count { 3 ≤ length inputs.now }
+    requires within { IsWithin kind (input_of inputs.now 0) (input_of inputs.now 1) (input_of inputs.now 2)
+        shape.now.widths.y }
+    ensures value { IfOk result
+        (λ bits. bits ≡ value_of kind shape.now (input_of inputs.now 0) (input_of inputs.now 1) (input_of inputs.now 2)) }
+{
+    let a = inputs[0].as_slice();
+    let b = inputs[1].as_slice();
+    let s = inputs[2].as_slice();
+    let y = shape.widths.y;
+    match kind {
+        WordKind::Mux => muxed(alloc, a, b, at_or(s, 0, Bit::X), y),
+        WordKind::Pmux => picked(alloc, a, b, s, y),
+        WordKind::Bwmux => bwmuxed(alloc, a, b, s, y),
+        WordKind::Bmux => bmuxed(alloc, a, s, y),
+        WordKind::Demux => demuxed(alloc, a, s),
+        _ => unreachable!(),
     }
 }
 

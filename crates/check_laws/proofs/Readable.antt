@@ -27,7 +27,7 @@ use Rattle.net_model.specs.Lists.{In, Apart, Distinct}
 use Rattle.net_model.specs.Within.{Each}
 use Rattle.net_model.proofs.Members.{In-cases}
 use Rattle.net_model.proofs.Ranges.{each_none, each_both, each_flat_map}
-use Rattle.rtl_write.specs.Readable.{IsBitOf, IsLink, IsPin, IsCell, IsRule, IsProcess, AreSwitches, AreCases, IsReadableModule, IsReadable, item_names}
+use Rattle.rtl_readable.specs.Readable.{IsBitOf, IsLink, IsPin, IsCell, IsRule, IsProcess, AreSwitches, AreCases, IsReadableModule, IsReadable, item_names}
 use Rattle.check_laws.specs.Sound.{HasBit, IsSoundModule, IsSound}
 use Rattle.check_laws.proofs.Parts.{apart_parts, part_filter}
 

@@ -5,7 +5,7 @@ ghost use Rattle.rtl_ir.specs.declared.module.Design.{Design};
 ghost use Rattle.rtl_ir.specs.Faults.{check_faults, faults_within};
 ghost use Rattle.rtl_ir.specs.Scope.{Scope};
 ghost use Rattle.rtl_read.specs.Reads.{Reads};
-ghost use Rattle.rtl_write.specs.Readable.{IsReadable};
+ghost use Rattle.rtl_readable.specs.Readable.{IsReadable};
 ghost use Rattle.net_model.specs.Refine.{AreWellDriven, HasOneDriver};
 ghost use Rattle.check_laws.specs.Sound.{IsSound};
 

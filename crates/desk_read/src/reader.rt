@@ -14,7 +14,7 @@ use std::marker::Model;
 #[derive(Drop)]
 struct Block {
     opening: Opening,
-    text: Vec<u8>,
+    text: Text,
 }
 
 /// Reads commands, one line after another. Contracts see the block that is open, or none.
@@ -31,7 +31,7 @@ impl Model for CommandReader {
 
     ghost Value = { Option OpenBlock };
 
-    ghost view = { λ r. option_map (λ block. record { opening = block.opening; text = block.text.items }) r.block };
+    ghost view = { λ r. option_map (λ block. record { opening = block.opening; text = block.text }) r.block };
 }
 
 impl CommandReader {
@@ -72,7 +72,7 @@ impl CommandReader {
             Head::Blank => Ok(None),
             Head::Whole(command) => Ok(Some(command)),
             Head::Opens(opening) => {
-                let text = Vec::new(self.alloc);
+                let text = Text::make(self.alloc);
                 self.block = Some(Block { opening, text });
                 Ok(None)
             }
@@ -99,10 +99,10 @@ fn is_end(line: &[u8]) -> bool
 
 /// The command of a block that is ended.
 fn closed(block: Block) -> Command
-    ensures value { result ≡ block_command block.opening block.text.items }
+    ensures value { result ≡ block_command block.opening block.text }
 {
-    let text = Text::from_vec(block.text);
-    match block.opening {
+    let Block { opening, text } = block;
+    match opening {
         Opening::Load => Command::Load(text),
         Opening::Edit => Command::Edit(text),
         Opening::SimSource(module) => Command::SimSource(SimAsk {
@@ -117,12 +117,11 @@ fn closed(block: Block) -> Command
 }
 
 /// Puts the line last, ended by LF. After an error the text is as before.
-fn put_line(text: &mut Vec<u8>, line: &[u8]) -> Result<(), Memory>
-    ensures ok { OnOk result (text.new.items ≡ text.old.items ++ line.now ++ 10 ∷ []) }
-    ensures err { OnErr result (text.new.items ≡ text.old.items) }
+fn put_line(text: &mut Text, line: &[u8]) -> Result<(), Memory>
+    ensures ok { OnOk result (text.new ≡ text.old ++ line.now ++ 10 ∷ []) }
+    ensures err { OnErr result (text.new ≡ text.old) }
 {
-    text.reserve(line.len() + 1)?;
-    text.extend_from_slice(line).unwrap();
-    text.push_reserved(b'\n');
-    Ok(())
+    let mut ended = Text::from_slice(text.allocator(), line)?;
+    ended.push(b'\n')?;
+    text.extend(ended.as_slice())
 }

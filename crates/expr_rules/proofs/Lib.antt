@@ -18,4 +18,6 @@ pub mod FoldLaws
 pub mod Meant
 pub mod Distances
 pub mod ShiftLaws
+pub mod PartNumbers
+pub mod PartLaws
 pub mod RuleLaws

@@ -1,13 +1,14 @@
 -- The rules for multiplexers say no less.
-use Rattle.std.proofs.Common.{◌≡◌, ℕ, zero, suc, ◌<◌, true, false, List, [], ◌∷◌, map, Some, refl, sym, ◌∙◌, ap, subst}
-use Rattle.std.specs.Prelude.{slice_index_or, ◌&&◌}
-use Rattle.std.specs.List.{list_all}
+use Rattle.std.proofs.Common.{◌≡◌, ℕ, zero, suc, ◌<◌, true, false, List, [], ◌∷◌, map, Some, refl, sym, ◌∙◌, ap, subst, arith}
+use Rattle.std.specs.Prelude.{slice_index_or, ◌&&◌, if◌then◌else◌}
+use Rattle.std.specs.List.{list_all, range_with_len}
 use Rattle.std.proofs.lemmas.Bool.{and_parts}
+use Rattle.std.proofs.lemmas.List.FromFn.{get_or-map-range_with_len}
 use Rattle.rtl_bits.proofs.Orders.{Below_trans}
 use Rattle.rtl_bits.specs.Knowledge.{Below, is_known}
 use Rattle.rtl_bits.specs.Tables.{mux_of, not_of}
 use Rattle.rtl_bits.specs.declared.bit.Bit.{Bit}
-use Rattle.rtl_bits.specs.declared.bit.Bit.TheVariants.{S0, S1, X}
+use Rattle.rtl_bits.specs.declared.bit.Bit.TheVariants.{S0, S1, X, Z, M, Dash}
 use Rattle.rtl_sig.specs.declared.sig.SigBit.{SigBit}
 use Rattle.rtl_sig.specs.declared.sig.SigBit.TheVariants.{Fixed, Wire as OnWire}
 use Rattle.cell_types.specs.declared.kind.CellKind.{CellKind}
@@ -15,8 +16,8 @@ use Rattle.cell_types.specs.declared.shape.Shape.{Shape}
 use Rattle.cell_types.specs.declared.word.WordKind.TheVariants as Word
 use Rattle.expr_rules.specs.Change.{chooser, inverter, when}
 use Rattle.expr_rules.specs.Laws.{IsReading, KnowsInverters, read_at}
-use Rattle.expr_rules.specs.Rules.Mux.{arm_of, equal_arms, inverted_select, known_select, select_inverse, select_itself, unknown_arm}
-use Rattle.expr_rules.specs.Signals.{first_bit, is_bit, is_unknown_constant, same_word}
+use Rattle.expr_rules.specs.Rules.Mux.{arm_bit, arm_of, equal_arms, equal_words, known_selects, inverted_select, known_select, select_inverse, select_itself, unknown_arm}
+use Rattle.expr_rules.specs.Signals.{first_bit, is_bit, is_known_constant, is_one, is_unknown_constant, same_word}
 use Rattle.expr_rules.specs.declared.change.Change.{Change}
 use Rattle.expr_rules.specs.declared.change.Change.TheVariants.{Gives}
 use Rattle.expr_rules.specs.declared.operands.Operands.{Operands}
@@ -24,7 +25,8 @@ use Rattle.expr_rules.proofs.Cases.{first_case, map_case, some_case, when_case}
 use Rattle.expr_rules.proofs.Reading.{read_below, read_word, word_at}
 use Rattle.expr_rules.proofs.Sameness.{same_word_is}
 use Rattle.expr_rules.proofs.Says.{IsNarrow, RuleSays, WordSays, becomes_chooser, becomes_inverter, bit_of}
-use Rattle.expr_rules.proofs.Tables.{mux_inverse, mux_itself, mux_left, mux_none, mux_right, mux_same, mux_turned, seen_below}
+use Rattle.rtl_ir.specs.Signals.{is_constant}
+use Rattle.expr_rules.proofs.Tables.{merge_left, mux_inverse, mux_itself, mux_left, mux_none, mux_right, mux_same, mux_turned, seen_below}
 
 module _ (f : SigBit → Bit) (fixed : IsReading f) (shape : Shape) (o : Operands) where
   -- a bit of the output
@@ -94,6 +96,53 @@ module _ (f : SigBit → Bit) (fixed : IsReading f) (shape : Shape) (o : Operand
       let p = and_parts (is_bit S0 o.a) (is_bit S1 o.b) t in
       gives o.s (λ at h. bit_arms S0 S1 (same_word_is o.a (Fixed S0 ∷ []) p.0) (same_word_is o.b (Fixed S1 ∷ []) p.1) (read_at f o.s) (mux_itself (read_at f o.s 0)) at))
   select_itself_says kind m change e = absurd (cc)
+
+  -- a bit of the output where each bit has its own S
+  bwmux_bit : (at : ℕ) → at < shape.widths.y → bit_of f shape o Word.Bwmux at ≡ mux_of (read_at f o.a at) (read_at f o.b at) (read_at f o.s at)
+  bwmux_bit at h =
+      word_at (λ at. mux_of (slice_index_or (map f o.a) at X) (slice_index_or (map f o.b) at X) (slice_index_or (map f o.s) at X)) shape.widths.y at h
+      ∙ ap (λ z. mux_of z (slice_index_or (map f o.b) at X) (slice_index_or (map f o.s) at X)) (read_word f fixed o.a at)
+      ∙ ap (λ z. mux_of (read_at f o.a at) z (slice_index_or (map f o.s) at X)) (read_word f fixed o.b at)
+      ∙ ap (λ z. mux_of (read_at f o.a at) (read_at f o.b at) z) (read_word f fixed o.s at)
+
+  -- a word that says at each place what a constant chooses there
+  constant_at : (word : List SigBit) (at : ℕ) → list_all is_known_constant word ≡ true → is_constant (slice_index_or word at (Fixed X)) ≡ true
+  constant_at [] at e = refl
+  constant_at (b ∷ word) zero e = constant b (and_parts (is_known_constant b) (list_all is_known_constant word) e).0
+    where
+      constant : (b : SigBit) → is_known_constant b ≡ true → is_constant b ≡ true
+      constant (Fixed c) e = refl
+      constant (OnWire b) e = absurd (cc)
+  constant_at (b ∷ word) (suc at) e = constant_at word at (and_parts (is_known_constant b) (list_all is_known_constant word) e).1
+
+  arm_says : (s a b : SigBit) → is_constant s ≡ true → Below (mux_of (f a) (f b) (f s)) (f (if is_one s then b else a))
+  arm_says (Fixed S0) a b k = subst (λ z. Below (mux_of (f a) (f b) z) (f a)) (sym (fixed S0)) (seen_below (f a))
+  arm_says (Fixed S1) a b k = subst (λ z. Below (mux_of (f a) (f b) z) (f b)) (sym (fixed S1)) (seen_below (f b))
+  arm_says (Fixed X) a b k = subst (λ z. Below (mux_of (f a) (f b) z) (f a)) (sym (fixed X)) (merge_left (f a) (f b))
+  arm_says (Fixed Z) a b k = subst (λ z. Below (mux_of (f a) (f b) z) (f a)) (sym (fixed Z)) (merge_left (f a) (f b))
+  arm_says (Fixed M) a b k = subst (λ z. Below (mux_of (f a) (f b) z) (f a)) (sym (fixed M)) (merge_left (f a) (f b))
+  arm_says (Fixed Dash) a b k = subst (λ z. Below (mux_of (f a) (f b) z) (f a)) (sym (fixed Dash)) (merge_left (f a) (f b))
+  arm_says (OnWire s) a b k = absurd (cc)
+
+  pub known_selects_says : RuleSays f shape o (λ kind. known_selects kind shape o)
+  known_selects_says Word.Bwmux m change e =
+      when_case (WordSays f shape o Word.Bwmux) change (list_all is_known_constant o.s) (Gives (map (arm_bit o) (range_with_len 0 shape.widths.y))) e (λ t at h.
+      let p : slice_index_or (map (arm_bit o) (range_with_len 0 shape.widths.y)) at (Fixed S0) ≡ arm_bit o at =
+      get_or-map-range_with_len (arm_bit o) 0 shape.widths.y at at (Fixed S0) h (omega arith) in
+      subst (λ z. Below z (f (slice_index_or (map (arm_bit o) (range_with_len 0 shape.widths.y)) at (Fixed S0)))) (sym (bwmux_bit at h))
+      (subst (λ s. Below (mux_of (read_at f o.a at) (read_at f o.b at) (read_at f o.s at)) (f s)) (sym p)
+      (arm_says (slice_index_or o.s at (Fixed X)) (slice_index_or o.a at (Fixed X)) (slice_index_or o.b at (Fixed X)) (constant_at o.s at t))))
+  known_selects_says kind m change e = absurd (cc)
+
+  pub equal_words_says : RuleSays f shape o (λ kind. equal_words kind o)
+  equal_words_says Word.Bwmux m change e =
+      when_case (WordSays f shape o Word.Bwmux) change (same_word o.a o.b) (Gives o.a) e (λ t at h.
+      let same : o.a ≡ o.b = same_word_is o.a o.b t in
+      subst (λ z. Below z (f (slice_index_or o.a at (Fixed S0)))) (sym (bwmux_bit at h))
+      (Below_trans _ _ _
+      (subst (λ z. Below (mux_of (read_at f o.a at) (read_at f z at) (read_at f o.s at)) (read_at f o.a at)) same (mux_same (read_at f o.a at) (read_at f o.s at)))
+      (read_below f fixed o.a at (Fixed S0))))
+  equal_words_says kind m change e = absurd (cc)
 
   module _ (own : CellKind) (narrow : IsNarrow own shape.widths.y) where
     pub select_inverse_says : RuleSays f shape o (λ kind. select_inverse kind own o)

@@ -33,7 +33,8 @@ use Rattle.expr_rules.specs.Rules.Arith.{add_zero, divide_by_power, equal_differ
 use Rattle.expr_rules.specs.Rules.Compare.{compare}
 use Rattle.expr_rules.specs.Rules.Fold.{one_bit}
 use Rattle.expr_rules.specs.Rules.Logic.{and_with_ones, double_not, equal_operands, equal_parity, or_with_zeros, xor_with_ones}
-use Rattle.expr_rules.specs.Rules.Mux.{equal_arms, inverted_select, known_select, select_inverse, select_itself, unknown_arm}
+use Rattle.expr_rules.specs.Rules.Mux.{equal_arms, equal_words, inverted_select, known_select, known_selects, select_inverse, select_itself, unknown_arm}
+use Rattle.expr_rules.specs.Rules.Parts.{known_part, known_place}
 use Rattle.expr_rules.specs.Rules.Shift.{known_shift}
 use Rattle.expr_rules.specs.Rules.Wiring.{buffer, wiring}
 use Rattle.expr_rules.specs.declared.change.Change.{Change}
@@ -48,7 +49,8 @@ use Rattle.expr_rules.proofs.ConstantLaws.{constant_inputs_says, known_value_say
 use Rattle.expr_rules.proofs.DivisionLaws.{divide_by_power_says}
 use Rattle.expr_rules.proofs.FoldLaws.{one_bit_says}
 use Rattle.expr_rules.proofs.LogicLaws.{and_with_ones_says, double_not_says, equal_operands_says, equal_parity_says, or_with_zeros_says, xor_with_ones_says}
-use Rattle.expr_rules.proofs.MuxLaws.{equal_arms_says, inverted_select_says, known_select_says, select_inverse_says, select_itself_says, unknown_arm_says}
+use Rattle.expr_rules.proofs.MuxLaws.{equal_arms_says, equal_words_says, known_selects_says, inverted_select_says, known_select_says, select_inverse_says, select_itself_says, unknown_arm_says}
+use Rattle.expr_rules.proofs.PartLaws.{known_part_says, known_place_says}
 use Rattle.expr_rules.proofs.Reading.{extended_below, extended_bit, read_word, word_at}
 use Rattle.expr_rules.proofs.Says.{IsMeantAs, IsNarrow, RuleSays, WordSays, bit_of}
 use Rattle.expr_rules.proofs.ShiftLaws.{known_shift_says}
@@ -161,6 +163,10 @@ module _ (f : SigBit → Bit) (fixed : IsReading f) (shape : Shape) (o : Operand
     word_rule_says By.KnownShift kind c change e = by_kind (λ kind. known_shift kind shape o) (known_shift_says f fixed shape o) kind c change e
     word_rule_says By.Compare kind c change e = by_kind (λ kind. compare kind shape.kind shape o) (compare_says f fixed shape o shape.kind narrow) kind c change e
     word_rule_says By.OneBit kind c change e = by_kind (λ kind. one_bit kind shape.kind shape o) (one_bit_says f fixed shape o shape.kind narrow) kind c change e
+    word_rule_says By.KnownSelects kind c change e = by_kind (λ kind. known_selects kind shape o) (known_selects_says f fixed shape o) kind c change e
+    word_rule_says By.EqualWords kind c change e = by_kind (λ kind. equal_words kind o) (equal_words_says f fixed shape o) kind c change e
+    word_rule_says By.KnownPart kind c change e = by_kind (λ kind. known_part kind shape o) (known_part_says f fixed shape o) kind c change e
+    word_rule_says By.KnownPlace kind c change e = by_kind (λ kind. known_place kind o) (known_place_says f fixed shape o) kind c change e
 
     gate_rule_says : (rule : Rule) (change : Change) → result_of_gate rule shape o ≡ Some change → SaysAll f shape o change
     gate_rule_says By.ConstantInputs change e = constant_inputs_says f fixed shape o narrow change e

@@ -38,7 +38,7 @@ module _ (f : SigBit → Bit) (fixed : IsReading f) where
   known_is (Fixed c) e = sym (fixed c)
   known_is (OnWire b) e = absurd (cc)
 
-  known_are : (word : List SigBit) → list_all is_known_constant word ≡ true → constants_of word ≡ map f word
+  pub known_are : (word : List SigBit) → list_all is_known_constant word ≡ true → constants_of word ≡ map f word
   known_are [] e = refl
   known_are (b ∷ word) e =
       let p = and_parts (is_known_constant b) (list_all is_known_constant word) e in

@@ -156,3 +156,11 @@ pub mux_turned : (a b s i : Bit) → Below s (not_of i) → Below (mux_of a b s)
 mux_turned a b S0 i h = subst (λ z. Below (seen_of a) (mux_of b a z)) (sym (turned_zero i h)) (Below_refl (seen_of a))
 mux_turned a b S1 i h = subst (λ z. Below (seen_of b) (mux_of b a z)) (sym (turned_one i h)) (Below_refl (seen_of b))
 mux_turned a b s i h = merge_turned a b i
+
+-- what two bits have in common is no more than the first
+pub merge_left : (a b : Bit) → Below (merge_of a b) a
+merge_left S0 S0 = refl
+merge_left S0 b = tt
+merge_left S1 S1 = refl
+merge_left S1 b = tt
+merge_left a b = tt

@@ -1,6 +1,7 @@
 -- The rules for cells that only pass bits on say no less.
-use Rattle.std.proofs.Common.{◌≡◌, ℕ, zero, suc, ◌+◌, List, [], ◌∷◌, ◌++◌, map, refl, sym, ◌∙◌, ap, subst, arith}
+use Rattle.std.proofs.Common.{◌≡◌, ℕ, false, zero, suc, ◌+◌, List, [], ◌∷◌, ◌++◌, map, refl, sym, ◌∙◌, ap, subst, arith}
 use Rattle.std.specs.Prelude.{slice_index_or}
+use Rattle.std.proofs.Math.ListN.{get_or-map}
 use Rattle.std.proofs.lemmas.List.FromFn.{get_or-map-range_with_len}
 use Rattle.rtl_bits.proofs.Orders.{Below_trans}
 use Rattle.rtl_bits.specs.Knowledge.{Below}
@@ -11,7 +12,7 @@ use Rattle.rtl_sig.specs.declared.sig.SigBit.{SigBit}
 use Rattle.rtl_sig.specs.declared.sig.SigBit.TheVariants.{Fixed}
 use Rattle.cell_types.specs.declared.shape.Shape.{Shape}
 use Rattle.cell_types.specs.declared.word.UnaryKind.TheVariants.{Pos}
-use Rattle.cell_types.specs.declared.word.WordKind.TheVariants.{Unary, Slice, Concat}
+use Rattle.cell_types.specs.declared.word.WordKind.TheVariants.{Unary, Slice, Concat, Buf}
 use Rattle.cell_word.specs.Words.{extended_at}
 use Rattle.expr_rules.specs.Laws.{IsReading, read_at}
 use Rattle.expr_rules.specs.Rules.Wiring.{buffer, wiring}
@@ -31,6 +32,12 @@ module _ (f : SigBit → Bit) (fixed : IsReading f) (shape : Shape) (o : Operand
       ap (λ w. f (slice_index_or w at (Fixed S0))) m.left ∙ extended_read f fixed shape.signs.a o.a shape.widths.y at (Fixed S0) h in
       subst (λ z. Below z (f (slice_index_or o.left at (Fixed S0)))) (sym (word_at (λ at. seen_of (extended_at shape.signs.a (map f o.a) at)) shape.widths.y at h))
       (subst (Below (seen_of (extended_at shape.signs.a (map f o.a) at))) (sym b) (seen_below (extended_at shape.signs.a (map f o.a) at))))
+  buffer_says Buf m change e =
+      some_case (WordSays f shape o Buf) change (Gives o.a) e (λ at h.
+      let b : extended_at false (map f o.a) at ≡ f (slice_index_or o.a at (Fixed S0)) =
+      ap (slice_index_or (map f o.a) at) (sym (fixed S0)) ∙ get_or-map f o.a at (Fixed S0) in
+      subst (λ z. Below z (f (slice_index_or o.a at (Fixed S0)))) (sym (word_at (λ at. seen_of (extended_at false (map f o.a) at)) shape.widths.y at h))
+      (subst (λ z. Below (seen_of z) (f (slice_index_or o.a at (Fixed S0)))) (sym b) (seen_below (f (slice_index_or o.a at (Fixed S0))))))
   buffer_says kind m change e = absurd (cc)
 
   -- two signals, one on top of the other

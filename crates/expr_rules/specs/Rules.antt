@@ -7,6 +7,7 @@ pub mod Arith
 pub mod Shift
 pub mod Compare
 pub mod Fold
+pub mod Parts
 use Rattle.std.specs.Prelude.{List, [], ◌∷◌, Option, Some, None}
 use Rattle.std.specs.Option.{option_map}
 use Rattle.cell_types.specs.declared.kind.CellKind.{CellKind}
@@ -19,7 +20,8 @@ use Rattle.expr_rules.specs.Rules.Compare.{compare}
 use Rattle.expr_rules.specs.Rules.Constants.{constant_inputs, known_value}
 use Rattle.expr_rules.specs.Rules.Fold.{one_bit}
 use Rattle.expr_rules.specs.Rules.Logic.{and_with_ones, double_not, equal_operands, equal_parity, or_with_zeros, xor_with_ones}
-use Rattle.expr_rules.specs.Rules.Mux.{equal_arms, inverted_select, known_select, select_inverse, select_itself, unknown_arm}
+use Rattle.expr_rules.specs.Rules.Mux.{equal_arms, equal_words, inverted_select, known_select, known_selects, select_inverse, select_itself, unknown_arm}
+use Rattle.expr_rules.specs.Rules.Parts.{known_part, known_place}
 use Rattle.expr_rules.specs.Rules.Shift.{known_shift}
 use Rattle.expr_rules.specs.Rules.Wiring.{buffer, wiring}
 use Rattle.expr_rules.specs.declared.change.Change.{Change}
@@ -53,6 +55,10 @@ result_by By.DivideByPower kind shape o = divide_by_power kind shape o
 result_by By.KnownShift kind shape o = known_shift kind shape o
 result_by By.Compare kind shape o = compare kind shape.kind shape o
 result_by By.OneBit kind shape o = one_bit kind shape.kind shape o
+result_by By.KnownSelects kind shape o = known_selects kind shape o
+result_by By.EqualWords kind shape o = equal_words kind o
+result_by By.KnownPart kind shape o = known_part kind shape o
+result_by By.KnownPlace kind shape o = known_place kind o
 
 -- the same where the cell counts as none: such a gate knows the rules on its value alone
 abbrev pub result_of_gate : Rule → Shape → Operands → Option Change
@@ -96,6 +102,10 @@ rules_in_order =
     ∷ By.KnownShift
     ∷ By.Compare
     ∷ By.OneBit
+    ∷ By.KnownSelects
+    ∷ By.EqualWords
+    ∷ By.KnownPart
+    ∷ By.KnownPlace
     ∷ []
 
 -- the result of the first of these rules that fits

@@ -131,7 +131,7 @@ fn extended(alloc: Global, bits: &[SigBit], width: usize, signed: bool) -> Resul
     let fill = fill_of(bits, signed);
     let mut wide = Vec::from_slice(alloc, bits)?;
     wide.resize(width, fill)?;
-    Ok(SigSpec::from_vec(wide))
+    SigSpec::from_vec(wide)
 }
 
 /// What fills a signal up: its top bit where it is signed, else 0.

@@ -6,6 +6,7 @@ mod constants;
 mod fold;
 mod logic;
 mod mux;
+mod parts;
 mod shift;
 mod wiring;
 
@@ -25,8 +26,10 @@ use crate::rules::logic::{
     and_with_ones, double_not, equal_operands, equal_parity, or_with_zeros, xor_with_ones,
 };
 use crate::rules::mux::{
-    equal_arms, inverted_select, known_select, select_inverse, select_itself, unknown_arm,
+    equal_arms, equal_words, inverted_select, known_select, known_selects, select_inverse,
+    select_itself, unknown_arm,
 };
+use crate::rules::parts::{known_part, known_place};
 use crate::rules::shift::known_shift;
 use crate::rules::wiring::{buffer, wiring};
 use cell_types::{Shape, WordKind};
@@ -40,7 +43,7 @@ pub enum Rule {
     ConstantInputs,
     /// The value is wholly known, whatever the bits of wires have.
     KnownValue,
-    /// `$pos`, `$_BUF_`.
+    /// `$pos`, `$buf`, `$_BUF_`.
     Buffer,
     /// `$slice`, `$concat`.
     Wiring,
@@ -84,10 +87,18 @@ pub enum Rule {
     Compare,
     /// A fold of one bit, a `$pmux` of one part.
     OneBit,
+    /// A `$bwmux`, all bits of whose S are known.
+    KnownSelects,
+    /// A `$bwmux` of equal words.
+    EqualWords,
+    /// A `$bmux` whose S is known.
+    KnownPart,
+    /// A `$demux` whose S is known.
+    KnownPlace,
 }
 
 /// The order of the rules.
-pub const RULES: [Rule; 24] = [
+pub const RULES: [Rule; 28] = [
     Rule::ConstantInputs,
     Rule::KnownValue,
     Rule::Buffer,
@@ -112,6 +123,10 @@ pub const RULES: [Rule; 24] = [
     Rule::KnownShift,
     Rule::Compare,
     Rule::OneBit,
+    Rule::KnownSelects,
+    Rule::EqualWords,
+    Rule::KnownPart,
+    Rule::KnownPlace,
 ];
 
 impl Rule {
@@ -180,6 +195,10 @@ impl Rule {
             Rule::KnownShift => known_shift(alloc, kind, shape, operands),
             Rule::Compare => compare(alloc, kind, shape, operands),
             Rule::OneBit => one_bit(alloc, kind, shape, operands),
+            Rule::KnownSelects => known_selects(alloc, kind, shape, operands),
+            Rule::EqualWords => equal_words(kind, operands),
+            Rule::KnownPart => known_part(alloc, kind, shape, operands),
+            Rule::KnownPlace => known_place(alloc, kind, shape, operands),
         }
     }
 

@@ -1,6 +1,6 @@
 //! Words of constants and of bits of wires, and the tests that the rules make.
 
-ghost use Rattle.std.specs.Prelude.{◌≡◌, ◌++◌, IfOk, map, slice_index_or};
+ghost use Rattle.std.specs.Prelude.{◌≡◌, ◌<◌, ◌^◌, ◌++◌, IfOk, map, slice_index_or};
 ghost use Rattle.rtl_bits.specs.declared.bit.Bit.TheVariants.{X};
 ghost use Rattle.std.specs.List.{list_all};
 ghost use Rattle.rtl_sig.specs.declared.sig.SigBit.TheVariants.{Fixed};
@@ -185,7 +185,7 @@ pub(crate) fn first_bit(word: &[SigBit]) -> SigBit
 }
 
 /// The bit of a word at a place, x past its end.
-fn bit_at(word: &[SigBit], at: usize) -> SigBit
+pub(crate) fn bit_at(word: &[SigBit], at: usize) -> SigBit
     ensures value { result ≡ slice_index_or word.now at (Fixed X) }
 {
     if at < word.len() {
@@ -201,7 +201,7 @@ pub(crate) fn filled(alloc: Global, width: usize, bit: Bit) -> Result<SigSpec, M
 {
     let mut word = Vec::new(alloc);
     word.resize(width, SigBit::Fixed(bit))?;
-    Ok(SigSpec::from_vec(word))
+    SigSpec::from_vec(word)
 }
 
 /// The bits of a word from a place on.
@@ -209,14 +209,15 @@ pub(crate) fn filled(alloc: Global, width: usize, bit: Bit) -> Result<SigSpec, M
 pub(crate) fn part(
     alloc: Global,
     word: &[SigBit],
-    offset: u32,
+    offset: usize,
     width: u32,
 ) -> Result<SigSpec, Memory>
+    requires room { offset < 2 ^ 63 }
     ensures value { IfOk result (λ part. part ≡ part_of word.now offset width) }
 {
     let mut part = SigSpec::make(alloc);
     for at in 0..width {
-        part.push(bit_at(word, offset as usize + at as usize))?;
+        part.push(bit_at(word, offset + at as usize))?;
     }
     Ok(part)
 }
@@ -225,7 +226,7 @@ pub(crate) fn part(
 pub(crate) fn joined(below: &SigSpec, above: &SigSpec) -> Result<SigSpec, Memory>
     ensures value { IfOk result (λ whole. whole ≡ below.now ++ above.now) }
 {
-    let mut bits = below.copy()?.into_vec();
+    let mut bits = below.copy()?.into_vec()?;
     bits.extend_from_slice(above.as_slice())?;
-    Ok(SigSpec::from_vec(bits))
+    SigSpec::from_vec(bits)
 }

@@ -21,8 +21,7 @@ use Rattle.rtl_ir.specs.Rules.{init_lines}
 use Rattle.rtl_ir.specs.SwitchRules.{root_by_rules}
 use Rattle.rtl_ir.specs.Tree.{CaseView}
 use Rattle.process_trees.specs.Leaves.{one_leaf}
-use Rattle.flat_net.specs.declared.lines.Line.{Line}
-use Rattle.flat_net.specs.Lines.{join_of}
+use Rattle.rtl_ir.specs.declared.follow.Join.{Join}
 use Rattle.rtl_ir.specs.Signals.{same_bit, same_place}
 use Rattle.net_index.specs.IndexTable.{at_bit}
 use Rattle.flat_net.specs.declared.starts.Starts.{Starts}
@@ -66,19 +65,18 @@ starts_are starts wires processes h (OnWire b) =
     (λ i. seen_of (unwrap_or (h.given b i) (slice_index_or ((ap (λ said. slice_index_or said b.wire []) h.said ∙ said_is wires b.wire) i) b.at X)))
 
 -- one more place
-pub gains_line : (root : CaseView) (bits : List WireBit) (lines : List Line) (i : ℕ) (d : Line) → i < length lines → (leaf : Bit) → leaf ≡ first_constant (leaves_of (expanded root bits (get_or lines i d).source)) → (a b c : Starts)
-    → Gains a b (starts_by root bits (map join_of (take i lines))) → Gains b c (record { bit = (get_or lines i d).bit; value = leaf } ∷ [])
-    → Gains a c (starts_by root bits (map join_of (take (i + 1) lines)))
+pub gains_line : (root : CaseView) (bits : List WireBit) (lines : List Join) (i : ℕ) (d : Join) → i < length lines → (leaf : Bit) → leaf ≡ first_constant (leaves_of (expanded root bits (get_or lines i d).source)) → (a b c : Starts)
+    → Gains a b (starts_by root bits (take i lines)) → Gains b c (record { bit = (get_or lines i d).bit; value = leaf } ∷ [])
+    → Gains a c (starts_by root bits (take (i + 1) lines))
 gains_line root bits lines i d lt leaf is a b c h k =
-    let l : Line = get_or lines i d in
-    let done : List Line = take i lines in
-    let now : Gains b c (starts_by root bits (map join_of (l ∷ []))) = subst (λ v. Gains b c (record { bit = l.bit; value = v } ∷ [])) is k in
-    let same : starts_by root bits (map join_of done) ++ starts_by root bits (map join_of (l ∷ [])) ≡ starts_by root bits (map join_of (take (i + 1) lines)) =
+    let l : Join = get_or lines i d in
+    let done : List Join = take i lines in
+    let now : Gains b c (starts_by root bits (l ∷ [])) = subst (λ v. Gains b c (record { bit = l.bit; value = v } ∷ [])) is k in
+    let same : starts_by root bits done ++ starts_by root bits (l ∷ []) ≡ starts_by root bits (take (i + 1) lines) =
     sym (
-    ap (λ xs. starts_by root bits (map join_of xs)) (take_more lines i d lt)
-    ∙ ap (λ js. starts_by root bits js) (map-append join_of done (l ∷ []))
-    ∙ map-append (λ j. record { bit = j.bit; value = first_constant (leaves_of (expanded root bits j.source)) }) (map join_of done) (map join_of (l ∷ []))) in
-    subst (Gains a c) same (gains_both a b c (starts_by root bits (map join_of done)) (starts_by root bits (map join_of (l ∷ []))) h now)
+    ap (λ xs. starts_by root bits xs) (take_more lines i d lt)
+    ∙ map-append (λ j. record { bit = j.bit; value = first_constant (leaves_of (expanded root bits j.source)) }) done (l ∷ [])) in
+    subst (Gains a c) same (gains_both a b c (starts_by root bits done) (starts_by root bits (l ∷ [])) h now)
 
 -- one more process
 pub gains_process : (wires : List Wire) (processes : List Process) (i : ℕ) (d : Process) → i < length processes → d ≡ get_or processes i d → (b c : Starts) → Gains b c (process_starts d)
@@ -100,6 +98,6 @@ constant_is (s ∷ leaves) b e = by (list_all (same_place s) leaves) e
     by false f = absurd (cc)
 
 -- a process without places that give start values gives none
-pub no_places : (p : Process) (lines : List Line) → map join_of lines ≡ all_joins (init_lines p.syncs) → length lines ≡ 0 → [] ≡ process_starts p
+pub no_places : (p : Process) (lines : List Join) → lines ≡ all_joins (init_lines p.syncs) → length lines ≡ 0 → [] ≡ process_starts p
 no_places p [] e h = ap (λ js. starts_by (root_by_rules p.root) (tree_bits p.root) js) e
 no_places p (l ∷ lines) e h = absurd (omega arith)

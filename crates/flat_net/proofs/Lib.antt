@@ -9,7 +9,6 @@ pub mod Assigning
 pub mod Branching
 pub mod Rooting
 pub mod Sourcing
-pub mod Chars
 pub mod Celling
 pub mod Fitting
 pub mod Pairing
@@ -24,3 +23,4 @@ pub mod Wording
 pub mod Lining
 pub mod Fetching
 pub mod Ending
+pub mod Others

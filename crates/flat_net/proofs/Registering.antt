@@ -13,14 +13,12 @@ use Rattle.rtl_ir.specs.Flat.Place.{Path, Place}
 use Rattle.rtl_ir.specs.Flat.Point.{bit_place, point}
 use Rattle.rtl_ir.specs.Flat.Process.{rule_shape}
 use Rattle.rtl_ir.specs.declared.follow.Join.{Join}
-use Rattle.flat_net.specs.declared.lines.Line.{Line}
 use Rattle.flat_net.specs.declared.net.Part.TheVariants as part
 use Rattle.flat_net.specs.declared.net.Point.{Point}
 use Rattle.flat_net.specs.declared.net.Storage.{Storage}
 use Rattle.flat_net.specs.declared.net.StoreBit.{StoreBit}
 use Rattle.flat_net.specs.declared.registers.Register.{Register}
 use Rattle.flat_net.specs.Known.{Keeps}
-use Rattle.flat_net.specs.Lines.{join_of}
 use Rattle.flat_net.specs.Parts.{part_rows, store_row}
 use Rattle.flat_net.specs.Points.{place_at}
 use Rattle.flat_net.specs.Reads.{ArePins, IsPoint}
@@ -67,17 +65,16 @@ module _ (start : SigBit → Bit) (p : Path) (wires : List Wire) (r : Register) 
   pub AreRegisters-none : (ps : List Place) → AreRegisters ps start p wires r they [] []
   AreRegisters-none ps = record { are = refl; within = tt }
 
-  pub AreRegisters-next : (ps qs : List Place) (bits new : List StoreBit) (b : StoreBit) (lines : List Line) (i : ℕ) (d : Line) → Keeps ps qs → i < length lines
-      → AreRegisters ps start p wires r they bits (map join_of (take i lines)) → AreRegisters qs start p wires r they (b ∷ []) (join_of (get_or lines i d) ∷ []) → new ≡ bits ++ b ∷ []
-      → AreRegisters qs start p wires r they new (map join_of (take (i + 1) lines))
+  pub AreRegisters-next : (ps qs : List Place) (bits new : List StoreBit) (b : StoreBit) (lines : List Join) (i : ℕ) (d : Join) → Keeps ps qs → i < length lines
+      → AreRegisters ps start p wires r they bits (take i lines) → AreRegisters qs start p wires r they (b ∷ []) (get_or lines i d ∷ []) → new ≡ bits ++ b ∷ []
+      → AreRegisters qs start p wires r they new (take (i + 1) lines)
   AreRegisters-next ps qs bits new b lines i d keeps lt h k put =
       let shape = rule_shape r.kind r.levels in
       rw (put, take_more lines i d lt) (record {
         are =
             map-append (store_row qs shape) bits (b ∷ [])
             ∙ (λ x. (bits-kept ps qs keeps shape bits h.within ∙ h.are) x ++ k.are x)
-            ∙ sym (map-append (register_row start p wires r they) (map join_of (take i lines)) (map join_of (get_or lines i d ∷ [])))
-            ∙ ap (map (register_row start p wires r they)) (sym (map-append join_of (take i lines) (get_or lines i d ∷ [])));
+            ∙ sym (map-append (register_row start p wires r they) (take i lines) (get_or lines i d ∷ []));
         within = all_end (IsStoreWithin (length qs)) bits b (bits-within ps qs keeps bits h.within) k.within.0;
       })
 

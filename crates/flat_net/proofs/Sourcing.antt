@@ -29,10 +29,8 @@ use Rattle.flat_net.specs.declared.leaves.Held.{Held}
 use Rattle.flat_net.specs.declared.leaves.HeldBit.{HeldBit}
 use Rattle.flat_net.specs.declared.leaves.Raced.{Raced}
 use Rattle.flat_net.specs.declared.leaves.Source.{Source}
-use Rattle.flat_net.specs.declared.lines.Line.{Line}
 use Rattle.flat_net.specs.declared.net.Part.TheVariants as part
 use Rattle.flat_net.specs.Known.{Keeps}
-use Rattle.flat_net.specs.Lines.{join_of}
 use Rattle.flat_net.specs.Parts.{held_row, part_rows, raced_row}
 use Rattle.flat_net.specs.Picks.{expanded_pick}
 use Rattle.flat_net.specs.Points.{place_at}
@@ -62,12 +60,12 @@ module _ (start : SigBit → Bit) (p : Path) (wires : List Wire) (bits : List Wi
   AreHeldBits-end ps (x ∷ bs) [] b j h k = absurd h
   AreHeldBits-end ps (x ∷ bs) (y ∷ js) b j h k = (h.0, AreHeldBits-end ps bs js b j h.1 k)
 
-  pub AreHeldBits-next : (ps qs : List Place) (bs new : List HeldBit) (b : HeldBit) (lines : List Line) (i : ℕ) (d : Line) → Keeps ps qs → i < length lines
-      → AreHeldBits ps start p wires bits bs (map join_of (take i lines)) → IsHeldBit qs start p wires bits b (join_of (get_or lines i d)) → new ≡ bs ++ b ∷ []
-      → AreHeldBits qs start p wires bits new (map join_of (take (i + 1) lines))
+  pub AreHeldBits-next : (ps qs : List Place) (bs new : List HeldBit) (b : HeldBit) (lines : List Join) (i : ℕ) (d : Join) → Keeps ps qs → i < length lines
+      → AreHeldBits ps start p wires bits bs (take i lines) → IsHeldBit qs start p wires bits b (get_or lines i d) → new ≡ bs ++ b ∷ []
+      → AreHeldBits qs start p wires bits new (take (i + 1) lines)
   AreHeldBits-next ps qs bs new b lines i d keeps lt h k put =
-      let more : map join_of (take (i + 1) lines) ≡ map join_of (take i lines) ++ join_of (get_or lines i d) ∷ [] = ap (map join_of) (take_more lines i d lt) ∙ map-append join_of (take i lines) (get_or lines i d ∷ []) in
-      rw (put, more) (AreHeldBits-end qs bs (map join_of (take i lines)) b (join_of (get_or lines i d)) (AreHeldBits-kept ps qs keeps bs (map join_of (take i lines)) h) k)
+      let more : take (i + 1) lines ≡ take i lines ++ get_or lines i d ∷ [] = take_more lines i d lt in
+      rw (put, more) (AreHeldBits-end qs bs (take i lines) b (get_or lines i d) (AreHeldBits-kept ps qs keeps bs (take i lines) h) k)
 
 -- expanding goes by which bits there are, in whatever order
 in_order : (c : CaseView) (bits : List WireBit) (n : ℕ) (s : SigBit) → expanded_within c bits n s ≡ expanded_within c (reverse bits) n s

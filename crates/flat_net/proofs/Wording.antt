@@ -274,19 +274,19 @@ pub remembered_part : (ps : List Place) (box : Box Remembered) (w : Remembered) 
 remembered_part ps box w rows e h = (ap (λ (w : Remembered). map (word_row ps w) w.bits) e ∙ h.are, subst (IsRememberedWithin (length ps)) (sym e) h.within)
 
 -- the ports of cells, and behind them those of lines
-pub planned_same : (p : Path) (m : Module) (s : Store) (plan : MemPlan) (lines : List PlanWrite) (event : Option Event) → plan ≡ gathered m plan.store s
+pub planned_same : (p : Path) (wires : List Wire) (m : Module) (s : Store) (plan : MemPlan) (lines : List PlanWrite) (event : Option Event) → plan ≡ gathered m plan.store s
     → lines ≡ map write_port (rule_accesses s.name (next_of plan.writes) (rules_of m.processes)) → event ≡ event_of s.name (rules_of m.processes)
-    → planned_rows p m.wires s plan lines event ≡ mem.word_rows p m.wires s (accesses_of s.name m.cells m.processes) (mem.init_cells s.name m.cells)
-planned_same p m s plan lines event e made first =
+    → planned_rows p wires s plan lines event ≡ mem.word_rows p wires s (accesses_of s.name m.cells m.processes) (mem.init_cells s.name m.cells)
+planned_same p wires m s plan lines event e made first =
     let here = cell_accesses s.name m.cells in
     let writes : plan.writes ≡ map write_port here = ap (λ (x : MemPlan). x.writes) e in
     let next : next_of plan.writes ≡ next_number here = ap next_of writes ∙ next_of-number here in
     let rest = rule_accesses s.name (next_number here) (rules_of m.processes) in
     let lines_are : lines ≡ map write_port rest = made ∙ ap (λ n. map write_port (rule_accesses s.name n (rules_of m.processes))) next in
     let all : plan.writes ++ lines ≡ map write_port (here ++ rest) = (λ i. writes i ++ lines_are i) ∙ sym (map-append write_port here rest) in
-    let clock = clock_same p m.wires plan s.name (next_number here) here (rules_of m.processes) event (ap (λ (x : MemPlan). x.clock) e) (ap (λ (x : MemPlan). x.rising) e) first in
-    let same = subst (λ ws. SameClock p m.wires (trigger_by plan ws event) (first_trigger (here ++ rest))) (sym writes) clock in
-    rows_same p m.wires s (here ++ rest) (mem.init_cells s.name m.cells) (trigger_by plan plan.writes event) same plan lines all (ap (λ (x : MemPlan). x.words) e)
+    let clock = clock_same p wires plan s.name (next_number here) here (rules_of m.processes) event (ap (λ (x : MemPlan). x.clock) e) (ap (λ (x : MemPlan). x.rising) e) first in
+    let same = subst (λ ws. SameClock p wires (trigger_by plan ws event) (first_trigger (here ++ rest))) (sym writes) clock in
+    rows_same p wires s (here ++ rest) (mem.init_cells s.name m.cells) (trigger_by plan plan.writes event) same plan lines all (ap (λ (x : MemPlan). x.words) e)
 
 -- the clock of a cell, where lines have none or come behind it
 pub cells_first : (m : MemPlan) (writes : List PlanWrite) → trigger_by m writes None ≡ cell_trigger m

@@ -10,7 +10,6 @@ pub mod Within
 pub mod Reads
 pub mod Cells
 pub mod Starts
-pub mod Lines
 pub mod Registers
 pub mod Rules
 pub mod Pairs

@@ -48,7 +48,9 @@ impl Builder {
     ) -> Result<Seq<u32>, Memory>
         requires outside { slice_get self.old.places.paths 0 ≡ Some [] }
         ensures rows { (d : Design) → IsTable table.now d.modules →
-            IfOk result (λ _. Adds self.old self.new (given_rows (places (role_points Input (root body.now) (ports_of body.now.wires))) 0 ++ in_tree d (rows_of (design_ports d)) (suc below) (root body.now) body.now)) }
+            IfOk result (λ _. Adds self.old self.new
+            (given_rows (places (role_points Input (root body.now) (ports_of body.now.wires))) 0 ++ in_tree d
+            (rows_of (design_ports d)) (suc below) (root body.now) body.now)) }
         ensures outputs { IfOk result (λ outputs. AreNumbers self.new.places.places outputs (output_places body.now)) }
     {
         let ends = self.places.ends(alloc, body)?;

@@ -4,8 +4,8 @@ use crate::net::{Output, Point};
 use rtl_bits::Seq;
 use std::marker::Model;
 
-/// A line of a branch: the tree bit at a place gets what a point has. Where that is a tree bit of the same process, its place
-/// is given too.
+/// A line of a branch: the tree bit at a place gets what a point has. Where that is a tree bit of the same process,
+/// its place is given too.
 #[derive(Clone, Copy, Debug, PartialEq, Eq)]
 pub struct Assign {
     pub at: u32,
@@ -23,8 +23,8 @@ pub struct Branch {
     pub choices: Vec<Choice>,
 }
 
-/// A choice of the first branch that matches the signal. Where it tests a reset, it is said whether the signal is the inverse
-/// of that.
+/// A choice of the first branch that matches the signal. Where it tests a reset, it is said whether the signal is the
+/// inverse of that.
 #[cycle(choices)]
 #[derive(Drop)]
 pub struct Choice {

@@ -5,9 +5,8 @@ ghost use Rattle.flat_net.specs.Ends.{IsEnds};
 ghost use Rattle.flat_net.specs.Known.{Extends};
 
 use crate::places::Places;
-use crate::ports::port_wires;
 use rtl_bits::{Memory, Seq};
-use rtl_ir::{Module, Role};
+use rtl_ir::{Module, Role, port_wires};
 use std::alloc::Global;
 
 /// The number of the path of the module that is run, and the numbers of its input and output bits.

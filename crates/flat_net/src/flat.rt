@@ -19,7 +19,8 @@ use std::alloc::Global;
 pub fn flatten(alloc: Global, design: &Design, at: u32) -> Result<Net, Memory>
     requires in_range { at < length design.now.modules }
     requires faultless { faults_within everything design.now.modules ≡ [] }
-    ensures value { (m : Module) → slice_get design.now.modules at ≡ Some m → IfOk result (λ net. (ps : List Place) × IsNetOf net design.now m ps) }
+    ensures value { (m : Module) → slice_get design.now.modules at ≡ Some m →
+        IfOk result (λ net. (ps : List Place) × IsNetOf net design.now m ps) }
 {
     let modules = design.modules.as_slice();
     let table = Table::of(alloc, modules)?;

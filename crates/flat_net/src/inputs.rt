@@ -22,7 +22,8 @@ impl Builder {
     /// The input vector drives the bits of these numbers, each place of it one.
     pub(crate) fn give(&mut self, numbers: &[u32]) -> Result<(), Memory>
         ensures places { self.new.places ≡ self.old.places }
-        ensures rows { (qs : List Place) → AreNumbers self.old.places.places numbers.now qs → OnOk result (Adds self.old self.new (given_rows qs 0)) }
+        ensures rows { (qs : List Place) → AreNumbers self.old.places.places numbers.now qs →
+            OnOk result (Adds self.old self.new (given_rows qs 0)) }
     {
         for at in 0..numbers.len() {
             let place = number_at(at)?;
@@ -47,7 +48,8 @@ impl Places {
         requires in_range { path < length self.old.paths }
         ensures grows { OnOk result (Extends self.old self.new) }
         ensures value { (p : Path) → slice_get self.old.paths path ≡ Some p →
-            IfOk result (λ numbers. AreNumbers self.new.places numbers (places (role_points role p (map line_of (all_now ports.now))))) }
+            IfOk result (λ numbers.
+            AreNumbers self.new.places numbers (places (role_points role p (map line_of (all_now ports.now))))) }
     {
         let points = self.role_points(alloc, path, ports, role)?;
         numbers_in(alloc, points.as_slice())
@@ -64,7 +66,8 @@ impl Places {
         requires in_range { path < length self.old.paths }
         ensures grows { OnOk result (Extends self.old self.new) }
         ensures value { (p : Path) → slice_get self.old.paths path ≡ Some p →
-            IfOk result (λ they. ArePoints self.new.places they (role_points role p (map line_of (all_now ports.now)))) }
+            IfOk result (λ they.
+            ArePoints self.new.places they (role_points role p (map line_of (all_now ports.now)))) }
     {
         let mut points = Seq::make(alloc);
         for port in ports {
@@ -85,7 +88,8 @@ impl Places {
         requires in_range { path < length self.old.paths }
         ensures grows { OnOk result (Extends self.old self.new) }
         ensures value { (p : Path) → slice_get self.old.paths path ≡ Some p →
-            IfOk result (λ they. ArePoints self.new.places they (if_role role port.now.role (wire_points p port.now.name 0 port.now.width))) }
+            IfOk result (λ they. ArePoints self.new.places they (if_role role port.now.role
+            (wire_points p port.now.name 0 port.now.width))) }
     {
         if port.role == role {
             self.wire_points(alloc, path, port.name.as_slice(), port.width)

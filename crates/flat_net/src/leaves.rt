@@ -27,8 +27,8 @@ pub struct Held {
     pub bits: Seq<HeldBit>,
 }
 
-/// The bits of a process with two edges: the clock and the reset, each with the level after its edge. The choices of the
-/// tree say which of them test the reset.
+/// The bits of a process with two edges: the clock and the reset, each with the level after its edge. The choices of
+/// the tree say which of them test the reset.
 #[derive(Drop)]
 pub struct Raced {
     pub tree: Tree,

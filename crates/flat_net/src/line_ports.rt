@@ -1,19 +1,43 @@
 //! The lines of processes that write a memory, as write ports.
 
-ghost use Rattle.std.specs.Prelude.{◌≡◌, ◌+◌, ◌<◌, ◌++◌, ◌==◌, ◌∷◌, ◌||◌, [], ℕ, List, false, IfOk, OnOk, if◌then◌else◌, length, map, option_map, slice_index_or};
-ghost use Rattle.rtl_bits.specs.Numbers.{is_one};
+ghost use Rattle.std.specs.Prelude.{
+  ◌≡◌,
+  ◌+◌,
+  ◌<◌,
+  ◌++◌,
+  ◌==◌,
+  ◌∷◌,
+  ◌||◌,
+  [],
+  ℕ,
+  List,
+  false,
+  IfOk,
+  OnOk,
+  if◌then◌else◌,
+  length,
+  map,
+  option_map,
+  slice_index_or,
+};
 ghost use Rattle.net_model.specs.Mem.Gather.{write_port};
 ghost use Rattle.rtl_ir.specs.declared.process.Event.{Event};
 ghost use Rattle.rtl_ir.specs.declared.process.WriteLine.{WriteLine};
-ghost use Rattle.rtl_ir.specs.Flat.Access.{line_access, line_accesses, line_follows, line_mask, rule_accesses, write_trigger};
+ghost use Rattle.rtl_ir.specs.Flat.Access.{
+  line_access,
+  line_accesses,
+  line_follows,
+  line_mask,
+  rule_accesses,
+  write_trigger,
+};
 ghost use Rattle.flat_net.specs.Accesses.{event_of, have_line, next_of, rules_of};
 ghost use Rattle.flat_net.specs.Registers.{trigger_of};
 
-use crate::registers::Trigger;
-use crate::values::value_bits;
+use crate::registers::{Trigger, at_level};
 use cell_types::Level;
-use rtl_bits::{Bit, Bits, Copied, Memory, Seq};
-use rtl_ir::{Event, Process, SyncRule, WriteLine, WritePort};
+use rtl_bits::{Bit, Bits, Copied, Memory, Seq, is_one};
+use rtl_ir::{Event, Process, SyncRule, WriteLine, WritePort, value_bits};
 use std::alloc::Global;
 
 /// The first number behind those of the ports. One of 2^32 is taken for want of memory.
@@ -42,7 +66,8 @@ pub(crate) fn line_ports(
     number: u32,
     processes: &[Process],
 ) -> Result<Vec<WritePort>, Memory>
-    ensures value { IfOk result (λ ports. ports.items ≡ map write_port (rule_accesses name.now number (rules_of processes.now))) }
+    ensures value { IfOk result (λ ports. ports.items ≡
+        map write_port (rule_accesses name.now number (rules_of processes.now))) }
 {
     let mut ports = Vec::new(alloc);
     for process in processes {
@@ -59,7 +84,8 @@ fn put_rules(
     rules: &[SyncRule],
     ports: &mut Vec<WritePort>,
 ) -> Result<(), Memory>
-    ensures ok { OnOk result (ports.new.items ≡ ports.old.items ++ map write_port (rule_accesses name.now (number + length ports.old.items) rules.now)) }
+    ensures ok { OnOk result (ports.new.items ≡
+        ports.old.items ++ map write_port (rule_accesses name.now (number + length ports.old.items) rules.now)) }
 {
     for rule in rules {
         put_lines(alloc, name, number, rule.writes.as_slice(), ports)?;
@@ -75,7 +101,9 @@ fn put_lines(
     lines: &[WriteLine],
     ports: &mut Vec<WritePort>,
 ) -> Result<(), Memory>
-    ensures ok { (event : Event) → OnOk result (ports.new.items ≡ ports.old.items ++ map write_port (line_accesses name.now event (number + length ports.old.items) [] lines.now)) }
+    ensures ok { (event : Event) →
+        OnOk result (ports.new.items ≡ ports.old.items ++ map write_port (line_accesses name.now event
+        (number + length ports.old.items) [] lines.now)) }
 {
     let mut before = Vec::new(alloc);
     for line in lines {
@@ -94,8 +122,10 @@ fn put_line(
     ports: &mut Vec<WritePort>,
 ) -> Result<(), Memory>
     ensures ok { (event : Event) (rest : List WriteLine) → OnOk result (
-        ports.old.items ++ map write_port (line_accesses name.now event (number + length ports.old.items) before.old.items (line.now ∷ rest))
-        ≡ ports.new.items ++ map write_port (line_accesses name.now event (number + length ports.new.items) before.new.items rest)) }
+        ports.old.items ++ map write_port
+        (line_accesses name.now event (number + length ports.old.items) before.old.items (line.now ∷ rest))
+        ≡ ports.new.items ++ map write_port (line_accesses name.now event (number + length ports.new.items)
+        before.new.items rest)) }
 {
     if name == line.memory.as_slice() {
         let at = number_behind(number, ports.len())?;
@@ -115,7 +145,8 @@ fn line_port(
     before: &[Option<u32>],
     line: &WriteLine,
 ) -> Result<WritePort, Memory>
-    ensures value { (event : Event) → IfOk result (λ port. port ≡ write_port (line_access event number before.now line.now)) }
+    ensures value { (event : Event) →
+        IfOk result (λ port. port ≡ write_port (line_access event number before.now line.now)) }
 {
     let mask = value_bits(alloc, &line.mask)?;
     Ok(WritePort {
@@ -145,8 +176,8 @@ fn line_mask(
     Ok(Seq::from_vec(bits))
 }
 
-/// Which of so many ports a line may follow: of the earlier lines of its rule those that are ports, where the bit of the
-/// mask is set.
+/// Which of so many ports a line may follow: of the earlier lines of its rule those that are ports, where the bit of
+/// the mask is set.
 fn followed(
     alloc: Global,
     count: usize,
@@ -154,7 +185,8 @@ fn followed(
     mask: &[Bit],
 ) -> Result<Vec<bool>, Memory>
     ensures length { IfOk result (λ marks. length marks.items ≡ count) }
-    ensures value { IfOk result (λ marks. (k : ℕ) → k < count → slice_index_or marks.items k false ≡ line_follows k before.now mask.now) }
+    ensures value { IfOk result (λ marks. (k : ℕ) → k < count →
+        slice_index_or marks.items k false ≡ line_follows k before.now mask.now) }
 {
     let mut marks = vec![in alloc; false; count]?;
     for at in 0..before.len().min(mask.len()) {
@@ -165,7 +197,8 @@ fn followed(
 
 /// Marks the port that an earlier line is, where it is one of the ports and the bit of the mask is set.
 fn put_mark(marks: &mut Vec<bool>, port: Option<u32>, bit: Bit)
-    ensures marks { (k : ℕ) → k < length marks.old.items → slice_index_or marks.new.items k false ≡ (line_follows k (port ∷ []) (bit ∷ []) || slice_index_or marks.old.items k false) }
+    ensures marks { (k : ℕ) → k < length marks.old.items → slice_index_or marks.new.items k false ≡
+        (line_follows k (port ∷ []) (bit ∷ []) || slice_index_or marks.old.items k false) }
     ensures length { length marks.new.items ≡ length marks.old.items }
 {
     if let Some(number) = port {
@@ -175,16 +208,10 @@ fn put_mark(marks: &mut Vec<bool>, port: Option<u32>, bit: Bit)
     }
 }
 
-/// Whether a bit is 1.
-fn is_one(bit: Bit) -> bool
-    ensures value { result ≡ is_one bit }
-{
-    matches!(bit, Bit::S1)
-}
-
 /// Marks the number, where it is one of the numbers.
 fn mark(marks: &mut Vec<bool>, number: u32)
-    ensures marks { (k : ℕ) → k < length marks.old.items → slice_index_or marks.new.items k false ≡ ((number == k) || slice_index_or marks.old.items k false) }
+    ensures marks { (k : ℕ) → k < length marks.old.items →
+        slice_index_or marks.new.items k false ≡ ((number == k) || slice_index_or marks.old.items k false) }
     ensures length { length marks.new.items ≡ length marks.old.items }
 {
     if let Some(mark) = marks.get_mut(number as usize) {
@@ -240,17 +267,8 @@ pub(crate) fn write_trigger(event: &Event) -> Trigger<'_>
     ensures value { trigger_of result ≡ write_trigger event.now }
 {
     match event {
-        Event::Posedge(signal) => Trigger {
-            signal: signal.as_slice(),
-            level: Level::High,
-        },
-        Event::Negedge(signal) => Trigger {
-            signal: signal.as_slice(),
-            level: Level::Low,
-        },
-        _ => Trigger {
-            signal: &[],
-            level: Level::Low,
-        },
+        Event::Posedge(signal) => at_level(signal.as_slice(), Level::High),
+        Event::Negedge(signal) => at_level(signal.as_slice(), Level::Low),
+        _ => at_level(&[], Level::Low),
     }
 }

@@ -11,56 +11,42 @@ ghost use Rattle.flat_net.specs.Reads.{ArePoints};
 
 use crate::builder::Builder;
 use crate::net::{Join, Part, Point};
+use crate::scope::Scope;
 use rtl_bits::Memory;
-use rtl_ir::{Link, Wire};
-use std::alloc::Global;
+use rtl_ir::Link;
 
 impl Builder {
-    /// The connections of a module with these wires in this path.
-    pub(crate) fn add_links(
-        &mut self,
-        alloc: Global,
-        path: u32,
-        wires: &[Wire],
-        links: &[Link],
-    ) -> Result<(), Memory>
-        requires in_range { path < length self.old.places.paths }
+    /// The connections of a module.
+    pub(crate) fn add_links(&mut self, scope: &Scope, links: &[Link]) -> Result<(), Memory>
+        requires in_range { scope.now.path < length self.old.places.paths }
         ensures grows { OnOk result (Extends self.old.places self.new.places) }
-        ensures rows { (p : Path) → slice_get self.old.places.paths path ≡ Some p →
-            OnOk result (Adds self.old self.new (link_rows p wires.now links.now)) }
+        ensures rows { (p : Path) → slice_get self.old.places.paths scope.now.path ≡ Some p →
+            OnOk result (Adds self.old self.new (link_rows p scope.now.wires.now links.now)) }
     {
         for link in links {
-            self.add_link(alloc, path, wires, link)?;
+            self.add_link(scope, link)?;
         }
         Ok(())
     }
 
     /// A connection.
-    fn add_link(
-        &mut self,
-        alloc: Global,
-        path: u32,
-        wires: &[Wire],
-        link: &Link,
-    ) -> Result<(), Memory>
-        requires in_range { path < length self.old.places.paths }
+    fn add_link(&mut self, scope: &Scope, link: &Link) -> Result<(), Memory>
+        requires in_range { scope.now.path < length self.old.places.paths }
         ensures grows { OnOk result (Extends self.old.places self.new.places) }
-        ensures rows { (p : Path) → slice_get self.old.places.paths path ≡ Some p →
-            OnOk result (Adds self.old self.new (joins (points p wires.now link.now.left) (points p wires.now link.now.right))) }
+        ensures rows { (p : Path) → slice_get self.old.places.paths scope.now.path ≡ Some p →
+            OnOk result (Adds self.old self.new (joins (points p scope.now.wires.now link.now.left)
+            (points p scope.now.wires.now link.now.right))) }
     {
-        let left = self
-            .places
-            .points(alloc, path, wires, link.left.as_slice())?;
-        let right = self
-            .places
-            .points(alloc, path, wires, link.right.as_slice())?;
+        let left = self.places.points(scope, link.left.as_slice())?;
+        let right = self.places.points(scope, link.right.as_slice())?;
         self.join(left.as_slice(), right.as_slice())
     }
 
     /// The right drives the left, bit by bit, as far as both go.
     pub(crate) fn join(&mut self, left: &[Point], right: &[Point]) -> Result<(), Memory>
         ensures places { self.new.places ≡ self.old.places }
-        ensures rows { (lefts rights : List rtl.Point) → ArePoints self.old.places.places left.now lefts → ArePoints self.old.places.places right.now rights →
+        ensures rows { (lefts rights : List rtl.Point) → ArePoints self.old.places.places left.now lefts →
+            ArePoints self.old.places.places right.now rights →
             OnOk result (Adds self.old self.new (joins lefts rights)) }
     {
         for at in 0..left.len().min(right.len()) {

@@ -10,59 +10,52 @@ ghost use Rattle.flat_net.specs.Known.{Extends};
 use crate::builder::Builder;
 use crate::net::{Logic, Output, Part, Point};
 use crate::places::Places;
-use crate::shapes::shape;
+use crate::scope::Scope;
 use cell_types::{CellKind, PinName};
 use rtl_bits::{Memory, Seq};
-use rtl_ir::{Cell, Wire};
+use rtl_ir::{Cell, fitting_shape};
 use std::alloc::Global;
 
 impl Builder {
     /// A combinational cell of this kind.
     pub(crate) fn add_logic(
         &mut self,
-        alloc: Global,
-        path: u32,
-        wires: &[Wire],
+        scope: &Scope,
         cell: &Cell,
         kind: CellKind,
     ) -> Result<(), Memory>
-        requires in_range { path < length self.old.places.paths }
+        requires in_range { scope.now.path < length self.old.places.paths }
         ensures grows { OnOk result (Extends self.old.places self.new.places) }
-        ensures rows { (p : Path) → slice_get self.old.places.paths path ≡ Some p →
-            OnOk result (Adds self.old self.new (worked_rows p wires.now cell.now.pins (cell_shape kind cell.now.params))) }
+        ensures rows { (p : Path) → slice_get self.old.places.paths scope.now.path ≡ Some p →
+            OnOk result (Adds self.old self.new (worked_rows p scope.now.wires.now cell.now.pins
+            (cell_shape kind cell.now.params))) }
     {
-        let logic = self.places.logic(alloc, path, wires, cell, kind)?;
-        self.parts.push(Part::Logic(Box::new(alloc, logic)?))?;
+        let logic = self.places.logic(scope, cell, kind)?;
+        self.parts.push(Part::Logic(Box::new(scope.alloc, logic)?))?;
         Ok(())
     }
 }
 
 impl Places {
     /// A combinational cell of this kind, in numbers.
-    fn logic(
-        &mut self,
-        alloc: Global,
-        path: u32,
-        wires: &[Wire],
-        cell: &Cell,
-        kind: CellKind,
-    ) -> Result<Logic, Memory>
-        requires in_range { path < length self.old.paths }
+    fn logic(&mut self, scope: &Scope, cell: &Cell, kind: CellKind) -> Result<Logic, Memory>
+        requires in_range { scope.now.path < length self.old.paths }
         ensures grows { OnOk result (Extends self.old self.new) }
-        ensures value { (p : Path) → slice_get self.old.paths path ≡ Some p →
-            IfOk result (λ logic. IsLogic self.new.places logic (worked_rows p wires.now cell.now.pins (cell_shape kind cell.now.params))) }
+        ensures value { (p : Path) → slice_get self.old.paths scope.now.path ≡ Some p →
+            IfOk result (λ logic. IsLogic self.new.places logic (worked_rows p scope.now.wires.now cell.now.pins
+            (cell_shape kind cell.now.params))) }
     {
         let pins = cell.pins.as_slice();
-        let a = self.pin_points(alloc, path, wires, pins, PinName::A)?;
-        let b = self.pin_points(alloc, path, wires, pins, PinName::B)?;
-        let s = self.pin_points(alloc, path, wires, pins, PinName::S)?;
-        let y = self.pin_points(alloc, path, wires, pins, PinName::Y)?;
+        let a = self.pin_points(scope, pins, PinName::A)?;
+        let b = self.pin_points(scope, pins, PinName::B)?;
+        let s = self.pin_points(scope, pins, PinName::S)?;
+        let y = self.pin_points(scope, pins, PinName::Y)?;
         Ok(Logic {
-            shape: shape(alloc, cell, kind)?,
+            shape: fitting_shape(scope.alloc, kind, cell)?,
             a,
             b,
             s,
-            outputs: outputs(alloc, y.as_slice())?,
+            outputs: outputs(scope.alloc, y.as_slice())?,
         })
     }
 }

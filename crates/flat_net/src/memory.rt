@@ -24,8 +24,8 @@ pub struct WordBit {
     pub at: u32,
 }
 
-/// The words of a memory. The write ports stand once for all bits: the clock with the level after its edge, and the ports
-/// in rising number.
+/// The words of a memory. The write ports stand once for all bits: the clock with the level after its edge, and the
+/// ports in rising number.
 #[derive(Drop)]
 pub struct Remembered {
     pub clock: Point,

@@ -5,9 +5,8 @@ ghost use Rattle.rtl_ir.specs.declared.module.Module.{Module};
 ghost use Rattle.rtl_ir.specs.Flat.Tree.{named};
 ghost use Rattle.flat_net.specs.Tables.{IsTable, Stands};
 
-use crate::ports::port_wires;
 use rtl_bits::Memory;
-use rtl_ir::{Module, Wire};
+use rtl_ir::{Module, Wire, port_wires};
 use std::alloc::Global;
 use std::collections::HashMap;
 
@@ -40,7 +39,8 @@ impl<'a> Table<'a> {
 
     /// The module of this name. It takes no memory.
     pub(crate) fn find(&self, id: &[u8]) -> Option<&Entry<'a>>
-        ensures value { (modules : List Module) → IsTable self.now modules → Stands (option_map (λ e. e.now) result) (named modules id.now) }
+        ensures value { (modules : List Module) → IsTable self.now modules →
+            Stands (option_map (λ e. e.now) result) (named modules id.now) }
     {
         self.modules.get(id)
     }

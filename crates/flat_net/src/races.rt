@@ -9,22 +9,18 @@ ghost use Rattle.rtl_ir.specs.Flat.Process.{level_after, raced_row, raced_rows};
 ghost use Rattle.process_trees.specs.Edge.{edge_as};
 ghost use Rattle.flat_net.specs.Adds.{Adds};
 ghost use Rattle.flat_net.specs.Known.{Extends};
-ghost use Rattle.flat_net.specs.Lines.{join_of};
 ghost use Rattle.flat_net.specs.Resets.{KnowsTests};
 ghost use Rattle.flat_net.specs.Starts.{IsStart};
 
 use crate::builder::Builder;
 use crate::leaves::Raced;
-use crate::lines::Line;
 use crate::net::{Part, Point};
-use crate::resets::{Reset, Tests};
-use crate::rooted::Rooted;
-use crate::starts::Starts;
+use crate::resets::{Reset, Tested};
+use crate::scope::Scope;
 use cell_types::Level;
 use process_trees::{EdgeBit, edge_bit};
 use rtl_bits::Memory;
-use rtl_ir::{Event, Wire};
-use std::alloc::Global;
+use rtl_ir::{Event, Join};
 
 /// The level after an edge, true for a rising one.
 fn level_after(rising: bool) -> Level
@@ -37,73 +33,70 @@ impl Builder {
     /// Two rules at edges, with the same places. The edge that is tested is that of the reset.
     pub(crate) fn add_edges(
         &mut self,
-        alloc: Global,
-        path: u32,
-        wires: &[Wire],
-        starts: &Starts,
-        tests: Tests,
-        rooted: &Rooted,
+        scope: &Scope,
+        tree: Tested,
         a: &Event,
         b: &Event,
-        lines: &[Line],
+        lines: &[Join],
     ) -> Result<(), Memory>
-        requires in_range { path < length self.old.places.paths }
+        requires in_range { scope.now.path < length self.old.places.paths }
         ensures grows { OnOk result (Extends self.old.places self.new.places) }
-        ensures rows { (p : Path) → slice_get self.old.places.paths path ≡ Some p → (start : SigBit → Bit) → IsStart starts.now start →
-            KnowsTests tests.entry.table.now tests.entry.body.now →
-            OnOk result (Adds self.old self.new (raced_rows start p wires.now tests.entry.body.now rooted.now.root (reverse rooted.now.bits) (map join_of lines.now) (edges.edge_bit a.now) (edges.edge_bit b.now))) }
+        ensures rows { (p : Path) → slice_get self.old.places.paths scope.now.path ≡ Some p → (start : SigBit → Bit) →
+            IsStart scope.now.starts.now start →
+            KnowsTests tree.entry.tests.table.now tree.entry.tests.body.now →
+            OnOk result (Adds self.old self.new (raced_rows start p scope.now.wires.now tree.entry.tests.body.now
+            tree.entry.rooted.now.root (reverse tree.entry.rooted.now.bits) lines.now (edges.edge_bit a.now)
+            (edges.edge_bit b.now))) }
     {
         let (Some(a), Some(b)) = (edge_bit(a), edge_bit(b)) else {
             return Ok(());
         };
+        let tests = tree.tests;
         if tests
             .table
-            .is_tested(alloc, tests.body, a.bit, &rooted.root)?
+            .is_tested(scope.alloc, tests.body, a.bit, &tree.rooted.root)?
         {
-            self.add_race(alloc, path, wires, starts, tests, rooted, b, a, lines)
+            self.add_race(scope, tree, b, a, lines)
         } else {
-            self.add_race(alloc, path, wires, starts, tests, rooted, a, b, lines)
+            self.add_race(scope, tree, a, b, lines)
         }
     }
 
     /// The bits that a process with this clock and this reset updates.
     fn add_race(
         &mut self,
-        alloc: Global,
-        path: u32,
-        wires: &[Wire],
-        starts: &Starts,
-        tests: Tests,
-        rooted: &Rooted,
+        scope: &Scope,
+        tree: Tested,
         clock: EdgeBit,
         reset: EdgeBit,
-        lines: &[Line],
+        lines: &[Join],
     ) -> Result<(), Memory>
-        requires in_range { path < length self.old.places.paths }
+        requires in_range { scope.now.path < length self.old.places.paths }
         ensures grows { OnOk result (Extends self.old.places self.new.places) }
-        ensures rows { (p : Path) → slice_get self.old.places.paths path ≡ Some p → (start : SigBit → Bit) → IsStart starts.now start →
-            KnowsTests tests.entry.table.now tests.entry.body.now →
-            OnOk result (Adds self.old self.new (map (raced_row start p wires.now tests.entry.body.now rooted.now.root (reverse rooted.now.bits) (edge_as clock) (edge_as reset)) (map join_of lines.now))) }
+        ensures rows { (p : Path) → slice_get self.old.places.paths scope.now.path ≡ Some p → (start : SigBit → Bit) →
+            IsStart scope.now.starts.now start →
+            KnowsTests tree.entry.tests.table.now tree.entry.tests.body.now →
+            OnOk result (Adds self.old self.new (map (raced_row start p scope.now.wires.now tree.entry.tests.body.now
+            tree.entry.rooted.now.root (reverse tree.entry.rooted.now.bits) (edge_as clock) (edge_as reset))
+            lines.now)) }
     {
         let by = Some(Reset {
-            tests,
+            tests: tree.tests,
             bit: reset.bit,
         });
-        let tree = self.places.root(alloc, path, wires, by, rooted)?;
-        let clock_at = self.places.bit(path, wires, clock.bit)?;
-        let reset_at = self.places.bit(path, wires, reset.bit)?;
-        let bits = self
-            .places
-            .held_bits(alloc, path, wires, starts, &rooted.bits, lines)?;
+        let root = self.places.root(scope, by, tree.rooted)?;
+        let clock_at = self.places.bit(scope, clock.bit)?;
+        let reset_at = self.places.bit(scope, reset.bit)?;
+        let bits = self.places.held_bits(scope, &tree.rooted.bits, lines)?;
         let raced = Raced {
-            tree,
+            tree: root,
             clock: Point::At(clock_at),
             clock_level: level_after(clock.level),
             reset: Point::At(reset_at),
             reset_level: level_after(reset.level),
             bits,
         };
-        self.parts.push(Part::Raced(Box::new(alloc, raced)?))?;
+        self.parts.push(Part::Raced(Box::new(scope.alloc, raced)?))?;
         Ok(())
     }
 }

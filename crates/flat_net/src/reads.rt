@@ -10,11 +10,10 @@ ghost use Rattle.flat_net.specs.Reads.{IsPoint};
 
 use crate::net::{Point, StorePins};
 use crate::places::Places;
-use crate::signals::signal_at;
+use crate::scope::Scope;
 use cell_types::PinName;
 use rtl_bits::{Bit, Memory, Seq};
-use rtl_ir::{Pin, Wire};
-use std::alloc::Global;
+use rtl_ir::{Pin, pin_signal};
 
 /// What the bits of a storage cell on words read: of the controls the one bit, else each its own bit.
 #[derive(Drop)]
@@ -71,70 +70,54 @@ fn listed_point(points: &[Point], at: usize) -> Point
 
 impl Places {
     /// The lowest bit at a pin, the constant x where there is none.
-    fn pin_point(
-        &mut self,
-        path: u32,
-        wires: &[Wire],
-        pins: &[Pin],
-        name: PinName,
-    ) -> Result<Point, Memory>
-        requires in_range { path < length self.old.paths }
+    fn pin_point(&mut self, scope: &Scope, pins: &[Pin], name: PinName) -> Result<Point, Memory>
+        requires in_range { scope.now.path < length self.old.paths }
         ensures grows { OnOk result (Extends self.old self.new) }
-        ensures value { (p : Path) → slice_get self.old.paths path ≡ Some p →
-            IfOk result (λ it. IsPoint self.new.places it (point_at (pin_points p wires.now pins.now name) 0)) }
+        ensures value { (p : Path) → slice_get self.old.paths scope.now.path ≡ Some p →
+            IfOk result (λ it.
+            IsPoint self.new.places it (point_at (pin_points p scope.now.wires.now pins.now name) 0)) }
     {
-        self.first_point(path, wires, signal_at(pins, name.text()))
+        self.first_point(scope, pin_signal(pins, name))
     }
 
     /// What the bits of a storage cell on words read.
-    pub(crate) fn word_reads(
-        &mut self,
-        alloc: Global,
-        path: u32,
-        wires: &[Wire],
-        pins: &[Pin],
-    ) -> Result<Reads, Memory>
-        requires in_range { path < length self.old.paths }
+    pub(crate) fn word_reads(&mut self, scope: &Scope, pins: &[Pin]) -> Result<Reads, Memory>
+        requires in_range { scope.now.path < length self.old.paths }
         ensures grows { OnOk result (Extends self.old self.new) }
-        ensures value { (p : Path) → slice_get self.old.paths path ≡ Some p →
-            IfOk result (λ reads. AreReads self.new.places reads (word_store p wires.now pins.now)) }
+        ensures value { (p : Path) → slice_get self.old.paths scope.now.path ≡ Some p →
+            IfOk result (λ reads. AreReads self.new.places reads (word_store p scope.now.wires.now pins.now)) }
     {
         Ok(Reads::Word(WordPins {
-            clk: self.pin_point(path, wires, pins, PinName::Clk)?,
-            en: self.pin_point(path, wires, pins, PinName::En)?,
-            arst: self.pin_point(path, wires, pins, PinName::Arst)?,
-            srst: self.pin_point(path, wires, pins, PinName::Srst)?,
-            aload: self.pin_point(path, wires, pins, PinName::Aload)?,
-            ad: self.pin_points(alloc, path, wires, pins, PinName::Ad)?,
-            set: self.pin_points(alloc, path, wires, pins, PinName::Set)?,
-            clr: self.pin_points(alloc, path, wires, pins, PinName::Clr)?,
-            d: self.pin_points(alloc, path, wires, pins, PinName::D)?,
+            clk: self.pin_point(scope, pins, PinName::Clk)?,
+            en: self.pin_point(scope, pins, PinName::En)?,
+            arst: self.pin_point(scope, pins, PinName::Arst)?,
+            srst: self.pin_point(scope, pins, PinName::Srst)?,
+            aload: self.pin_point(scope, pins, PinName::Aload)?,
+            ad: self.pin_points(scope, pins, PinName::Ad)?,
+            set: self.pin_points(scope, pins, PinName::Set)?,
+            clr: self.pin_points(scope, pins, PinName::Clr)?,
+            d: self.pin_points(scope, pins, PinName::D)?,
         }))
     }
 
     /// What the bit of a storage gate reads.
-    pub(crate) fn gate_reads(
-        &mut self,
-        path: u32,
-        wires: &[Wire],
-        pins: &[Pin],
-    ) -> Result<Reads, Memory>
-        requires in_range { path < length self.old.paths }
+    pub(crate) fn gate_reads(&mut self, scope: &Scope, pins: &[Pin]) -> Result<Reads, Memory>
+        requires in_range { scope.now.path < length self.old.paths }
         ensures grows { OnOk result (Extends self.old self.new) }
-        ensures value { (p : Path) → slice_get self.old.paths path ≡ Some p →
-            IfOk result (λ reads. AreReads self.new.places reads (gate_store p wires.now pins.now)) }
+        ensures value { (p : Path) → slice_get self.old.paths scope.now.path ≡ Some p →
+            IfOk result (λ reads. AreReads self.new.places reads (gate_store p scope.now.wires.now pins.now)) }
     {
-        let reset = self.pin_point(path, wires, pins, PinName::R)?;
+        let reset = self.pin_point(scope, pins, PinName::R)?;
         Ok(Reads::Gate(StorePins {
-            clk: self.pin_point(path, wires, pins, PinName::C)?,
-            en: self.pin_point(path, wires, pins, PinName::E)?,
+            clk: self.pin_point(scope, pins, PinName::C)?,
+            en: self.pin_point(scope, pins, PinName::E)?,
             arst: reset,
             srst: reset,
-            aload: self.pin_point(path, wires, pins, PinName::L)?,
-            ad: self.pin_point(path, wires, pins, PinName::Ad)?,
-            set: self.pin_point(path, wires, pins, PinName::S)?,
+            aload: self.pin_point(scope, pins, PinName::L)?,
+            ad: self.pin_point(scope, pins, PinName::Ad)?,
+            set: self.pin_point(scope, pins, PinName::S)?,
             clr: reset,
-            d: self.pin_point(path, wires, pins, PinName::D)?,
+            d: self.pin_point(scope, pins, PinName::D)?,
         }))
     }
 }

@@ -8,19 +8,26 @@ ghost use Rattle.rtl_ir.specs.Flat.Place.{Path};
 ghost use Rattle.rtl_ir.specs.Flat.Process.{rule_shape};
 ghost use Rattle.flat_net.specs.Adds.{Adds};
 ghost use Rattle.flat_net.specs.Known.{Extends};
-ghost use Rattle.flat_net.specs.Lines.{join_of};
-ghost use Rattle.flat_net.specs.Registers.{AreRegisters, IsControl, bare_register, edge_register, level_register, loaded_register, register_row, trigger_of};
+ghost use Rattle.flat_net.specs.Registers.{
+  AreRegisters,
+  IsControl,
+  bare_register,
+  edge_register,
+  level_register,
+  loaded_register,
+  register_row,
+  trigger_of,
+};
 ghost use Rattle.flat_net.specs.Reads.{ArePins};
 ghost use Rattle.flat_net.specs.Starts.{IsStart};
 
 use crate::builder::Builder;
-use crate::lines::Line;
 use crate::net::{Part, Point, Storage, StoreBit, StorePins};
 use crate::places::Places;
-use crate::starts::Starts;
+use crate::scope::Scope;
 use cell_types::{CellKind, Level, Levels, Port, Resets, Shape, Signs, StorageKind, Widths};
 use rtl_bits::{Bit, Bits, Memory, Seq};
-use rtl_ir::Wire;
+use rtl_ir::Join;
 use rtl_sig::SigBit;
 use std::alloc::Global;
 
@@ -37,6 +44,13 @@ pub(crate) struct Register {
 pub(crate) struct Trigger<'a> {
     pub(crate) signal: &'a [SigBit],
     pub(crate) level: Level,
+}
+
+/// The edge or the level of this signal and this level.
+pub(crate) fn at_level(signal: &[SigBit], level: Level) -> Trigger<'_>
+    ensures value { trigger_of result ≡ record { signal = signal.now; level = level } }
+{
+    Trigger { signal, level }
 }
 
 /// What a register reads of an edge or a level, and that level.
@@ -144,27 +158,25 @@ impl Builder {
     /// A register for the left sides of these places, which takes over their right sides.
     pub(crate) fn add_registers(
         &mut self,
-        alloc: Global,
-        path: u32,
-        wires: &[Wire],
-        starts: &Starts,
+        scope: &Scope,
         register: &Register,
-        lines: &[Line],
+        lines: &[Join],
     ) -> Result<(), Memory>
-        requires in_range { path < length self.old.places.paths }
+        requires in_range { scope.now.path < length self.old.places.paths }
         ensures grows { OnOk result (Extends self.old.places self.new.places) }
-        ensures rows { (p : Path) → slice_get self.old.places.paths path ≡ Some p → (start : SigBit → Bit) → IsStart starts.now start →
+        ensures rows { (p : Path) → slice_get self.old.places.paths scope.now.path ≡ Some p → (start : SigBit → Bit) →
+            IsStart scope.now.starts.now start →
             (they : StorePoints) → ArePins self.old.places.places register.now.pins they →
-            OnOk result (Adds self.old self.new (map (register_row start p wires.now register.now they) (map join_of lines.now))) }
+            OnOk result (Adds self.old self.new (map (register_row start p scope.now.wires.now register.now they)
+            lines.now)) }
     {
-        let bits = self
-            .places
-            .registers(alloc, path, wires, starts, register, lines)?;
+        let bits = self.places.registers(scope, register, lines)?;
         let storage = Storage {
-            shape: rule_shape(alloc, register.kind, register.levels),
+            shape: rule_shape(scope.alloc, register.kind, register.levels),
             bits,
         };
-        self.parts.push(Part::Storage(Box::new(alloc, storage)?))?;
+        self.parts
+            .push(Part::Storage(Box::new(scope.alloc, storage)?))?;
         Ok(())
     }
 }
@@ -173,22 +185,21 @@ impl Places {
     /// The bits of a register, each with its source.
     fn registers(
         &mut self,
-        alloc: Global,
-        path: u32,
-        wires: &[Wire],
-        starts: &Starts,
+        scope: &Scope,
         register: &Register,
-        lines: &[Line],
+        lines: &[Join],
     ) -> Result<Seq<StoreBit>, Memory>
-        requires in_range { path < length self.old.paths }
+        requires in_range { scope.now.path < length self.old.paths }
         ensures grows { OnOk result (Extends self.old self.new) }
-        ensures value { (p : Path) → slice_get self.old.paths path ≡ Some p → (start : SigBit → Bit) → IsStart starts.now start →
+        ensures value { (p : Path) → slice_get self.old.paths scope.now.path ≡ Some p → (start : SigBit → Bit) →
+            IsStart scope.now.starts.now start →
             (they : StorePoints) → ArePins self.old.places register.now.pins they →
-            IfOk result (λ bits. AreRegisters self.new.places start p wires.now register.now they bits (map join_of lines.now)) }
+            IfOk result (λ bits.
+            AreRegisters self.new.places start p scope.now.wires.now register.now they bits lines.now) }
     {
-        let mut bits = Vec::with_capacity(alloc, lines.len())?;
+        let mut bits = Vec::with_capacity(scope.alloc, lines.len())?;
         for line in lines {
-            bits.push(self.register(path, wires, starts, register, *line)?)?;
+            bits.push(self.register(scope, register, *line)?)?;
         }
         Ok(Seq::from_vec(bits))
     }
@@ -196,42 +207,38 @@ impl Places {
     /// A bit of a register with its source.
     fn register(
         &mut self,
-        path: u32,
-        wires: &[Wire],
-        starts: &Starts,
+        scope: &Scope,
         register: &Register,
-        line: Line,
+        line: Join,
     ) -> Result<StoreBit, Memory>
-        requires in_range { path < length self.old.paths }
+        requires in_range { scope.now.path < length self.old.paths }
         ensures grows { OnOk result (Extends self.old self.new) }
-        ensures value { (p : Path) → slice_get self.old.paths path ≡ Some p → (start : SigBit → Bit) → IsStart starts.now start →
+        ensures value { (p : Path) → slice_get self.old.paths scope.now.path ≡ Some p → (start : SigBit → Bit) →
+            IsStart scope.now.starts.now start →
             (they : StorePoints) → ArePins self.old.places register.now.pins they →
-            IfOk result (λ bit. AreRegisters self.new.places start p wires.now register.now they (bit ∷ []) (join_of line ∷ [])) }
+            IfOk result (λ bit.
+            AreRegisters self.new.places start p scope.now.wires.now register.now they (bit ∷ []) (line ∷ [])) }
     {
-        let d = self.point(path, wires, line.source)?;
-        let number = self.bit(path, wires, line.bit)?;
+        let d = self.point(scope, line.source)?;
+        let number = self.bit(scope, line.bit)?;
         Ok(StoreBit {
             number,
             at: 0,
-            start: starts.at(SigBit::Wire(line.bit)),
+            start: scope.starts.at(SigBit::Wire(line.bit)),
             pins: StorePins { d, ..register.pins },
         })
     }
 
     /// What a register reads of an edge or a level.
-    pub(crate) fn control(
-        &mut self,
-        path: u32,
-        wires: &[Wire],
-        trigger: Trigger,
-    ) -> Result<Control, Memory>
-        requires in_range { path < length self.old.paths }
+    pub(crate) fn control(&mut self, scope: &Scope, trigger: Trigger) -> Result<Control, Memory>
+        requires in_range { scope.now.path < length self.old.paths }
         ensures grows { OnOk result (Extends self.old self.new) }
-        ensures value { (p : Path) → slice_get self.old.paths path ≡ Some p →
-            IfOk result (λ control. IsControl self.new.places p wires.now control (trigger_of trigger.entry)) }
+        ensures value { (p : Path) → slice_get self.old.paths scope.now.path ≡ Some p →
+            IfOk result (λ control.
+            IsControl self.new.places p scope.now.wires.now control (trigger_of trigger.entry)) }
     {
         Ok(Control {
-            point: self.first_point(path, wires, trigger.signal)?,
+            point: self.first_point(scope, trigger.signal)?,
             level: trigger.level,
         })
     }

@@ -9,12 +9,12 @@ ghost use Rattle.rtl_ir.specs.Types.{cell_type};
 ghost use Rattle.process_trees.specs.Fitting.{DoesFit};
 ghost use Rattle.flat_net.specs.Resets.{IsTest, KnowsTests};
 
-use crate::shapes::shape;
+use crate::rooted::Rooted;
 use cell_types::kind_of;
 use net_index::Types;
 use process_trees::EventTests;
 use rtl_bits::{Memory, Seq};
-use rtl_ir::{Cell, Module, PortTable, Switch};
+use rtl_ir::{Cell, Module, PortTable, Switch, fitting_shape};
 use rtl_sig::WireBit;
 use std::alloc::Global;
 
@@ -32,8 +32,15 @@ pub(crate) struct Reset<'a> {
     pub(crate) bit: WireBit,
 }
 
-/// The tables of a module. Tests lead through cells of the library alone. A module with a cell that has a fault is taken
-/// for want of memory.
+/// The tree of a process, with the tables by which tests of its reset are found.
+#[derive(Clone, Copy)]
+pub(crate) struct Tested<'a> {
+    pub(crate) rooted: &'a Rooted,
+    pub(crate) tests: Tests<'a>,
+}
+
+/// The tables of a module. Tests lead through cells of the library alone. A module with a cell that has a fault is
+/// taken for want of memory.
 pub(crate) fn tests_of(alloc: Global, body: &Module) -> Result<EventTests, Memory>
     ensures value { IfOk result (λ table. KnowsTests table body.now) }
 {
@@ -55,12 +62,12 @@ fn fit(alloc: Global, cells: &[Cell]) -> Result<(), Memory>
     Ok(())
 }
 
-/// The same of one cell.
+/// A cell of the library has the parameters and pins that its kind wants.
 fn fit_cell(alloc: Global, cell: &Cell) -> Result<(), Memory>
     ensures fit { OnOk result (DoesFit cell.now (cell_type no_modules cell.now.kind_name)) }
 {
     if let Some(kind) = kind_of(cell.kind_name.as_slice()) {
-        shape(alloc, cell, kind)?;
+        fitting_shape(alloc, kind, cell)?;
     }
     Ok(())
 }
@@ -71,7 +78,8 @@ pub(crate) fn test_of(
     reset: Option<Reset>,
     switch: &Switch,
 ) -> Result<Option<bool>, Memory>
-    ensures value { (test : SwitchTest) → IsTest reset.entry test → IfOk result (λ t. t ≡ test switch.now.signal (cases_patterns switch.now.cases)) }
+    ensures value { (test : SwitchTest) → IsTest reset.entry test →
+        IfOk result (λ t. t ≡ test switch.now.signal (cases_patterns switch.now.cases)) }
 {
     match reset {
         Some(reset) => {

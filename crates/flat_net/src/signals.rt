@@ -3,76 +3,65 @@
 ghost use Rattle.std.specs.Prelude.{◌≡◌, ◌<◌, Some, IfOk, OnOk, length, slice_get};
 ghost use Rattle.rtl_ir.specs.Flat.Place.{Path};
 ghost use Rattle.rtl_ir.specs.Flat.Point.{bit_place, name_or_empty, pin_points, point, point_at, points, wire_points};
-ghost use Rattle.rtl_ir.specs.Parameters.{signal_at};
 ghost use Rattle.flat_net.specs.Known.{Extends};
 ghost use Rattle.flat_net.specs.Reads.{ArePoints, IsPoint};
 
 use crate::net::Point;
 use crate::places::Places;
+use crate::scope::Scope;
 use cell_types::PinName;
 use rtl_bits::{Bit, Memory, Seq};
-use rtl_ir::{Pin, Wire};
+use rtl_ir::{Pin, Wire, pin_signal};
 use rtl_sig::{SigBit, WireBit};
 use std::alloc::Global;
 
 impl Places {
     /// A bit of a signal.
-    pub(crate) fn point(&mut self, path: u32, wires: &[Wire], bit: SigBit) -> Result<Point, Memory>
-        requires in_range { path < length self.old.paths }
+    pub(crate) fn point(&mut self, scope: &Scope, bit: SigBit) -> Result<Point, Memory>
+        requires in_range { scope.now.path < length self.old.paths }
         ensures grows { OnOk result (Extends self.old self.new) }
-        ensures value { (p : Path) → slice_get self.old.paths path ≡ Some p →
-            IfOk result (λ it. IsPoint self.new.places it (point p wires.now bit)) }
+        ensures value { (p : Path) → slice_get self.old.paths scope.now.path ≡ Some p →
+            IfOk result (λ it. IsPoint self.new.places it (point p scope.now.wires.now bit)) }
     {
         match bit {
             SigBit::Fixed(value) => Ok(Point::Constant(value)),
-            SigBit::Wire(bit) => Ok(Point::At(self.bit(path, wires, bit)?)),
+            SigBit::Wire(bit) => Ok(Point::At(self.bit(scope, bit)?)),
         }
     }
 
     /// The lowest bit of a signal, the constant x where there is none.
-    pub(crate) fn first_point(
-        &mut self,
-        path: u32,
-        wires: &[Wire],
-        signal: &[SigBit],
-    ) -> Result<Point, Memory>
-        requires in_range { path < length self.old.paths }
+    pub(crate) fn first_point(&mut self, scope: &Scope, signal: &[SigBit]) -> Result<Point, Memory>
+        requires in_range { scope.now.path < length self.old.paths }
         ensures grows { OnOk result (Extends self.old self.new) }
-        ensures value { (p : Path) → slice_get self.old.paths path ≡ Some p →
-            IfOk result (λ it. IsPoint self.new.places it (point_at (points p wires.now signal.now) 0)) }
+        ensures value { (p : Path) → slice_get self.old.paths scope.now.path ≡ Some p →
+            IfOk result (λ it. IsPoint self.new.places it (point_at (points p scope.now.wires.now signal.now) 0)) }
     {
         match signal.first() {
-            Some(bit) => self.point(path, wires, *bit),
+            Some(bit) => self.point(scope, *bit),
             None => Ok(Point::Constant(Bit::X)),
         }
     }
 
     /// The number of a bit of a wire.
-    pub(crate) fn bit(&mut self, path: u32, wires: &[Wire], bit: WireBit) -> Result<u32, Memory>
-        requires in_range { path < length self.old.paths }
+    pub(crate) fn bit(&mut self, scope: &Scope, bit: WireBit) -> Result<u32, Memory>
+        requires in_range { scope.now.path < length self.old.paths }
         ensures grows { OnOk result (Extends self.old self.new) }
-        ensures value { (p : Path) → slice_get self.old.paths path ≡ Some p →
-            IfOk result (λ number. slice_get self.new.places number ≡ Some (bit_place p wires.now bit)) }
+        ensures value { (p : Path) → slice_get self.old.paths scope.now.path ≡ Some p →
+            IfOk result (λ number. slice_get self.new.places number ≡ Some (bit_place p scope.now.wires.now bit)) }
     {
-        self.number(path, name_of(wires, bit.wire), bit.at)
+        self.number(scope.path, name_of(scope.wires, bit.wire), bit.at)
     }
 
     /// The bits of a signal.
-    pub(crate) fn points(
-        &mut self,
-        alloc: Global,
-        path: u32,
-        wires: &[Wire],
-        signal: &[SigBit],
-    ) -> Result<Seq<Point>, Memory>
-        requires in_range { path < length self.old.paths }
+    pub(crate) fn points(&mut self, scope: &Scope, signal: &[SigBit]) -> Result<Seq<Point>, Memory>
+        requires in_range { scope.now.path < length self.old.paths }
         ensures grows { OnOk result (Extends self.old self.new) }
-        ensures value { (p : Path) → slice_get self.old.paths path ≡ Some p →
-            IfOk result (λ they. ArePoints self.new.places they (points p wires.now signal.now)) }
+        ensures value { (p : Path) → slice_get self.old.paths scope.now.path ≡ Some p →
+            IfOk result (λ they. ArePoints self.new.places they (points p scope.now.wires.now signal.now)) }
     {
-        let mut points = Vec::with_capacity(alloc, signal.len())?;
+        let mut points = Vec::with_capacity(scope.alloc, signal.len())?;
         for bit in signal {
-            points.push(self.point(path, wires, *bit)?)?;
+            points.push(self.point(scope, *bit)?)?;
         }
         Ok(Seq::from_vec(points))
     }
@@ -80,18 +69,16 @@ impl Places {
     /// The bits at a pin of a cell of the library.
     pub(crate) fn pin_points(
         &mut self,
-        alloc: Global,
-        path: u32,
-        wires: &[Wire],
+        scope: &Scope,
         pins: &[Pin],
         name: PinName,
     ) -> Result<Seq<Point>, Memory>
-        requires in_range { path < length self.old.paths }
+        requires in_range { scope.now.path < length self.old.paths }
         ensures grows { OnOk result (Extends self.old self.new) }
-        ensures value { (p : Path) → slice_get self.old.paths path ≡ Some p →
-            IfOk result (λ they. ArePoints self.new.places they (pin_points p wires.now pins.now name)) }
+        ensures value { (p : Path) → slice_get self.old.paths scope.now.path ≡ Some p →
+            IfOk result (λ they. ArePoints self.new.places they (pin_points p scope.now.wires.now pins.now name)) }
     {
-        self.points(alloc, path, wires, signal_at(pins, name.text()))
+        self.points(scope, pin_signal(pins, name))
     }
 
     /// The bits of the wire of this name, as many as it is wide.
@@ -123,16 +110,4 @@ fn name_of(wires: &[Wire], at: u32) -> &[u8]
         Some(wire) => wire.name.as_slice(),
         None => &[],
     }
-}
-
-/// The signal at the pin of this name, no bits where there is none.
-pub(crate) fn signal_at<'a>(pins: &'a [Pin], name: &[u8]) -> &'a [SigBit]
-    ensures value { result.now ≡ signal_at pins.now name.now }
-{
-    for pin in pins {
-        if pin.name.as_slice() == name {
-            return pin.sig.as_slice();
-        }
-    }
-    &[]
 }

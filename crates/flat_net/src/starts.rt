@@ -1,25 +1,21 @@
 //! The start values of the bits of a module.
 
-ghost use Rattle.std.specs.Prelude.{◌≡◌, List, [], ◌∷◌, IfOk, OnOk, codes, map, slice_index_or};
+ghost use Rattle.std.specs.Prelude.{◌≡◌, List, [], ◌∷◌, IfOk, OnOk, slice_index_or};
 ghost use Rattle.rtl_bits.specs.declared.bit.Bit.{Bit};
 ghost use Rattle.rtl_bits.specs.declared.bit.Bit.TheVariants.{X};
 ghost use Rattle.rtl_sig.specs.declared.sig.SigBit.{SigBit};
 ghost use Rattle.rtl_sig.specs.declared.sig.WireBit as rtl;
 ghost use Rattle.rtl_ir.specs.Decisions.{expanded, leaves_of};
 ghost use Rattle.rtl_ir.specs.Flat.Start.{first_constant, process_starts, start_of};
-ghost use Rattle.rtl_ir.specs.Attributes.{attribute_bits};
 ghost use Rattle.rtl_ir.specs.Tree.{CaseView};
 ghost use Rattle.process_trees.specs.Rounds.{AreLeaves};
-ghost use Rattle.flat_net.specs.Lines.{join_of};
 ghost use Rattle.flat_net.specs.Starts.{AreStarts, Gains, IsStart, starts_by, starts_of};
 
-use crate::lines::{Line, start_places};
 use crate::rooted::Rooted;
-use crate::values::value_bits;
 use net_index::BitTable;
 use process_trees::Leaves;
 use rtl_bits::{Bit, Bits, Memory};
-use rtl_ir::{Attribute, Process, Wire};
+use rtl_ir::{Join, Process, Wire, attribute_bits, init_joins};
 use rtl_sig::{SigBit, WireBit};
 use std::alloc::Global;
 
@@ -58,7 +54,7 @@ impl Starts {
     fn put_process(&mut self, alloc: Global, process: &Process) -> Result<(), Memory>
         ensures gains { OnOk result (Gains self.old self.new (process_starts process.now)) }
     {
-        let lines = start_places(alloc, process.syncs.as_slice())?;
+        let lines = init_joins(alloc, process.syncs.as_slice())?;
         if lines.is_empty() {
             return Ok(());
         }
@@ -69,8 +65,9 @@ impl Starts {
     }
 
     /// Gives each of these bits the constant that its source comes to.
-    fn give_all(&mut self, leaves: &Leaves, lines: &[Line]) -> Result<(), Memory>
-        ensures gains { (root : CaseView) (bits : List rtl.WireBit) → AreLeaves leaves.now root bits → OnOk result (Gains self.old self.new (starts_by root bits (map join_of lines.now))) }
+    fn give_all(&mut self, leaves: &Leaves, lines: &[Join]) -> Result<(), Memory>
+        ensures gains { (root : CaseView) (bits : List rtl.WireBit) → AreLeaves leaves.now root bits →
+            OnOk result (Gains self.old self.new (starts_by root bits lines.now)) }
     {
         for line in lines {
             self.give(line.bit, constant_of(leaves, line.source)?)?;
@@ -101,7 +98,8 @@ impl Starts {
 
 /// The constant that a source comes to. A source that comes to none is taken for want of memory.
 fn constant_of(leaves: &Leaves, source: SigBit) -> Result<Bit, Memory>
-    ensures value { (root : CaseView) (bits : List rtl.WireBit) → AreLeaves leaves.now root bits → IfOk result (λ b. b ≡ first_constant (leaves_of (expanded root bits source))) }
+    ensures value { (root : CaseView) (bits : List rtl.WireBit) → AreLeaves leaves.now root bits →
+        IfOk result (λ b. b ≡ first_constant (leaves_of (expanded root bits source))) }
 {
     match leaves.of_source(source).only {
         Some(SigBit::Fixed(value)) => Ok(value),
@@ -115,21 +113,9 @@ fn said_of(alloc: Global, wires: &[Wire]) -> Result<Vec<Bits>, Memory>
 {
     let mut said = Vec::with_capacity(alloc, wires.len())?;
     for wire in wires {
-        said.push(init_bits(alloc, wire.attributes.as_slice())?)?;
+        said.push(attribute_bits(alloc, wire.attributes.as_slice(), b"\\init")?)?;
     }
     Ok(said)
-}
-
-/// The bits of the attribute `\init`, none where there is no such attribute.
-fn init_bits(alloc: Global, attributes: &[Attribute]) -> Result<Bits, Memory>
-    ensures value { IfOk result (λ bits. bits ≡ attribute_bits attributes.now (codes "\\init")) }
-{
-    for attribute in attributes {
-        if attribute.name.as_slice() == b"\\init".as_slice() {
-            return value_bits(alloc, &attribute.value);
-        }
-    }
-    Ok(Bits::make(alloc))
 }
 
 /// What is said of a bit, x where nothing is.

@@ -14,58 +14,54 @@ ghost use Rattle.flat_net.specs.Starts.{IsStart};
 use crate::builder::Builder;
 use crate::net::{Part, Point, Storage, StoreBit};
 use crate::reads::Reads;
-use crate::shapes::shape;
-use crate::signals::signal_at;
-use crate::starts::Starts;
+use crate::scope::Scope;
 use cell_types::{CellKind, PinName};
 use rtl_bits::{Bit, Memory, Seq};
-use rtl_ir::{Cell, Wire};
+use rtl_ir::{Cell, fitting_shape, pin_signal};
 use rtl_sig::SigBit;
-use std::alloc::Global;
 
 impl Builder {
     /// A storage cell of this kind, of which the bits read this.
     pub(crate) fn add_store(
         &mut self,
-        alloc: Global,
-        path: u32,
-        wires: &[Wire],
-        starts: &Starts,
+        scope: &Scope,
         cell: &Cell,
         kind: CellKind,
         reads: &Reads,
     ) -> Result<(), Memory>
-        requires in_range { path < length self.old.places.paths }
+        requires in_range { scope.now.path < length self.old.places.paths }
         ensures grows { OnOk result (Extends self.old.places self.new.places) }
-        ensures rows { (p : Path) → slice_get self.old.places.paths path ≡ Some p → (start : SigBit → Bit) → IsStart starts.now start →
+        ensures rows { (p : Path) → slice_get self.old.places.paths scope.now.path ≡ Some p → (start : SigBit → Bit) →
+            IsStart scope.now.starts.now start →
             (they : ℕ → StorePoints) → AreReads self.old.places.places reads.now they →
-            OnOk result (Adds self.old self.new (stored_rows start p wires.now cell.now.pins (cell_shape kind cell.now.params) they)) }
+            OnOk result (Adds self.old self.new (stored_rows start p scope.now.wires.now cell.now.pins
+            (cell_shape kind cell.now.params) they)) }
     {
-        let signal = signal_at(cell.pins.as_slice(), PinName::Q.text());
-        let points = self.places.points(alloc, path, wires, signal)?;
+        let signal = pin_signal(cell.pins.as_slice(), PinName::Q);
+        let points = self.places.points(scope, signal)?;
         let storage = Storage {
-            shape: shape(alloc, cell, kind)?,
-            bits: store_bits(alloc, starts, signal, points.as_slice(), reads)?,
+            shape: fitting_shape(scope.alloc, kind, cell)?,
+            bits: store_bits(scope, signal, points.as_slice(), reads)?,
         };
-        self.parts.push(Part::Storage(Box::new(alloc, storage)?))?;
+        self.parts
+            .push(Part::Storage(Box::new(scope.alloc, storage)?))?;
         Ok(())
     }
 }
 
 /// The bits that a storage cell keeps. More than 2^32 are taken for want of memory.
 fn store_bits(
-    alloc: Global,
-    starts: &Starts,
+    scope: &Scope,
     signal: &[SigBit],
     points: &[Point],
     reads: &Reads,
 ) -> Result<Seq<StoreBit>, Memory>
-    ensures value { (start : SigBit → Bit) → IsStart starts.now start →
+    ensures value { (start : SigBit → Bit) → IsStart scope.now.starts.now start →
         IfOk result (λ bits. PutsStores start reads.now 0 [] bits signal.now points.now) }
 {
-    let mut bits = Vec::with_capacity(alloc, signal.len())?;
+    let mut bits = Vec::with_capacity(scope.alloc, signal.len())?;
     for at in 0..signal.len().min(points.len()) {
-        let start = starts.at(signal[at]);
+        let start = scope.starts.at(signal[at]);
         put_store(&mut bits, start, points[at], at, reads)?;
     }
     Ok(Seq::from_vec(bits))

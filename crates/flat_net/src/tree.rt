@@ -39,7 +39,8 @@ impl Builder {
     ) -> Result<(), Memory>
         requires in_range { path < length self.old.places.paths }
         ensures grows { OnOk result (Extends self.old.places self.new.places) }
-        ensures rows { (d : Design) → IsTable table.now d.modules → (p : Path) → slice_get self.old.places.paths path ≡ Some p →
+        ensures rows { (d : Design) → IsTable table.now d.modules → (p : Path) →
+            slice_get self.old.places.paths path ≡ Some p →
             OnOk result (Adds self.old self.new (in_tree d (rows_of (design_ports d)) (suc below) p body.now)) }
     {
         let mut visits = Vec::new(alloc);
@@ -69,9 +70,11 @@ impl Places {
     ) -> Result<(), Memory>
         requires in_range { path < length self.old.paths }
         ensures grows { OnOk result (Extends self.old self.new) }
-        ensures opens { (d : Design) → IsTable table.now d.modules → (p : Path) → slice_get self.old.paths path ≡ Some p →
+        ensures opens { (d : Design) → IsTable table.now d.modules → (p : Path) →
+            slice_get self.old.paths path ≡ Some p →
             OnOk result (Opens d self.new.paths visits.old.items visits.new.items below p cells.now) }
-        ensures pathed { ArePathed self.old.paths visits.old.items → OnOk result (ArePathed self.new.paths visits.new.items) }
+        ensures pathed { ArePathed self.old.paths visits.old.items →
+            OnOk result (ArePathed self.new.paths visits.new.items) }
     {
         for at in (0..cells.len()).rev() {
             self.open_instance(table, path, below, &cells[at], visits)?;
@@ -90,9 +93,11 @@ impl Places {
     ) -> Result<(), Memory>
         requires in_range { path < length self.old.paths }
         ensures grows { OnOk result (Extends self.old self.new) }
-        ensures opens { (d : Design) → IsTable table.now d.modules → (p : Path) → slice_get self.old.paths path ≡ Some p →
+        ensures opens { (d : Design) → IsTable table.now d.modules → (p : Path) →
+            slice_get self.old.paths path ≡ Some p →
             OnOk result (Opens d self.new.paths visits.old.items visits.new.items below p (cell.now ∷ [])) }
-        ensures pathed { ArePathed self.old.paths visits.old.items → OnOk result (ArePathed self.new.paths visits.new.items) }
+        ensures pathed { ArePathed self.old.paths visits.old.items →
+            OnOk result (ArePathed self.new.paths visits.new.items) }
     {
         let id = cell.kind_name.as_slice();
         if below == 0 || kind_of(id).is_some() {

@@ -20,35 +20,43 @@ use rtl_bits::{Memory, Seq};
 use rtl_ir::{Cell, Link, Machine, Module};
 use std::alloc::Global;
 
+/// What cells are recoded by: the index of their module, the codes, the machine, and the places of its cells.
+#[derive(Clone, Copy)]
+struct Recoding<'a> {
+    index: &'a Index,
+    coding: &'a Coding<'a>,
+    machine: &'a Machine,
+    places: &'a Places,
+}
+
 /// The cell at a place, by its part in the machine: what stands in its place goes last, and what is connected.
 fn push_coded(
     alloc: Global,
-    index: &Index,
-    coding: &Coding,
-    machine: &Machine,
-    places: &Places,
+    by: &Recoding<'_>,
     at: usize,
     cell: Cell,
     cells: &mut Vec<Cell>,
     links: &mut Seq<Link>,
 ) -> Result<(), Memory>
-    ensures ok { OnOk result ((ports : Ports) (m : Module) (b : Building) (count : ℕ) → IsIndex index.now ports m →
-        IsTabled coding.now.outputs → ArePlaces count machine.now places.now → at < count →
-        (cells.new.items, linked b links.new) ≡
-        behind cells.old.items (coded_cell m machine.now (coding_of coding.now) at cell (linked b links.old))) }
+    ensures ok { OnOk result ((ports : Ports) (m : Module) (b : Building) (count : ℕ) →
+        IsIndex by.now.index.now ports m →
+        IsTabled by.now.coding.now.outputs → ArePlaces count by.now.machine.now by.now.places.now → at < count →
+        (cells.new.items, linked b links.new) ≡ behind cells.old.items
+        (coded_cell m by.now.machine.now (coding_of by.now.coding.now) at cell (linked b links.old))) }
 {
+    let places = by.places;
     if at == places.flop {
-        let flop = coded_flop(alloc, index, coding, &machine.reset, cell)?;
+        let flop = coded_flop(alloc, by.index, by.coding, &by.machine.reset, cell)?;
         cells.push(flop)?;
         return Ok(());
     }
     if is_marked(places.forks.as_slice(), at) {
-        let fork = coded_fork(alloc, index, coding, cell)?;
+        let fork = coded_fork(alloc, by.index, by.coding, cell)?;
         cells.push(fork)?;
         return Ok(());
     }
     if is_marked(places.compares.as_slice(), at) {
-        push_compare(alloc, index, coding, cell, cells, links)?;
+        push_compare(alloc, by.index, by.coding, cell, cells, links)?;
         return Ok(());
     }
     cells.push(cell)?;
@@ -72,13 +80,17 @@ pub(crate) fn recoded_cells(
     let mut links = module.links;
     let mut cells = Vec::new(alloc);
     let mut at = 0;
+    let by = Recoding {
+        index,
+        coding,
+        machine,
+        places,
+    };
     for cell in module.cells.into_vec() {
         if at >= places.forks.len() {
             return Err(Memory);
         }
-        push_coded(
-            alloc, index, coding, machine, places, at, cell, &mut cells, &mut links,
-        )?;
+        push_coded(alloc, &by, at, cell, &mut cells, &mut links)?;
         at += 1;
     }
     Ok(Module {

@@ -28,7 +28,7 @@ fn unknowns(alloc: Global, count: usize) -> Result<SigSpec, Memory>
     ensures value { IfOk result (λ signal. signal ≡ replicate count (Fixed X)) }
 {
     let bits = vec![in alloc; SigBit::Fixed(Bit::X); count]?;
-    Ok(SigSpec::from_vec(bits))
+    SigSpec::from_vec(bits)
 }
 
 impl Coding<'_> {

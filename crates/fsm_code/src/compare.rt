@@ -66,7 +66,7 @@ fn zeros(alloc: Global, signal: &[SigBit]) -> Result<SigSpec, Memory>
     ensures value { IfOk result (λ zeros. zeros ≡ map (λ s. Fixed S0) signal.now) }
 {
     let bits = vec![in alloc; SigBit::Fixed(Bit::S0); signal.len()]?;
-    Ok(SigSpec::from_vec(bits))
+    SigSpec::from_vec(bits)
 }
 
 /// A connection of these goes last.
@@ -97,7 +97,7 @@ fn with_zeros(alloc: Global, bit: SigBit, signal: &[SigBit]) -> Result<SigSpec, 
             let mut right = Vec::new(alloc);
             right.push(bit)?;
             right.extend_from_slice(zeros(alloc, rest)?.as_slice())?;
-            Ok(SigSpec::from_vec(right))
+            SigSpec::from_vec(right)
         }
         None => Ok(SigSpec::make(alloc)),
     }

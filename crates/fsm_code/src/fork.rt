@@ -100,7 +100,7 @@ fn others(alloc: Global, signals: &[SigSpec]) -> Result<SigSpec, Memory>
     for at in 1..signals.len() {
         joined.extend_from_slice(signals[at].as_slice())?;
     }
-    Ok(SigSpec::from_vec(joined))
+    SigSpec::from_vec(joined)
 }
 
 /// The arms of a fork in the code.

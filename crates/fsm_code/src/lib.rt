@@ -40,8 +40,8 @@ use std::alloc::Global;
 /// of wires or on fresh names. After an error the module is given up. In the Yosys manual, the command `fsm_recode`,
 /// with `fsm_map`.
 ///
-/// Where a pass may be given the module, the machine is the one that is found for a wire of it, and no bit past the end of
-/// a wire is driven, no known output bit is lost. The answer may be given to the next pass.
+/// Where a pass may be given the module, the machine is the one that is found for a wire of it, and no bit past the
+/// end of a wire is driven, no known output bit is lost. The answer may be given to the next pass.
 pub fn recode(
     alloc: Global,
     module: Module,
@@ -55,7 +55,8 @@ pub fn recode(
         DrivesInside (table_ports ports.now.modules) «module» → RefinesIn «module» after ports.now) }
     ensures well_driven { IfOk result (λ after. (over : Ports) → IsMachineOf ports.now «module» machine.now →
         IsWellDriven over «module» → IsWellDriven over after) }
-    ensures well_formed { IfOk result (λ after. IsMachineOf ports.now «module» machine.now → IsReady (table_ports ports.now.modules) after) }
+    ensures well_formed { IfOk result (λ after. IsMachineOf ports.now «module» machine.now →
+        IsReady (table_ports ports.now.modules) after) }
     ensures inside { IfOk result (λ after. IsMachineOf ports.now «module» machine.now →
         DrivesInside (table_ports ports.now.modules) «module» → DrivesInside (table_ports ports.now.modules) after) }
     ensures same_id { IfOk result (λ after. after.id ≡ «module».id) }

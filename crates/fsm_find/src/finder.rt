@@ -23,7 +23,9 @@ ghost use Rattle.fsm_find.specs.View.{IsView};
 use crate::attributes::may_be_state;
 use crate::machine::{all_fit, comparing, mark_outputs};
 use crate::reach::Reach;
-use crate::readers::{Places, cells_read_well, mark, marked_places, place_number, ports_read_well};
+use crate::readers::{
+    Places, Readers, cells_read_well, mark, marked_places, place_number, ports_read_well,
+};
 use crate::starts::{Starts, start_values, states_of};
 use crate::tree::tree;
 use crate::view::View;
@@ -33,6 +35,15 @@ use net_index::{BitTable, Index, Types};
 use rtl_bits::{Bits, Memory, Seq};
 use rtl_ir::{Cell, Machine, Module, PortTable, Wire};
 use std::alloc::Global;
+
+/// A wire that may be a state, at its place, and the place of the flip-flop whose whole Q it is.
+#[derive(Drop)]
+struct Candidate<'a> {
+    view: View<'a>,
+    place: u32,
+    wire: &'a Wire,
+    flop: usize,
+}
 
 /// A module in which machines are looked for, with what is known of it for all its wires.
 #[derive(Drop)]
@@ -95,54 +106,49 @@ impl<'a> Finder<'a> {
             state,
         };
         match flop {
-            Some(at) => {
-                let machine = self.machine_by(&view, place, wire, at)?;
+            Some(flop) => {
+                let candidate = Candidate {
+                    view,
+                    place,
+                    wire,
+                    flop,
+                };
+                let machine = self.machine_by(&candidate)?;
                 Ok(machine)
             }
             None => Ok(None),
         }
     }
 
-    /// The machine of a wire that may be a state, with the flip-flop at this place, whose whole Q it is.
-    fn machine_by(
-        &self,
-        view: &View,
-        place: u32,
-        wire: &Wire,
-        flop: usize,
-    ) -> Result<Option<Machine>, Memory>
+    /// The machine of a wire that may be a state.
+    fn machine_by(&self, candidate: &Candidate<'_>) -> Result<Option<Machine>, Memory>
         ensures exact { IfOk result (λ machine. (ports : Ports) → IsFinder self.now ports →
-            IsView view.now ports self.now.body.now →
-            start_bits self.now.body.now view.now.state ≡ init_bits «wire».now →
-            machine ≡ machine_by ports self.now.body.now place view.now.state (Some flop)) }
+            IsView candidate.now.view ports self.now.body.now →
+            start_bits self.now.body.now candidate.now.view.state ≡ init_bits candidate.now.wire.now →
+            machine ≡ machine_by ports self.now.body.now candidate.now.place candidate.now.view.state
+            (Some candidate.now.flop)) }
     {
-        match cell_at(self.body.cells.as_slice(), flop) {
+        match cell_at(self.body.cells.as_slice(), candidate.flop) {
             Some(cell) => {
-                let machine = self.of_cell(view, place, wire, flop, cell)?;
+                let machine = self.of_cell(candidate, cell)?;
                 Ok(machine)
             }
             None => Ok(None),
         }
     }
 
-    /// The machine of a wire that may be a state, with this flip-flop at the place, whose whole Q it is.
-    fn of_cell(
-        &self,
-        view: &View,
-        place: u32,
-        wire: &Wire,
-        flop: usize,
-        cell: &Cell,
-    ) -> Result<Option<Machine>, Memory>
+    /// The machine of a wire that may be a state, with this flip-flop.
+    fn of_cell(&self, candidate: &Candidate<'_>, cell: &Cell) -> Result<Option<Machine>, Memory>
         ensures exact { IfOk result (λ machine. (ports : Ports) → IsFinder self.now ports →
-            IsView view.now ports self.now.body.now →
-            start_bits self.now.body.now view.now.state ≡ init_bits «wire».now →
-            slice_get self.now.body.now.cells flop ≡ Some cell.now →
-            machine ≡ machine_by ports self.now.body.now place view.now.state (Some flop)) }
+            IsView candidate.now.view ports self.now.body.now →
+            start_bits self.now.body.now candidate.now.view.state ≡ init_bits candidate.now.wire.now →
+            slice_get self.now.body.now.cells candidate.now.flop ≡ Some cell.now →
+            machine ≡ machine_by ports self.now.body.now candidate.now.place candidate.now.view.state
+            (Some candidate.now.flop)) }
     {
-        match tree(view, self.body, cell)? {
+        match tree(&candidate.view, self.body, cell)? {
             Some(reach) => {
-                let machine = self.of_tree(view, place, wire, flop, cell, reach)?;
+                let machine = self.of_tree(candidate, cell, reach)?;
                 Ok(machine)
             }
             None => Ok(None),
@@ -152,22 +158,21 @@ impl<'a> Finder<'a> {
     /// The machine with this tree.
     fn of_tree(
         &self,
-        view: &View,
-        place: u32,
-        wire: &Wire,
-        flop: usize,
+        candidate: &Candidate<'_>,
         cell: &Cell,
         reach: Reach,
     ) -> Result<Option<Machine>, Memory>
         ensures exact { IfOk result (λ machine. (ports : Ports) (t : Tree) → IsFinder self.now ports →
-            IsView view.now ports self.now.body.now →
-            start_bits self.now.body.now view.now.state ≡ init_bits «wire».now → IsFound self.now.body.now reach t →
-            machine ≡ if_machine ports self.now.body.now view.now.state cell.now
-            (made_machine self.now.body.now place view.now.state flop cell.now t)) }
+            IsView candidate.now.view ports self.now.body.now →
+            start_bits self.now.body.now candidate.now.view.state ≡ init_bits candidate.now.wire.now →
+            IsFound self.now.body.now reach t →
+            machine ≡ if_machine ports self.now.body.now candidate.now.view.state cell.now
+            (made_machine self.now.body.now candidate.now.place candidate.now.view.state candidate.now.flop cell.now
+            t)) }
     {
-        match start_values(self.alloc, wire, cell)? {
+        match start_values(self.alloc, candidate.wire, cell)? {
             Some(starts) => {
-                let machine = self.of_starts(view, place, flop, reach, starts)?;
+                let machine = self.of_starts(candidate, reach, starts)?;
                 Ok(machine)
             }
             None => Ok(None),
@@ -177,24 +182,22 @@ impl<'a> Finder<'a> {
     /// The machine with this tree, which may start from these values.
     fn of_starts(
         &self,
-        view: &View,
-        place: u32,
-        flop: usize,
+        candidate: &Candidate<'_>,
         reach: Reach,
         starts: Starts,
     ) -> Result<Option<Machine>, Memory>
         ensures exact { IfOk result (λ machine. (ports : Ports) (c : Cell) (t : Tree) → IsFinder self.now ports →
-            IsView view.now ports self.now.body.now →
-            AreStarts (reset_value c) (start_bits self.now.body.now view.now.state) starts →
+            IsView candidate.now.view ports self.now.body.now →
+            AreStarts (reset_value c) (start_bits self.now.body.now candidate.now.view.state) starts →
             IsFound self.now.body.now reach t →
-            machine ≡ if_machine ports self.now.body.now view.now.state c
-            (made_machine self.now.body.now place view.now.state flop c t)) }
+            machine ≡ if_machine ports self.now.body.now candidate.now.view.state c
+            (made_machine self.now.body.now candidate.now.place candidate.now.view.state candidate.now.flop c t)) }
     {
-        let width = view.state.as_slice().len();
+        let width = candidate.view.state.as_slice().len();
         match states_of(self.alloc, width, reach.known, &starts)? {
             Some(states) => {
                 let found = reach.found;
-                let machine = self.of_states(view, place, flop, found, states, starts)?;
+                let machine = self.of_states(candidate, found, states, starts)?;
                 Ok(machine)
             }
             None => Ok(None),
@@ -204,9 +207,7 @@ impl<'a> Finder<'a> {
     /// The machine with these states and the forks that are marked, where those who read it may.
     fn of_states(
         &self,
-        view: &View,
-        place: u32,
-        flop: usize,
+        candidate: &Candidate<'_>,
         found: Vec<bool>,
         states: Vec<Bits>,
         starts: Starts,
@@ -214,11 +215,14 @@ impl<'a> Finder<'a> {
         requires some { 1 ≤ length states.items }
         requires few { length states.items ≤ 64 }
         ensures exact { IfOk result (λ machine. (ports : Ports) (c : Cell) (made : Machine) → IsFinder self.now ports →
-            IsView view.now ports self.now.body.now →
-            IsDraft self.now.body.now view.now.state place flop found.items states.items starts made →
-            machine ≡ if_machine ports self.now.body.now view.now.state c made) }
+            IsView candidate.now.view ports self.now.body.now →
+            IsDraft self.now.body.now candidate.now.view.state candidate.now.place candidate.now.flop found.items
+            states.items starts made →
+            machine ≡ if_machine ports self.now.body.now candidate.now.view.state c made) }
     {
         let muxes = marked_places(self.alloc, found.as_slice())?;
+        let view = &candidate.view;
+        let flop = candidate.flop;
         let places = Places { forks: found, flop };
         if !self.is_read_well(view, &places, muxes.as_slice())? {
             return Ok(None);
@@ -229,7 +233,7 @@ impl<'a> Finder<'a> {
         let flop = place_number(flop)?;
         let compares = comparing(view, self.body)?;
         Ok(Some(Machine {
-            wire: place,
+            wire: candidate.place,
             flop,
             muxes,
             compares,
@@ -251,7 +255,12 @@ impl<'a> Finder<'a> {
         mark(&mut state, view.state.as_slice())?;
         let mut outputs = BitTable::of(self.alloc, wires)?;
         mark_outputs(&mut outputs, self.body, muxes)?;
-        if !cells_read_well(view, &self.types, places, &state, &outputs, cells)? {
+        let readers = Readers {
+            view,
+            types: &self.types,
+            machine: places,
+        };
+        if !cells_read_well(&readers, &state, &outputs, cells)? {
             return Ok(false);
         }
         mark_outputs(&mut state, self.body, muxes)?;

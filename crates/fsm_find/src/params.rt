@@ -4,8 +4,7 @@ ghost use Rattle.std.specs.Prelude.{◌≡◌, ◌&&◌, IfOk, map, slice_index_
 ghost use Rattle.std.specs.List.{range_with_len};
 ghost use Rattle.rtl_bits.specs.declared.bit.Bit.TheVariants.{X};
 ghost use Rattle.rtl_bits.specs.Tables.{seen_of};
-ghost use Rattle.cell_types.specs.declared.param_name.ParamName.TheVariants.{ASigned, ArstValue, BSigned};
-ghost use Rattle.cell_types.specs.Given.{value_in};
+ghost use Rattle.cell_types.specs.declared.param_name.ParamName.TheVariants.{ASigned, BSigned};
 ghost use Rattle.cell_types.specs.Shape.{is_set};
 ghost use Rattle.rtl_ir.specs.Flat.Cell.{cell_shape};
 ghost use Rattle.rtl_ir.specs.Attributes.{attribute_bits};
@@ -13,9 +12,9 @@ ghost use Rattle.rtl_ir.specs.Parameters.{given_params};
 ghost use Rattle.net_model.specs.Fsm.Find.{reset_value};
 ghost use Rattle.fsm_find.specs.Attributes.{init_bits};
 
-use cell_types::{CellKind, StorageKind};
-use rtl_bits::{Bit, Bits, Copied, Memory};
-use rtl_ir::{Cell, Wire, attribute_bits, cell_kind, fitting_shape};
+use cell_types::{CellKind, ParamName, StorageKind};
+use rtl_bits::{Bit, Bits, Memory};
+use rtl_ir::{Cell, Wire, attribute_bits, cell_kind, fitting_shape, value_in};
 use std::alloc::Global;
 
 /// Whether both operands of a cell of this kind are signed.
@@ -28,21 +27,16 @@ pub(crate) fn are_signed(alloc: Global, kind: CellKind, cell: &Cell) -> Result<b
     Ok(shape.signs.a && shape.signs.b)
 }
 
-/// The value of a reset of an `$adff`.
-#[tactic(auto, unfolding(rtl_ir::specs::Flat::Cell::cell_shape))]
-fn arst_value(alloc: Global, cell: &Cell) -> Result<Bits, Memory>
-    ensures value { IfOk result (λ bits. bits ≡ value_in (given_params cell.now.params) ArstValue) }
-{
-    let shape = fitting_shape(alloc, CellKind::Storage(StorageKind::Adff), cell)?;
-    shape.resets.arst.copy()
-}
-
 /// The reset value of a flip-flop that has a reset.
 pub(crate) fn reset_value(alloc: Global, cell: &Cell) -> Result<Option<Bits>, Memory>
     ensures value { IfOk result (λ value. value ≡ reset_value cell.now) }
 {
     match cell_kind(cell) {
-        Some(CellKind::Storage(StorageKind::Adff)) => Ok(Some(arst_value(alloc, cell)?)),
+        Some(CellKind::Storage(StorageKind::Adff)) => {
+            let params = cell.params.as_slice();
+            let value = value_in(alloc, params, ParamName::ArstValue)?;
+            Ok(Some(value))
+        }
         _ => Ok(None),
     }
 }

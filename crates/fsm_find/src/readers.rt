@@ -62,6 +62,14 @@ pub(crate) struct Places {
     pub(crate) flop: usize,
 }
 
+/// A machine whose readers are looked at: what is known of its module, the types of the cells, and its cells.
+#[derive(Clone, Copy)]
+pub(crate) struct Readers<'a> {
+    pub(crate) view: &'a View<'a>,
+    pub(crate) types: &'a Types<'a>,
+    pub(crate) machine: &'a Places,
+}
+
 /// The bits of the signal are marked too.
 pub(crate) fn mark(table: &mut BitTable<bool>, signal: &[SigBit]) -> Result<(), Memory>
     ensures ok { OnOk result ((bits : List WireBit) → AreMarks table.old bits →
@@ -176,20 +184,15 @@ fn is_compared(state: &[SigBit], a: &[SigBit], b: &[SigBit], signed: bool) -> bo
 }
 
 /// Whether the cell at a place reads the marked bits by no pin but those that may.
-fn reads_well(
-    view: &View,
-    types: &Types,
-    machine: &Places,
-    table: &BitTable<bool>,
-    at: usize,
-    cell: &Cell,
-) -> bool
-    ensures value { (ports : Ports) (m : Module) (places : List ℕ) (bits : List WireBit) → IsView view.now ports m →
-        AreTypes types.now ports → ArePlaces places machine.now.forks.items → AreMarks table.now bits →
-        result ≡ reads_well ports m places machine.now.flop bits at cell.now }
+fn reads_well(readers: &Readers<'_>, table: &BitTable<bool>, at: usize, cell: &Cell) -> bool
+    ensures value { (ports : Ports) (m : Module) (places : List ℕ) (bits : List WireBit) →
+        IsView readers.now.view.now ports m →
+        AreTypes readers.now.types.now ports → ArePlaces places readers.now.machine.now.forks.items →
+        AreMarks table.now bits →
+        result ≡ reads_well ports m places readers.now.machine.now.flop bits at cell.now }
 {
     for pin in cell.pins.as_slice() {
-        if !pin_reads_well(view, types, machine, table, at, cell, pin) {
+        if !pin_reads_well(readers, table, at, cell, pin) {
             return false;
         }
     }
@@ -198,25 +201,26 @@ fn reads_well(
 
 /// Whether the cell drives this pin, or may read by it, or reads no marked bit by it.
 fn pin_reads_well(
-    view: &View,
-    types: &Types,
-    machine: &Places,
+    readers: &Readers<'_>,
     table: &BitTable<bool>,
     at: usize,
     cell: &Cell,
     pin: &Pin,
 ) -> bool
-    ensures value { (ports : Ports) (m : Module) (places : List ℕ) (bits : List WireBit) → IsView view.now ports m →
-        AreTypes types.now ports → ArePlaces places machine.now.forks.items → AreMarks table.now bits →
-        result ≡ pin_reads_well ports m places machine.now.flop bits at cell.now pin.now }
+    ensures value { (ports : Ports) (m : Module) (places : List ℕ) (bits : List WireBit) →
+        IsView readers.now.view.now ports m →
+        AreTypes readers.now.types.now ports → ArePlaces places readers.now.machine.now.forks.items →
+        AreMarks table.now bits →
+        result ≡ pin_reads_well ports m places readers.now.machine.now.flop bits at cell.now pin.now }
 {
-    if is_output_pin(types, cell, pin) {
+    if is_output_pin(readers.types, cell, pin) {
         return true;
     }
+    let machine = readers.machine;
     if may_read(machine.forks.as_slice(), machine.flop, at, pin) {
         return true;
     }
-    if meets(view, table, pin.sig.as_slice()) {
+    if meets(readers.view, table, pin.sig.as_slice()) {
         return false;
     }
     true
@@ -233,20 +237,20 @@ fn is_output_pin(types: &Types, cell: &Cell, pin: &Pin) -> bool
 /// Whether the cells read the bits of the tree by no pin but those that may, and the state so too, but where they
 /// compare it.
 pub(crate) fn cells_read_well(
-    view: &View,
-    types: &Types,
-    machine: &Places,
+    readers: &Readers<'_>,
     state: &BitTable<bool>,
     outputs: &BitTable<bool>,
     cells: &[Cell],
 ) -> Result<bool, Memory>
     ensures value { IfOk result (λ well. (ports : Ports) (m : Module) (places : List ℕ) (bits : List WireBit) →
-        IsView view.now ports m → AreTypes types.now ports → ArePlaces places machine.now.forks.items →
-        AreMarks outputs.now bits → AreMarks state.now (wire_bits view.now.state) →
-        well ≡ cells_read_well ports m places machine.now.flop view.now.state bits 0 cells.now) }
+        IsView readers.now.view.now ports m → AreTypes readers.now.types.now ports →
+        ArePlaces places readers.now.machine.now.forks.items →
+        AreMarks outputs.now bits → AreMarks state.now (wire_bits readers.now.view.now.state) →
+        well ≡ cells_read_well ports m places readers.now.machine.now.flop readers.now.view.now.state bits 0
+        cells.now) }
 {
     for at in 0..cells.len() {
-        if !cell_reads_well(view, types, machine, state, outputs, at, &cells[at])? {
+        if !cell_reads_well(readers, state, outputs, at, &cells[at])? {
             return Ok(false);
         }
     }
@@ -256,22 +260,22 @@ pub(crate) fn cells_read_well(
 /// Whether the cell at a place reads the bits of the tree by no pin but those that may, and the state so too, but where
 /// it compares it.
 fn cell_reads_well(
-    view: &View,
-    types: &Types,
-    machine: &Places,
+    readers: &Readers<'_>,
     state: &BitTable<bool>,
     outputs: &BitTable<bool>,
     at: usize,
     cell: &Cell,
 ) -> Result<bool, Memory>
     ensures value { IfOk result (λ well. (ports : Ports) (m : Module) (places : List ℕ) (bits : List WireBit) →
-        IsView view.now ports m → AreTypes types.now ports → ArePlaces places machine.now.forks.items →
-        AreMarks outputs.now bits → AreMarks state.now (wire_bits view.now.state) →
-        well ≡ cell_reads_well ports m places machine.now.flop view.now.state bits at cell.now) }
+        IsView readers.now.view.now ports m → AreTypes readers.now.types.now ports →
+        ArePlaces places readers.now.machine.now.forks.items →
+        AreMarks outputs.now bits → AreMarks state.now (wire_bits readers.now.view.now.state) →
+        well ≡ cell_reads_well ports m places readers.now.machine.now.flop readers.now.view.now.state bits at
+        cell.now) }
 {
-    let outputs_well = reads_well(view, types, machine, outputs, at, cell);
-    let state_well = reads_well(view, types, machine, state, at, cell);
-    let compared = compares(view, cell)?;
+    let outputs_well = reads_well(readers, outputs, at, cell);
+    let state_well = reads_well(readers, state, at, cell);
+    let compared = compares(readers.view, cell)?;
     Ok(are_well(outputs_well, compared, state_well))
 }
 

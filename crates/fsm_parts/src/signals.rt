@@ -1,8 +1,8 @@
 //! Signals, and what they are among the leaves of a tree.
 
 ghost use Rattle.std.specs.Prelude.{◌≡◌, IfOk, map};
-ghost use Rattle.std.specs.List.{list_any};
-ghost use Rattle.rtl_bits.specs.Knowledge.{all_known, is_known};
+ghost use Rattle.std.specs.List.{list_all, list_any};
+ghost use Rattle.rtl_bits.specs.Knowledge.{is_known};
 ghost use Rattle.rtl_ir.specs.declared.module.Module.{Module};
 ghost use Rattle.rtl_ir.specs.declared.wire.Wire.{Wire};
 ghost use Rattle.rtl_ir.specs.Follow.{follow};
@@ -17,9 +17,9 @@ use rtl_ir::{constant_of, is_all_constant, same_signal};
 use rtl_sig::{SigBit, SigSpec};
 use std::alloc::Global;
 
-/// Whether each bit is known, where those that are not constant count as x.
+/// Whether each bit is a known constant.
 fn are_known(signal: &[SigBit]) -> bool
-    ensures value { result ≡ all_known (map constant_of signal.now) }
+    ensures value { result ≡ list_all (λ s. is_known (constant_of s)) signal.now }
 {
     for bit in signal {
         if !constant_of(*bit).known() {

@@ -12,7 +12,7 @@ pub fn filled(alloc: Global, bit: Bit, width: usize) -> Result<SigSpec, Memory>
     ensures value { IfOk result (λ word. word ≡ replicate width (Fixed bit)) }
 {
     let bits = vec![in alloc; SigBit::Fixed(bit); width]?;
-    Ok(SigSpec::from_vec(bits))
+    SigSpec::from_vec(bits)
 }
 
 /// A word with another one on top of it.
@@ -21,7 +21,7 @@ pub fn joined(alloc: Global, below: &[SigBit], above: &[SigBit]) -> Result<SigSp
 {
     let mut bits = Vec::from_slice(alloc, below)?;
     bits.extend_from_slice(above)?;
-    Ok(SigSpec::from_vec(bits))
+    SigSpec::from_vec(bits)
 }
 
 /// The lowest bits of a word, as far as it goes.

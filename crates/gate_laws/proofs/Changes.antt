@@ -1,6 +1,6 @@
 -- The rules make a gate of a gate.
 use Rattle.std.proofs.Common.{◌≡◌, ℕ, suc, zero, Bool, true, false, List, [], ◌∷◌, length, Option, Some, None, if◌then◌else◌, ◌⊎◌, inl, inr, refl, sym, subst}
-use Rattle.std.specs.Prelude.{◌&&◌, ◌==◌}
+use Rattle.std.specs.Prelude.{◌&&◌, ◌==◌, ◌*◌, ◌++◌}
 use Rattle.std.specs.List.{list_all}
 use Rattle.std.specs.Option.{option_map, option_map_or}
 use Rattle.cell_types.specs.declared.gate.GateKind.{GateKind}
@@ -28,7 +28,8 @@ use Rattle.expr_rules.specs.Rules.Compare.{beside_bit, of_equals, one_bit_compar
 use Rattle.expr_rules.specs.Rules.Fold.{folded_bit}
 use Rattle.expr_rules.specs.Rules.Logic.{beside_ones, beside_zeros}
 use Rattle.expr_rules.specs.Rules.Mux.{arm_of}
-use Rattle.expr_rules.specs.Signals.{first_bit, is_bit, is_unknown_constant, is_zero, same_word}
+use Rattle.expr_rules.specs.Rules.Parts.{number_in}
+use Rattle.expr_rules.specs.Signals.{filled, first_bit, is_bit, is_unknown_constant, is_zero, part_of, same_word}
 use Rattle.expr_rules.specs.declared.change.Change.{Change}
 use Rattle.expr_rules.specs.declared.change.Change.TheVariants.{Becomes, Gives}
 use Rattle.expr_rules.specs.declared.operands.Operands.{Operands}
@@ -103,6 +104,7 @@ module _ (shape : Shape) (o : Operands) (inverts : IsNewGate (inverter_kind shap
   by_left By.ConstantInputs kind = given _ _
   by_left By.KnownValue kind = given _ _
   by_left By.Buffer (Word.Unary Unaries.Pos) = tt
+  by_left By.Buffer Word.Buf = tt
   by_left By.Buffer kind = tt
   by_left By.Wiring Word.Slice = tt
   by_left By.Wiring Word.Concat = tt
@@ -158,6 +160,14 @@ module _ (shape : Shape) (o : Operands) (inverts : IsNewGate (inverter_kind shap
   by_left By.OneBit (Word.Fold kind) = folded kind
   by_left By.OneBit Word.Pmux = when_left (length o.s == 1) (chooser shape.kind o.a o.b o.s) chooses
   by_left By.OneBit kind = tt
+  by_left By.KnownSelects Word.Bwmux = given _ _
+  by_left By.KnownSelects kind = tt
+  by_left By.EqualWords Word.Bwmux = given (same_word o.a o.b) o.a
+  by_left By.EqualWords kind = tt
+  by_left By.KnownPart Word.Bmux = map_left (λ part. Gives (part_of o.a (part * shape.widths.y) shape.widths.y)) (number_in o.s) (λ part. tt)
+  by_left By.KnownPart kind = tt
+  by_left By.KnownPlace Word.Demux = map_left (λ part. Gives (filled (part * length o.a) S0 ++ o.a)) (number_in o.s) (λ part. tt)
+  by_left By.KnownPlace kind = tt
 
   gate_left : (rule : Rule) → IfLeavesGate (result_of_gate rule shape o)
   gate_left By.ConstantInputs = given _ _

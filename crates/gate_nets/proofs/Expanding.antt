@@ -80,7 +80,7 @@ pub given_renamed : (id : List ℕ) (y : List SigBit) (m : Build (List SigBit)) 
 given_renamed id y m b n = ap (λ z. give_to y z.0 z.1) (n.unnamed id b)
 
 -- how many numbers gates take
-next_after : (gates : List Gate) (b : Building) → (gates_of gates b).next ≡ b.next + 2 * length gates
+pub next_after : (gates : List Gate) (b : Building) → (gates_of gates b).next ≡ b.next + 2 * length gates
 next_after [] b = omega arith
 next_after (g ∷ gates) b = omega (arith, next_after gates (gate_of g b).1, next_number g b)
 
@@ -114,6 +114,18 @@ word_value : (kind : WordKind) (shape : Shape) (inputs : List (List Point)) (at 
     → driver_value (Worked shape inputs at) t w ≡ slice_index_or (word_values.value_of kind shape (input_of (read_words w inputs) 0) (input_of (read_words w inputs) 1) (input_of (read_words w inputs) 2)) at X
 word_value kind shape inputs at t w e =
     ap (λ k. worked_of k shape (read_words w inputs) at) e ∙ ap (λ k. slice_index_or (value_by k shape (read_words w inputs)) at X) e
+
+-- a bit of the value of a word cell, under a valuation
+pub cell_value : (ports : Ports) (start : SigBit → Bit) (p : Path) (wires : List Wire) (t : Time Place) (w : Valuation) (c : Cell) (kind : WordKind) (at : ℕ)
+    → slice_index_or (word_values.value_of kind (cell_shape (Word kind) c.params) (map (here ports start p wires t w) (pin_signal c A)) (map (here ports start p wires t w) (pin_signal c B)) (map (here ports start p wires t w) (pin_signal c S))) at X
+    ≡ driver_value (Worked (cell_shape (Word kind) c.params) (pin_points p wires c.pins A ∷ pin_points p wires c.pins B ∷ pin_points p wires c.pins S ∷ []) at) t w
+cell_value ports start p wires t w c kind at =
+    let f : SigBit → Bit = here ports start p wires t w in
+    let shape : Shape = cell_shape (Word kind) c.params in
+    ap (λ z. slice_index_or (word_values.value_of kind shape z (map f (pin_signal c B)) (map f (pin_signal c S))) at X) (sym (read_signal p wires w (pin_signal c A)))
+    ∙ ap (λ z. slice_index_or (word_values.value_of kind shape (read_all w (pin_points p wires c.pins A)) z (map f (pin_signal c S))) at X) (sym (read_signal p wires w (pin_signal c B)))
+    ∙ ap (λ z. slice_index_or (word_values.value_of kind shape (read_all w (pin_points p wires c.pins A)) (read_all w (pin_points p wires c.pins B)) z) at X) (sym (read_signal p wires w (pin_signal c S)))
+    ∙ sym (word_value kind shape (pin_points p wires c.pins A ∷ pin_points p wires c.pins B ∷ pin_points p wires c.pins S ∷ []) at t w (shape_kind (Word kind) c.params))
 
 same_number : (n : ℕ) → not (n == n) ≡ false
 same_number n = grind (arith, nat_tests)
@@ -201,12 +213,7 @@ module _ (c : Cell) (kind : WordKind) (m : Build (List SigBit)) (b : Building) w
           let says = (n.holds b tt (fair_rows ports start p wires t w b.next few gates (λ x j. all x (In-left x cells links j)))).1 in
           let shape : Shape = cell_shape (Word kind) c.params in
           let words : List (List Point) = pin_points p wires c.pins A ∷ pin_points p wires c.pins B ∷ pin_points p wires c.pins S ∷ [] in
-          let value : (at : ℕ) → slice_index_or (word_values.value_of kind shape (map f (pin_signal c A)) (map f (pin_signal c B)) (map f (pin_signal c S))) at X ≡ driver_value (Worked shape words at) t w =
-          λ at.
-          ap (λ z. slice_index_or (word_values.value_of kind shape z (map f (pin_signal c B)) (map f (pin_signal c S))) at X) (sym (read_signal p wires w (pin_signal c A)))
-          ∙ ap (λ z. slice_index_or (word_values.value_of kind shape (read_all w (pin_points p wires c.pins A)) z (map f (pin_signal c S))) at X) (sym (read_signal p wires w (pin_signal c B)))
-          ∙ ap (λ z. slice_index_or (word_values.value_of kind shape (read_all w (pin_points p wires c.pins A)) (read_all w (pin_points p wires c.pins B)) z) at X) (sym (read_signal p wires w (pin_signal c S)))
-          ∙ sym (word_value kind shape words at t w (shape_kind (Word kind) c.params)) in
+          let value : (at : ℕ) → slice_index_or (word_values.value_of kind shape (map f (pin_signal c A)) (map f (pin_signal c B)) (map f (pin_signal c S))) at X ≡ driver_value (Worked shape words at) t w = cell_value ports start p wires t w c kind in
           let below : (k : ℕ) → k < length y → Below (driver_value (Worked shape words (0 + k)) t w) (f (slice_index_or (extended (m b).0 (length y) false) k (Fixed S0))) =
           λ k lt.
           let zero_more : k ≡ 0 + k = omega arith in

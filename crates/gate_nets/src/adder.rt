@@ -73,7 +73,7 @@ fn zeros(alloc: Global, width: usize) -> Result<SigSpec, Memory>
     ensures value { IfOk result (λ zero. zero ≡ replicate width (Fixed S0)) }
 {
     let bits = vec![in alloc; SigBit::Fixed(Bit::S0); width]?;
-    Ok(SigSpec::from_vec(bits))
+    SigSpec::from_vec(bits)
 }
 
 /// The two's complement of a word: the sum of its inverse and 1.

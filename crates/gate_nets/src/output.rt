@@ -23,5 +23,5 @@ pub fn give(
     let mut wide = Vec::from_slice(alloc, bits)?;
     wide.resize(y.len(), SigBit::Fixed(Bit::S0))?;
     let left = SigSpec::from_slice(alloc, y)?;
-    builder.connect(&left, &SigSpec::from_vec(wide))
+    builder.connect(&left, &SigSpec::from_vec(wide)?)
 }

@@ -34,7 +34,8 @@ pub fn expand(
     ensures over { result ≡ Err PassFault.Over → PassesLimit (map_of shape.now cell.now builder.old) }
     ensures within { IsInLimits builder.old → OnOk result (IsInLimits builder.new) }
     ensures expansion { OnOk result (IsShapeOf cell.now shape.now → is_mapped shape.now.kind ≡ true →
-        IsWhole (length builder.old.body.wires) shape.now.kind cell.now → IsExpansion builder.old builder.new cell.now) }
+        IsWhole (length builder.old.body.wires) shape.now.kind cell.now →
+        IsExpansion builder.old builder.new cell.now) }
     ensures refines { OnOk result (IsShapeOf cell.now shape.now → is_mapped shape.now.kind ≡ true →
         (ports : Ports) (start : SigBit → Bit) (wires : List Wire) →
         StandsWith ports start wires cell.now (cells_added builder.old builder.new) (links_added builder.old builder.new)) }

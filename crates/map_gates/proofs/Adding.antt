@@ -40,7 +40,7 @@ put_limits cell at y b h = record {
   names = omega (arith, h.names);
 }
 
-each_limits : (cell : ℕ → ℕ → SigBit → Cell) (at : ℕ) (ys : List SigBit) (b : Building) → IsInLimits (each_bit (puts cell) at ys b) → IsInLimits b
+pub each_limits : (cell : ℕ → ℕ → SigBit → Cell) (at : ℕ) (ys : List SigBit) (b : Building) → IsInLimits (each_bit (puts cell) at ys b) → IsInLimits b
 each_limits cell at [] b h = h
 each_limits cell at (y ∷ ys) b h = put_limits cell at y b (each_limits cell (suc at) ys (puts cell at y b) h)
 

@@ -10,7 +10,7 @@ use Rattle.cell_types.specs.declared.word.BitwiseKind.{BitwiseKind}
 use Rattle.cell_types.specs.declared.word.BitwiseKind.TheVariants.{And, Or, Xor, Xnor}
 use Rattle.cell_types.specs.declared.word.UnaryKind.TheVariants.{Not}
 use Rattle.cell_types.specs.declared.word.WordKind.{WordKind}
-use Rattle.cell_types.specs.declared.word.WordKind.TheVariants.{Unary, Bitwise, Mux}
+use Rattle.cell_types.specs.declared.word.WordKind.TheVariants.{Unary, Bitwise, Mux, Bwmux}
 use Rattle.cell_word.specs.Bitwise.{bit_by}
 use Rattle.cell_word.specs.Values as word_values
 use Rattle.cell_word.specs.Values.{both_signed, input_of, value_by}
@@ -72,6 +72,9 @@ module _ (ports : Ports) (start : SigBit → Bit) (wires : List Wire) (c : Cell)
 
   abbrev s_at : SigBit
   s_at = bit_at false (pin_signal c S) 0
+
+  abbrev s_at_each : ℕ → SigBit
+  s_at_each at = bit_at false (pin_signal c S) at
 
   pub inverse_stands : cell_kind c ≡ Some (Word (Unary Not)) → Stands (Unary Not)
   inverse_stands word = by (cell_shape (Word (Unary Not)) c.params) refl
@@ -137,3 +140,24 @@ module _ (ports : Ports) (start : SigBit → Bit) (wires : List Wire) (c : Cell)
           let word' = word_below (λ at. mux_of (slice_index_or (read_all w (points p wires (pin_signal c A))) at X) (slice_index_or (read_all w (points p wires (pin_signal c B))) at X) (slice_index_or (read_all w (points p wires (pin_signal c S))) 0 X)) shape.widths.y at z (λ lt. below) in
           let same : value_of (Worked shape (words_of p wires c) at) t w ≡ value_of (Worked (cell_shape (Word Mux) c.params) (words_of p wires c) at) t w = ap (λ s. value_of (Worked s (words_of p wires c) at) t w) e in
           subst (λ v. Below v z) (sym (word_value Mux shape (words_of p wires c) at t w (ap (λ s. s.kind) e ∙ shape_kind (Word Mux) c.params)) ∙ same) word')
+
+  pub bwmux_stands : cell_kind c ≡ Some (Word Bwmux) → Stands Bwmux
+  bwmux_stands word = by (cell_shape (Word Bwmux) c.params) refl
+    where
+      by : (shape : Shape) → shape ≡ cell_shape (Word Bwmux) c.params → StandsFor ports start wires c (cells_added b (gates_of (Word Bwmux) shape c b))
+      by shape e =
+          gates_stand ports start wires c Bwmux GateOf.Mux
+          (λ at n y. cell_named (gate_name GateOf.Mux) [] (one A (a_at false at) ∷ one B (b_at false at) ∷ one S (s_at_each at) ∷ one Y y ∷ []) n)
+          (λ p at. (point p wires (a_at false at) ∷ []) ∷ (point p wires (b_at false at) ∷ []) ∷ (point p wires (s_at_each at) ∷ []) ∷ []) b word
+          (λ at n y. gate_named GateOf.Mux (one A (a_at false at) ∷ one B (b_at false at) ∷ one S (s_at_each at) ∷ one Y y ∷ []) n)
+          (λ p at n y. refl)
+          (λ p t w at z h.
+          let inputs : List (List Point) = (point p wires (a_at false at) ∷ []) ∷ (point p wires (b_at false at) ∷ []) ∷ (point p wires (s_at_each at) ∷ []) ∷ [] in
+          let below : Below (mux_of (slice_index_or (read_all w (points p wires (pin_signal c A))) at X) (slice_index_or (read_all w (points p wires (pin_signal c B))) at X) (slice_index_or (read_all w (points p wires (pin_signal c S))) at X)) z =
+          Below_trans _ (mux_of (read w (point p wires (a_at false at))) (read w (point p wires (b_at false at))) (read w (point p wires (s_at_each at)))) z
+          (mux_of_mono _ _ _ _ _ _ (operand_below p wires w (pin_signal c A) at) (operand_below p wires w (pin_signal c B) at) (operand_below p wires w (pin_signal c S) at))
+          (subst (λ v. Below v z) (gate_value GateOf.Mux inputs t w) h)
+          in
+          let word' = word_below (λ at. mux_of (slice_index_or (read_all w (points p wires (pin_signal c A))) at X) (slice_index_or (read_all w (points p wires (pin_signal c B))) at X) (slice_index_or (read_all w (points p wires (pin_signal c S))) at X)) shape.widths.y at z (λ lt. below) in
+          let same : value_of (Worked shape (words_of p wires c) at) t w ≡ value_of (Worked (cell_shape (Word Bwmux) c.params) (words_of p wires c) at) t w = ap (λ s. value_of (Worked s (words_of p wires c) at) t w) e in
+          subst (λ v. Below v z) (sym (word_value Bwmux shape (words_of p wires c) at t w (ap (λ s. s.kind) e ∙ shape_kind (Word Bwmux) c.params)) ∙ same) word')

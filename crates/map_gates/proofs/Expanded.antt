@@ -9,7 +9,7 @@ use Rattle.cell_types.specs.declared.pin_name.PinName.TheVariants.{A, B, S, Y}
 use Rattle.cell_types.specs.declared.shape.Shape.{Shape}
 use Rattle.cell_types.specs.declared.word.BitwiseKind.{BitwiseKind}
 use Rattle.cell_types.specs.declared.word.UnaryKind.TheVariants.{Not, Pos}
-use Rattle.cell_types.specs.declared.word.WordKind.TheVariants.{Unary, Fold, Bitwise, Logic, Equal, Mux, Pmux, Slice, Concat}
+use Rattle.cell_types.specs.declared.word.WordKind.TheVariants.{Unary, Fold, Bitwise, Logic, Equal, Mux, Pmux, Slice, Concat, Buf, Bwmux, Bmux, Demux}
 use Rattle.cell_word.specs.Values.{both_signed}
 use Rattle.rtl_bits.specs.declared.bit.Bit.{Bit}
 use Rattle.rtl_ir.specs.Build.{Building}
@@ -33,7 +33,8 @@ use Rattle.map_laws.specs.Operand.{pin_signal}
 use Rattle.gate_nets.specs.Gate.{one}
 use Rattle.map_gates.specs.Gates.{bit_at}
 use Rattle.map_gates.proofs.Adding.{cell_named}
-use Rattle.map_gates.proofs.Bits.{bitwise_stands, inverse_stands, mux_stands}
+use Rattle.map_gates.proofs.Bits.{bitwise_stands, bwmux_stands, inverse_stands, mux_stands}
+use Rattle.map_gates.proofs.Demuxing.{demux_expands, demux_stands}
 use Rattle.map_gates.proofs.Expanding.{each_adds, gates_expand}
 use Rattle.map_gates.proofs.Gating.{binary_for, mux_for, not_for, operand_in}
 
@@ -64,6 +65,12 @@ module _ (c : Cell) (b : Building) where
       (operand_in count false (pin_signal c A) at (signal_in count c.pins (pin_text A) whole.within))
       (operand_in count false (pin_signal c B) at (signal_in count c.pins (pin_text B) whole.within))
       (operand_in count false (pin_signal c S) 0 (signal_in count c.pins (pin_text S) whole.within)))
+  kind_expands (Word Bwmux) shape m whole =
+      gates_expand (λ at n y. cell_named (gate_name GateOf.Mux) [] (one A (bit_at false (pin_signal c A) at) ∷ one B (bit_at false (pin_signal c B) at) ∷ one S (bit_at false (pin_signal c S) at) ∷ one Y y ∷ []) n) Bwmux c b whole
+      (λ at n y h e. mux_for count n y h e (bit_at false (pin_signal c A) at) (bit_at false (pin_signal c B) at) (bit_at false (pin_signal c S) at)
+      (operand_in count false (pin_signal c A) at (signal_in count c.pins (pin_text A) whole.within))
+      (operand_in count false (pin_signal c B) at (signal_in count c.pins (pin_text B) whole.within))
+      (operand_in count false (pin_signal c S) at (signal_in count c.pins (pin_text S) whole.within)))
   kind_expands (Word (Unary Pos)) shape m whole = value_expands c (Unary Pos) b shape whole
   kind_expands (Word (Fold kind)) shape m whole = value_expands c (Fold kind) b shape whole
   kind_expands (Word (Logic kind)) shape m whole = value_expands c (Logic kind) b shape whole
@@ -71,6 +78,9 @@ module _ (c : Cell) (b : Building) where
   kind_expands (Word Pmux) shape m whole = value_expands c Pmux b shape whole
   kind_expands (Word Slice) shape m whole = value_expands c Slice b shape whole
   kind_expands (Word Concat) shape m whole = value_expands c Concat b shape whole
+  kind_expands (Word Demux) shape m whole = demux_expands c b whole
+  kind_expands (Word Buf) shape m whole = value_expands c Buf b shape whole
+  kind_expands (Word Bmux) shape m whole = value_expands c Bmux b shape whole
   kind_expands kind shape m whole = absurd (cc)
 
   -- where each bit of Y has a gate, no connections are added
@@ -85,6 +95,10 @@ module _ (c : Cell) (b : Building) where
   mux_links : (shape : Shape) → links_added b (gates_of (Word Mux) shape c b) ≡ []
   mux_links shape =
       links_are b _ _ [] [] (each_adds (λ at n y. cell_named (gate_name GateOf.Mux) [] (one A (bit_at false (pin_signal c A) at) ∷ one B (bit_at false (pin_signal c B) at) ∷ one S (bit_at false (pin_signal c S) 0) ∷ one Y y ∷ []) n) 0 (pin_signal c Y) b)
+
+  bwmux_links : (shape : Shape) → links_added b (gates_of (Word Bwmux) shape c b) ≡ []
+  bwmux_links shape =
+      links_are b _ _ [] [] (each_adds (λ at n y. cell_named (gate_name GateOf.Mux) [] (one A (bit_at false (pin_signal c A) at) ∷ one B (bit_at false (pin_signal c B) at) ∷ one S (bit_at false (pin_signal c S) at) ∷ one Y y ∷ []) n) 0 (pin_signal c Y) b)
 
   -- and the gates of a kind stand for the cell
   module _ (ports : Ports) (start : SigBit → Bit) (wires : List Wire) where
@@ -104,6 +118,8 @@ module _ (c : Cell) (b : Building) where
         without (Word (Bitwise kind)) shape same (bitwise_links kind shape) (bitwise_stands ports start wires c b kind own)
     kind_stands (Word Mux) shape same fit own m =
         without (Word Mux) shape same (mux_links shape) (mux_stands ports start wires c b own)
+    kind_stands (Word Bwmux) shape same fit own m =
+        without (Word Bwmux) shape same (bwmux_links shape) (bwmux_stands ports start wires c b own)
     kind_stands (Word (Unary Pos)) shape same fit own m = value_stands c (Unary Pos) b shape same fit own refl ports start wires
     kind_stands (Word (Fold kind)) shape same fit own m = value_stands c (Fold kind) b shape same fit own refl ports start wires
     kind_stands (Word (Logic kind)) shape same fit own m = value_stands c (Logic kind) b shape same fit own refl ports start wires
@@ -111,6 +127,9 @@ module _ (c : Cell) (b : Building) where
     kind_stands (Word Pmux) shape same fit own m = value_stands c Pmux b shape same fit own refl ports start wires
     kind_stands (Word Slice) shape same fit own m = value_stands c Slice b shape same fit own refl ports start wires
     kind_stands (Word Concat) shape same fit own m = value_stands c Concat b shape same fit own refl ports start wires
+    kind_stands (Word Demux) shape same fit own m = demux_stands c b fit own ports start wires
+    kind_stands (Word Buf) shape same fit own m = value_stands c Buf b shape same fit own refl ports start wires
+    kind_stands (Word Bmux) shape same fit own m = value_stands c Bmux b shape same fit own refl ports start wires
     kind_stands kind shape same fit own m = absurd (cc)
 
 -- the same of what is answered

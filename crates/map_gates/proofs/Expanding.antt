@@ -15,7 +15,7 @@ use Rattle.rtl_ir.specs.declared.cell.Cell.{Cell}
 use Rattle.net_model.proofs.Ranges.{signal_in}
 use Rattle.net_model.specs.Within.{BitIn, Each, SigIn}
 use Rattle.map_laws.specs.Expansion.{Adds, AreRising, IsExpansion, IsWhole, IsWholeGate, cell_bits, kind_bits}
-use Rattle.map_laws.proofs.Expanding.{adds_more, adds_none, expansion, wires_count}
+use Rattle.map_laws.proofs.Expanding.{adds_more, adds_none, wires_count}
 use Rattle.map_laws.proofs.Reordering.{to_permutation}
 use Rattle.map_laws.proofs.Wholes.{gate_more}
 use Rattle.pass_laws.proofs.Outputs.{output_wires}
@@ -23,6 +23,7 @@ use Rattle.map_laws.specs.Operand.{pin_signal}
 use Rattle.map_gates.specs.Gates.{each_bit}
 use Rattle.map_gates.proofs.Adding.{cells_from, puts}
 use Rattle.map_gates.proofs.Gating.{IsGateFor}
+use Rattle.map_gates.proofs.Pieces.{Piece, piece_expands}
 
 module _ (cell : ℕ → ℕ → SigBit → Cell) where
   one_adds : (at : ℕ) (y : SigBit) (b : Building) → Adds b (puts cell at y b) (cell at b.next y ∷ []) [] []
@@ -67,26 +68,30 @@ module _ (cell : ℕ → ℕ → SigBit → Cell) where
         first (sig.Fixed c) = refl
         first (sig.Wire w) = refl
 
-  -- one gate for each bit of the output of a word cell
-  pub gates_expand : (kind : WordKind) (c : Cell) (b : Building) → IsWhole (length b.body.wires) (Word kind) c
-      → ((at n : ℕ) (y : SigBit) → BitIn (length b.body.wires) y → is_constant y ≡ false → IsGateFor (length b.body.wires) n y (cell at n y))
-      → IsExpansion b (each_bit (puts cell) 0 (pin_signal c Y) b) c
-  gates_expand kind c b whole gate =
-      let ys : List SigBit = pin_signal c Y in
+  -- one gate for each bit is a piece that drives the bits
+  pub each_piece : (ys : List SigBit) (b : Building) → ((at n : ℕ) (y : SigBit) → BitIn (length b.body.wires) y → is_constant y ≡ false → IsGateFor (length b.body.wires) n y (cell at n y))
+      → SigIn (length b.body.wires) ys → has_constant ys ≡ false → Piece b (each_bit (puts cell) 0 ys b) (wire_bits ys)
+  each_piece ys b gate within wires =
       let count : ℕ = length b.body.wires in
       let new : Building = each_bit (puts cell) 0 ys b in
       let adds : Adds b new (cells_from cell 0 b.next ys) [] [] = each_adds 0 ys b in
-      let within : SigIn count ys = signal_in count c.pins (pin_text Y) whole.within in
-      let wires : has_constant ys ≡ false = output_wires (Word kind) c Y refl whole.output in
       let same : length new.body.wires ≡ count + 0 = wires_count b new (cells_from cell 0 b.next ys) [] [] adds in
-      expansion b new (cells_from cell 0 b.next ys) [] [] adds c (record {
+      record {
+        cells = cells_from cell 0 b.next ys;
+        wires = [];
         adds = adds;
         cell_names = each_named count gate 0 ys b within wires;
         wire_names = adds.next;
         bare = λ w i. absurd i;
         gates = λ d i. gate_more count (length new.body.wires) d (omega (arith, same)) (each_whole count gate 0 b.next ys within wires d i);
-        lines = λ l i. absurd i;
-        driven =
-            to_permutation _ _
-            (append-nil (flat_map cell_bits (cells_from cell 0 b.next ys)) ∙ each_bits count gate 0 b.next ys within wires ∙ ap (λ k. kind_bits k c) (sym whole.own));
-      })
+        driven = to_permutation _ _ (each_bits count gate 0 b.next ys within wires);
+      }
+
+  -- one gate for each bit of the output of a word cell is an expansion of it
+  pub gates_expand : (kind : WordKind) (c : Cell) (b : Building) → IsWhole (length b.body.wires) (Word kind) c
+      → ((at n : ℕ) (y : SigBit) → BitIn (length b.body.wires) y → is_constant y ≡ false → IsGateFor (length b.body.wires) n y (cell at n y))
+      → IsExpansion b (each_bit (puts cell) 0 (pin_signal c Y) b) c
+  gates_expand kind c b whole gate =
+      piece_expands b (each_bit (puts cell) 0 (pin_signal c Y) b) c
+      (subst (Piece b (each_bit (puts cell) 0 (pin_signal c Y) b)) (ap (λ k. kind_bits k c) (sym whole.own))
+      (each_piece (pin_signal c Y) b gate (signal_in (length b.body.wires) c.pins (pin_text Y) whole.within) (output_wires (Word kind) c Y refl whole.output)))

@@ -30,7 +30,7 @@ pub record IsGateFor (count n : ℕ) (y : SigBit) (g : Cell) : Type 0 where
   pub bits : cell_bits g ≡ wire_bits (y ∷ [])
   pub named : g.name ≡ made_name n
 
-one_in : (count : ℕ) (s : SigBit) → BitIn count s → SigIn count (s ∷ [])
+pub one_in : (count : ℕ) (s : SigBit) → BitIn count s → SigIn count (s ∷ [])
 one_in count s h t (inl e) = subst (BitIn count) (sym e) h
 one_in count s h t (inr i) = absurd i
 

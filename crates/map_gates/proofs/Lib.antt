@@ -4,10 +4,15 @@ pub mod Standing
 pub mod Operands
 pub mod Bits
 pub mod Gating
+pub mod Pieces
 pub mod Expanding
 pub mod Over
 pub mod Folding
 pub mod Choosing
+pub mod Halves
+pub mod Placing
+pub mod PartWidths
 pub mod Valued
+pub mod Demuxing
 pub mod Expanded
 pub mod Renaming

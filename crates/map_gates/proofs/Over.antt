@@ -28,3 +28,9 @@ pub mux_over : (a b : List SigBit) (s : SigBit) (at : ℕ) (ys : List SigBit) (o
     → PassesLimit (mux_gate (bit_at false a at) (bit_at false b at) s (get_or ys at d) old) → PassesLimit all
 mux_over a b s at ys old all d =
     over_here (λ at n y. cell_named (gate_name Mux) [] (one A (bit_at false a at) ∷ one B (bit_at false b at) ∷ one S s ∷ one Y y ∷ []) n) at ys old all d
+
+pub bwmux_over : (a b s : List SigBit) (at : ℕ) (ys : List SigBit) (old all : Building) (d : SigBit) → at < length ys
+    → each_bit (λ at y. mux_gate (bit_at false a at) (bit_at false b at) (bit_at false s at) y) at (drop at ys) old ≡ all
+    → PassesLimit (mux_gate (bit_at false a at) (bit_at false b at) (bit_at false s at) (get_or ys at d) old) → PassesLimit all
+bwmux_over a b s at ys old all d =
+    over_here (λ at n y. cell_named (gate_name Mux) [] (one A (bit_at false a at) ∷ one B (bit_at false b at) ∷ one S (bit_at false s at) ∷ one Y y ∷ []) n) at ys old all d

@@ -1,5 +1,5 @@
 -- Gates that stand for a word cell: each bit of its output has a gate that says no less.
-use Rattle.std.proofs.Common.{◌≡◌, ℕ, suc, ◌+◌, List, [], ◌∷◌, ◌++◌, Some, inl, inr, refl, sym, ◌∙◌, ap, subst}
+use Rattle.std.proofs.Common.{◌≡◌, ℕ, suc, ◌+◌, ◌<◌, ◌≤◌, List, [], ◌∷◌, ◌++◌, length, Some, inl, inr, refl, sym, ◌∙◌, ap, subst, arith}
 use Rattle.cell_gate.specs.Gates.{output_of}
 use Rattle.cell_types.specs.declared.gate.GateKind.{GateKind}
 use Rattle.cell_types.specs.declared.gate.GateKind.TheVariants as GateOf
@@ -65,15 +65,19 @@ no_instances cell kind is at n (y ∷ ys) =
     ap (λ k. listed (instance_of (cell at n y) k) ++ instances (cells_from cell (suc at) (n + 1) ys)) (is at n y) ∙ no_instances cell kind is (suc at) (n + 1) ys
 
 module _ (ports : Ports) (start : SigBit → Bit) (p : Path) (wires : List Wire) (t : Time Place) (w : Valuation) (shape gate : Shape) (words : List (List Point)) (cell : ℕ → ℕ → SigBit → Cell) (bits : ℕ → List (List Point)) where
-  -- where the gates have these rows, and each says no less than the word's bit, the rows of the gates settle the word's
+  -- where the gates have these rows, and each says no less than the word's bit at its place from one on, the rows of the gates
+  -- settle the word's
   pub rows_met :
+      (from high : ℕ) →
       ((at n : ℕ) (y : SigBit) → cell_rows start ports p wires (cell at n y) (cell_kind (cell at n y)) ≡ outputs gate (bits at) (point p wires y ∷ []) 0) →
-      ((at : ℕ) (z : Bit) → Below (value_of (Worked gate (bits at) 0) t w) z → Below (value_of (Worked shape words at) t w) z) →
-      (at n : ℕ) (ys : List SigBit) → ((e : Driven) → In e (cells_rows start ports p wires (cells_from cell at n ys)) → IsMet e t w) →
-      (d : Driven) → In d (outputs shape words (points p wires ys) at) → IsMet d t w
-  rows_met is says at n [] h d i = absurd i
-  rows_met is says at n (y ∷ ys) h d i =
-      by (point p wires y) refl (rows_met is says (suc at) (n + 1) ys (λ e j. h e (In-right e first rest j)) d) i
+      ((at : ℕ) (z : Bit) → at < high → Below (value_of (Worked gate (bits at) 0) t w) z → Below (value_of (Worked shape words (from + at)) t w) z) →
+      (at n : ℕ) (ys : List SigBit) → at + length ys ≤ high → ((e : Driven) → In e (cells_rows start ports p wires (cells_from cell at n ys)) → IsMet e t w) →
+      (d : Driven) → In d (outputs shape words (points p wires ys) (from + at)) → IsMet d t w
+  rows_met from high is says at n [] le h d i = absurd i
+  rows_met from high is says at n (y ∷ ys) le h d i =
+      let next : from + suc at ≡ suc (from + at) = omega arith in
+      by (point p wires y) refl
+      (λ j. rows_met from high is says (suc at) (n + 1) ys (omega (arith, le)) (λ e k. h e (In-right e first rest k)) d (subst (λ z. In d (outputs shape words (points p wires ys) z)) (sym next) j)) i
     where
       first : List Driven
       first = cell_rows start ports p wires (cell at n y) (cell_kind (cell at n y))
@@ -81,12 +85,12 @@ module _ (ports : Ports) (start : SigBit → Bit) (p : Path) (wires : List Wire)
       rest : List Driven
       rest = cells_rows start ports p wires (cells_from cell (suc at) (n + 1) ys)
 
-      by : (l : Point) → point p wires y ≡ l → (In d (outputs shape words (points p wires ys) (suc at)) → IsMet d t w) → In d (outputs shape words (l ∷ points p wires ys) at) → IsMet d t w
+      by : (l : Point) → point p wires y ≡ l → (In d (outputs shape words (points p wires ys) (suc (from + at))) → IsMet d t w) → In d (outputs shape words (l ∷ points p wires ys) (from + at)) → IsMet d t w
       by (Constant c) e later j = later j
       by (At q) e later (inl o) =
           let g : Driven = record { place = q; driver = Worked gate (bits at) 0 } in
           let here : In g first = subst (In g) (sym (is at n y ∙ ap (λ l. outputs gate (bits at) (l ∷ []) 0) e)) (inl refl) in
-          subst (λ z. IsMet z t w) (sym o) (says at (w q) (h g (In-left g first rest here)))
+          subst (λ z. IsMet z t w) (sym o) (says at (w q) (omega (arith, le)) (h g (In-left g first rest here)))
       by (At q) e later (inr j) = later j
 
 -- the words that a cell reads
@@ -104,9 +108,11 @@ gates_stand ports start wires c kind gate cell bits b word is rows says = record
   children =
       ap instances (added_is cell (pin_signal c Y) b) ∙ no_instances cell (Gate gate) is 0 b.next (pin_signal c Y) ∙ ap (λ k. listed (instance_of c k) ++ []) (sym word);
   rows = λ p t w s before d i.
-      rows_met ports start p wires t w (cell_shape (Word kind) c.params) (cell_shape (Gate gate) []) (words_of p wires c) cell (bits p)
+      let shape : Shape = cell_shape (Word kind) c.params in
+      let own : (at : ℕ) → at ≡ 0 + at = λ at. omega arith in
+      rows_met ports start p wires t w shape (cell_shape (Gate gate) []) (words_of p wires c) cell (bits p) 0 (length (pin_signal c Y))
       (λ at n y. ap (cell_rows start ports p wires (cell at n y)) (is at n y) ∙ rows p at n y)
-      (says p t w) 0 b.next (pin_signal c Y)
+      (λ at z lt h. subst (λ k. Below (value_of (Worked shape (words_of p wires c) k) t w) z) (own at) (says p t w at z h)) 0 b.next (pin_signal c Y) (omega arith)
       (λ e j. s.met e (subst (λ cells. In e (cells_rows start ports p wires cells)) (sym (added_is cell (pin_signal c Y) b)) j))
       d (subst (λ k. In d (cell_rows start ports p wires c k)) word i);
 }

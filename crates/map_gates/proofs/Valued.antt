@@ -1,5 +1,5 @@
 -- The nets whose results are given to Y: what they have, that they are expansions, and that they stand for their cells.
-use Rattle.std.proofs.Common.{◌≡◌, ℕ, zero, suc, ◌+◌, ◌*◌, ◌<◌, max, Bool, true, List, [], ◌∷◌, ◌++◌, drop, length, Some, None, inl, inr, refl, sym, ◌∙◌, ap, subst, arith}
+use Rattle.std.proofs.Common.{◌≡◌, ℕ, zero, suc, ◌+◌, ◌*◌, ◌^◌, ◌<◌, max, Bool, true, false, List, [], ◌∷◌, ◌++◌, drop, length, Some, None, inl, inr, refl, sym, ◌∙◌, ap, subst, arith}
 use Rattle.std.specs.Prelude.{map, slice_index_or}
 use Rattle.cell_types.specs.PinName.{pin_text}
 use Rattle.cell_types.specs.declared.kind.CellKind.TheVariants.{Word}
@@ -7,7 +7,7 @@ use Rattle.cell_types.specs.declared.pin_name.PinName.TheVariants.{A, B, S, Y}
 use Rattle.cell_types.specs.declared.shape.Shape.{Shape}
 use Rattle.cell_types.specs.declared.word.UnaryKind.TheVariants.{Pos}
 use Rattle.cell_types.specs.declared.word.WordKind.{WordKind}
-use Rattle.cell_types.specs.declared.word.WordKind.TheVariants.{Unary, Fold, Logic, Equal, Pmux, Slice, Concat}
+use Rattle.cell_types.specs.declared.word.WordKind.TheVariants.{Unary, Fold, Logic, Equal, Pmux, Slice, Concat, Buf, Bmux}
 use Rattle.cell_word.specs.Choice.{joined_of}
 use Rattle.cell_word.specs.Folds as values
 use Rattle.cell_word.specs.Values as word_values
@@ -43,6 +43,10 @@ use Rattle.gate_nets.proofs.Widths.{AreChosen, are_chosen}
 use Rattle.gate_nets.proofs.Wholes.{names}
 use Rattle.map_gates.specs.Expand.{is_given, one_bit, value_of}
 use Rattle.map_gates.specs.Folds.{folded_of, logic_of}
+use Rattle.map_gates.proofs.Halves.{halved_below, halved_bits, net_halved}
+use Rattle.map_gates.proofs.PartWidths.{ArePartsOf, are_parts}
+use Rattle.cell_word.specs.Parts.{bmuxed_bit}
+use Rattle.cell_word.proofs.Numbered.{merged_halved}
 use Rattle.map_gates.proofs.Choosing.{chosen_at, goods_drop, net_chosen, picked_below, seen_below}
 use Rattle.map_gates.proofs.Folding.{equality_below, equality_bit, fold_bit, folded_below, logic_below, logic_bit, net_equality, net_folded, net_logic}
 
@@ -57,6 +61,8 @@ value_at (Equal kind) shape n a b s =
 value_at Pmux shape n a b s = chosen_at (length a) (λ i. slice_index_or a i X) (λ i. slice_index_or b i X) s
 value_at Slice shape n a b s = λ at. slice_index_or a (shape.offset + at) X
 value_at Concat shape n a b s = λ at. slice_index_or (a ++ b) at X
+value_at Buf shape n a b s = extended_at false a
+value_at Bmux shape n a b s = λ at. slice_index_or (halved_bits shape.widths.y a s) at X
 value_at kind shape n a b s = λ at. X
 
 -- how long the result is, or what it is
@@ -68,6 +74,8 @@ Result (Equal kind) shape a b s bits = length bits ≡ 1
 Result Pmux shape a b s bits = length b ≡ length a * length s → length bits ≡ length a
 Result Slice shape a b s bits = bits ≡ drop shape.offset a
 Result Concat shape a b s bits = bits ≡ a ++ b
+Result Buf shape a b s bits = length bits ≡ shape.widths.y
+Result Bmux shape a b s bits = (w : ℕ) → length a ≡ w * 2 ^ length s → length bits ≡ w
 Result kind shape a b s bits = Unit {0}
 
 module _ (l : nets.Logic) where
@@ -114,6 +122,10 @@ module _ (l : nets.Logic) where
         (λ bits w. (w.0, w.1 refl)))
     net_value Slice h k j =
         net_pure l (λ r. (goods_drop l (λ at. slice_index_or (map g bits_a) at X) shape.offset bits_a (goods_own l g X bits_a h), refl))
+    net_value Buf h k j =
+        net_pure l (λ r. (goods_extended l g false shape.widths.y bits_a h, length-extended bits_a shape.widths.y false))
+    net_value Bmux h k j =
+        net_halved l shape.widths.y (map g bits_a) g bits_a bits_s (λ r. goods_own l g X bits_a h) (λ r. sym (length_map g bits_a)) j
     net_value Concat h k j = net_pure l (λ r. (goods_joined g bits_a bits_b h k, refl))
     net_value kind h k j = net_pure l (λ r. (goods_none, tt))
       where
@@ -145,21 +157,21 @@ module _ (f : SigBit → Bit) (is : IsReading f) where
   joined_has (x ∷ a) b (suc at) = joined_has a b at
 
   -- the bits of the value of a cell
-  value_below : (kind : WordKind) (shape : Shape) (c : Cell) (bits : List SigBit) → is_given kind ≡ true → (kind ≡ Pmux → AreChosen c shape.widths.y)
+  value_below : (kind : WordKind) (shape : Shape) (c : Cell) (bits : List SigBit) → is_given kind ≡ true → (kind ≡ Pmux → AreChosen c shape.widths.y) → (kind ≡ Bmux → ArePartsOf c shape.widths.y)
       → Goods (reads f is) (value_at kind shape (greater_width c) (map f (pin_signal c A)) (map f (pin_signal c B)) (map f (pin_signal c S))) bits
       → Result kind shape (pin_signal c A) (pin_signal c B) (pin_signal c S) bits
       → (at : ℕ) → at < length (pin_signal c Y) → Below (slice_index_or (word_values.value_of kind shape (map f (pin_signal c A)) (map f (pin_signal c B)) (map f (pin_signal c S))) at X) (f (slice_index_or bits at (Fixed S0)))
-  value_below (Unary Pos) shape c bits m wide h made at lt =
+  value_below (Unary Pos) shape c bits m wide p h made at lt =
       word_below (λ i. seen_of (extended_at shape.signs.a (map f (pin_signal c A)) i)) shape.widths.y at (f (slice_index_or bits at (Fixed S0)))
       (λ here. Below_trans _ _ _ (seen_below (extended_at shape.signs.a (map f (pin_signal c A)) at)) (good_at f is (extended_at shape.signs.a (map f (pin_signal c A))) bits h at (omega (arith, here, made))))
-  value_below (Fold kind) shape c bits m wide h made at lt =
+  value_below (Fold kind) shape c bits m wide p h made at lt =
       one_below f is (values.folded_of kind (map f (pin_signal c A))) shape.widths.y _ bits h made (λ z. Below_trans _ _ z (folded_below kind (map f (pin_signal c A)))) at
-  value_below (Logic kind) shape c bits m wide h made at lt =
+  value_below (Logic kind) shape c bits m wide p h made at lt =
       one_below f is (values.logic_of kind (map f (pin_signal c A)) (map f (pin_signal c B))) shape.widths.y _ bits h made (λ z. Below_trans _ _ z (logic_below kind (map f (pin_signal c A)) (map f (pin_signal c B)))) at
-  value_below (Equal kind) shape c bits m wide h made at lt =
+  value_below (Equal kind) shape c bits m wide p h made at lt =
       one_below f is (values.equality_of kind (both_signed shape) (map f (pin_signal c A)) (map f (pin_signal c B))) shape.widths.y _ bits h made
       (λ z. Below_trans _ _ z (subst (λ n. Below (values.equality_of kind (both_signed shape) (map f (pin_signal c A)) (map f (pin_signal c B))) (equality_bit kind (extended_at (both_signed shape) (map f (pin_signal c A))) (extended_at (both_signed shape) (map f (pin_signal c B))) n)) (λ i. max (length_map f (pin_signal c A) i) (length_map f (pin_signal c B) i)) (equality_below kind (both_signed shape) (map f (pin_signal c A)) (map f (pin_signal c B))))) at
-  value_below Pmux shape c bits m wide h made at lt =
+  value_below Pmux shape c bits m wide p h made at lt =
       let w = wide refl in
       let here : at < shape.widths.y = omega (arith, w.y, lt) in
       let long : length (pin_signal c B) ≡ length (pin_signal c A) * length (pin_signal c S) = w.b ∙ ap (λ n. n * length (pin_signal c S)) (sym w.a) in
@@ -167,12 +179,25 @@ module _ (f : SigBit → Bit) (is : IsReading f) where
       Below_trans _ _ _ (picked_below shape.widths.y at (map f (pin_signal c A)) (map f (pin_signal c B)) (map f (pin_signal c S)) here)
       (subst (λ n. Below (chosen_at n (λ i. slice_index_or (map f (pin_signal c A)) i X) (λ i. slice_index_or (map f (pin_signal c B)) i X) (map f (pin_signal c S)) at) (f (slice_index_or bits at (Fixed S0)))) width
       (good_at f is _ bits h at (omega (arith, here, w.a, made long))))
-  value_below Slice shape c bits m wide h made at lt =
+  value_below Slice shape c bits m wide p h made at lt =
       word_below (λ i. seen_of (slice_index_or (map f (pin_signal c A)) (shape.offset + i) X)) shape.widths.y at (f (slice_index_or bits at (Fixed S0)))
       (λ here. subst (λ z. Below (seen_of (slice_index_or (map f (pin_signal c A)) (shape.offset + at) X)) (f (slice_index_or z at (Fixed S0)))) (sym made) (part_has shape.offset at (pin_signal c A)))
-  value_below Concat shape c bits m wide h made at lt =
+  value_below Concat shape c bits m wide p h made at lt =
       subst (λ z. Below (slice_index_or (joined_of (map f (pin_signal c A)) (map f (pin_signal c B))) at X) (f (slice_index_or z at (Fixed S0)))) (sym made) (joined_has (pin_signal c A) (pin_signal c B) at)
-  value_below kind shape c bits m wide h made at lt = absurd (cc)
+  value_below Buf shape c bits m wide p h made at lt =
+      word_below (λ i. seen_of (extended_at false (map f (pin_signal c A)) i)) shape.widths.y at (f (slice_index_or bits at (Fixed S0)))
+      (λ here. Below_trans _ _ _ (seen_below (extended_at false (map f (pin_signal c A)) at)) (good_at f is (extended_at false (map f (pin_signal c A))) bits h at (omega (arith, here, made))))
+  value_below Bmux shape c bits m wide p h made at lt =
+      let parts = p refl in
+      let width : ℕ = shape.widths.y in
+      let a : List Bit = map f (pin_signal c A) in
+      let s : List Bit = map f (pin_signal c S) in
+      let here : at < width = omega (arith, parts.y, lt) in
+      let long : length a ≡ width * 2 ^ length s = length_map f (pin_signal c A) ∙ parts.a ∙ ap (λ n. width * 2 ^ n) (sym (length_map f (pin_signal c S))) in
+      word_below (bmuxed_bit a s width) width at (f (slice_index_or bits at (Fixed S0)))
+      (λ inside. subst (λ z. Below z (f (slice_index_or bits at (Fixed S0)))) (sym (merged_halved s (λ i. slice_index_or a (i * width + at) X)))
+      (Below_trans _ _ _ (halved_below width at here s a long) (good_at f is (λ k. slice_index_or (halved_bits width a s) k X) bits h at (omega (arith, here, made width parts.a)))))
+  value_below kind shape c bits m wide p h made at lt = absurd (cc)
 
 module _ (c : Cell) (kind : WordKind) (b : Building) where
   pub value_expands : (shape : Shape) → IsWhole (length b.body.wires) (Word kind) c → IsExpansion b (given (pin_signal c Y) (value_of kind shape c) b) c
@@ -191,8 +216,13 @@ module _ (c : Cell) (kind : WordKind) (b : Building) where
       net_weaker (reads f is) (net_value (reads f is) f shape c kind (λ s i. Below_refl (f s)) (λ s i. Below_refl (f s)) (λ s i. Below_refl (f s)))
       (λ bits w at lt.
       subst (λ z. Below (slice_index_or (word_values.value_of kind z (map f (pin_signal c A)) (map f (pin_signal c B)) (map f (pin_signal c S))) at X) (f (slice_index_or bits at (Fixed S0)))) same
-      (value_below f is kind shape c bits m wide w.0 w.1 at lt)))
+      (value_below f is kind shape c bits m wide parted w.0 w.1 at lt)))
     where
+      parted : kind ≡ Bmux → ArePartsOf c shape.widths.y
+      parted e =
+          let own : ArePartsOf c (cell_shape (Word Bmux) c.params).widths.y = are_parts c (subst (λ k. misfit (Word k) c ≡ None) e fit) in
+          subst (λ z. ArePartsOf c z.widths.y) (ap (λ k. cell_shape (Word k) c.params) (sym e) ∙ sym same) own
+
       wide : kind ≡ Pmux → AreChosen c shape.widths.y
       wide e =
           let own : AreChosen c (cell_shape (Word Pmux) c.params).widths.y = are_chosen c (subst (λ k. misfit (Word k) c ≡ None) e fit) in

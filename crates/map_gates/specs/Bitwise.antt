@@ -17,3 +17,7 @@ binary_gates kind signed a b ys =
 -- Y[i] = MUX(A[i], B[i], S)
 abbrev pub mux_gates : List SigBit → List SigBit → SigBit → List SigBit → Building → Building
 mux_gates a b s ys = each_bit (λ at y. mux_gate (bit_at false a at) (bit_at false b at) s y) 0 ys
+
+-- Y[i] = MUX(A[i], B[i], S[i])
+abbrev pub bwmux_gates : List SigBit → List SigBit → List SigBit → List SigBit → Building → Building
+bwmux_gates a b s ys = each_bit (λ at y. mux_gate (bit_at false a at) (bit_at false b at) (bit_at false s at) y) 0 ys

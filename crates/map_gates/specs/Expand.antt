@@ -8,7 +8,7 @@ use Rattle.cell_types.specs.declared.shape.Shape.{Shape}
 use Rattle.cell_types.specs.declared.word.EqualKind.{EqualKind}
 use Rattle.cell_types.specs.declared.word.UnaryKind.TheVariants.{Not, Pos}
 use Rattle.cell_types.specs.declared.word.WordKind.{WordKind}
-use Rattle.cell_types.specs.declared.word.WordKind.TheVariants.{Unary, Fold, Bitwise, Logic, Equal, Mux, Pmux, Slice, Concat}
+use Rattle.cell_types.specs.declared.word.WordKind.TheVariants.{Unary, Fold, Bitwise, Logic, Equal, Mux, Pmux, Slice, Concat, Buf, Bwmux, Bmux, Demux}
 use Rattle.cell_word.specs.Values.{both_signed}
 use Rattle.rtl_ir.specs.Build.{Build, Building}
 use Rattle.rtl_ir.specs.declared.cell.Cell.{Cell}
@@ -17,10 +17,11 @@ use Rattle.map_laws.specs.Operand.{pin_signal}
 use Rattle.gate_nets.specs.Gate.{◌>>=◌, gate_for, pure}
 use Rattle.gate_nets.specs.Give.{given}
 use Rattle.gate_nets.specs.Operand.{greater_width, operand_of}
-use Rattle.map_gates.specs.Bitwise.{binary_gates, mux_gates, unary_gates}
-use Rattle.map_gates.specs.Choice.{chosen_of}
+use Rattle.map_gates.specs.Bitwise.{binary_gates, bwmux_gates, mux_gates, unary_gates}
+use Rattle.map_gates.specs.Choice.{chosen_of, halved_of}
 use Rattle.map_gates.specs.Folds.{equality_of, folded_of, logic_of}
 use Rattle.map_gates.specs.Gates.{bit_at}
+use Rattle.map_gates.specs.Parts.{demux_gates}
 
 -- the value of a kind is made by a net, whose result is given to Y
 abbrev pub is_given : WordKind → Bool
@@ -31,6 +32,8 @@ is_given (Equal kind) = true
 is_given Pmux = true
 is_given Slice = true
 is_given Concat = true
+is_given Buf = true
+is_given Bmux = true
 is_given kind = false
 
 -- a kind becomes gates here
@@ -38,6 +41,8 @@ abbrev pub is_mapped : CellKind → Bool
 is_mapped (Word (Unary Not)) = true
 is_mapped (Word (Bitwise kind)) = true
 is_mapped (Word Mux) = true
+is_mapped (Word Bwmux) = true
+is_mapped (Word Demux) = true
 is_mapped (Word kind) = is_given kind
 is_mapped kind = false
 
@@ -61,6 +66,8 @@ value_of (Equal kind) shape c = one_bit (compared_of kind shape c)
 value_of Pmux shape c = chosen_of (length (pin_signal c A)) (pin_signal c A) (pin_signal c B) (pin_signal c S)
 value_of Slice shape c = pure (drop shape.offset (pin_signal c A))
 value_of Concat shape c = pure (pin_signal c A ++ pin_signal c B)
+value_of Buf shape c = pure (operand_of c A shape.widths.y false)
+value_of Bmux shape c = halved_of shape.widths.y (pin_signal c A) (pin_signal c S)
 value_of kind shape c = pure []
 
 -- the gates of a cell go last
@@ -70,6 +77,8 @@ gates_of (Word (Bitwise kind)) shape c =
     binary_gates (gate_for kind) (both_signed shape) (pin_signal c A) (pin_signal c B) (pin_signal c Y)
 gates_of (Word Mux) shape c =
     mux_gates (pin_signal c A) (pin_signal c B) (bit_at false (pin_signal c S) 0) (pin_signal c Y)
+gates_of (Word Bwmux) shape c = bwmux_gates (pin_signal c A) (pin_signal c B) (pin_signal c S) (pin_signal c Y)
+gates_of (Word Demux) shape c = demux_gates (pin_signal c A) (pin_signal c S) (pin_signal c Y)
 gates_of (Word kind) shape c = λ b. if is_given kind then given (pin_signal c Y) (value_of kind shape c) b else b
 gates_of kind shape c = λ b. b
 

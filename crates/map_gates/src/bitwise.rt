@@ -2,7 +2,7 @@
 
 ghost use Rattle.std.specs.Prelude.{◌≡◌, Err, OnOk};
 ghost use Rattle.net_index.specs.Builder.{IsInLimits, PassesLimit};
-ghost use Rattle.map_gates.specs.Bitwise.{binary_gates, mux_gates, unary_gates};
+ghost use Rattle.map_gates.specs.Bitwise.{binary_gates, bwmux_gates, mux_gates, unary_gates};
 
 use crate::gate::{binary_gate, mux_gate, unary_gate};
 use crate::operand::bit_at;
@@ -69,6 +69,28 @@ pub(crate) fn mux_gates(
         let low = bit_at(false, a, at);
         let high = bit_at(false, b, at);
         mux_gate(alloc, low, high, s, *bit, builder)?;
+    }
+    Ok(())
+}
+
+/// A multiplexer of one bit for each bit of Y, each with its own bit of S.
+pub(crate) fn bwmux_gates(
+    alloc: Global,
+    a: &[SigBit],
+    b: &[SigBit],
+    s: &[SigBit],
+    y: &[SigBit],
+    builder: &mut Builder,
+) -> Result<(), PassFault>
+    ensures exact { OnOk result (builder.new ≡ bwmux_gates a.now b.now s.now y.now builder.old) }
+    ensures over { result ≡ Err PassFault.Over → PassesLimit (bwmux_gates a.now b.now s.now y.now builder.old) }
+    ensures within { IsInLimits builder.old → OnOk result (IsInLimits builder.new) }
+{
+    for (at, bit) in y.iter().enumerate() {
+        let low = bit_at(false, a, at);
+        let high = bit_at(false, b, at);
+        let select = bit_at(false, s, at);
+        mux_gate(alloc, low, high, select, *bit, builder)?;
     }
     Ok(())
 }

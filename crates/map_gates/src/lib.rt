@@ -6,6 +6,7 @@ mod choice;
 mod folds;
 mod gate;
 mod operand;
+mod parts;
 mod value;
 
 ghost use Rattle.std.specs.Prelude.{◌≡◌, true, Err, List, OnOk, length};
@@ -20,8 +21,9 @@ ghost use Rattle.cell_types.specs.declared.pin_name.PinName.TheVariants.{Y};
 ghost use Rattle.gate_nets.specs.Give.{given};
 ghost use Rattle.map_gates.specs.Expand.{is_mapped, map_of, value_of};
 
-use crate::bitwise::{binary_gates, mux_gates, unary_gates};
+use crate::bitwise::{binary_gates, bwmux_gates, mux_gates, unary_gates};
 use crate::operand::bit_at;
+use crate::parts::demux_gates;
 use crate::value::{is_given, value};
 use cell_types::{CellKind, GateKind, PinName, Shape, UnaryKind, WordKind};
 use gate_nets::{gate_for, give, pin_signal};
@@ -74,6 +76,13 @@ fn add_gates(
         CellKind::Word(WordKind::Mux) => {
             let s = bit_at(false, pin_signal(cell, PinName::S), 0);
             mux_gates(alloc, a, b, s, y, builder)
+        }
+        CellKind::Word(WordKind::Bwmux) => {
+            let s = pin_signal(cell, PinName::S);
+            bwmux_gates(alloc, a, b, s, y, builder)
+        }
+        CellKind::Word(WordKind::Demux) => {
+            demux_gates(alloc, a, pin_signal(cell, PinName::S), y, builder)
         }
         CellKind::Word(kind) if is_given(kind) => give_value(alloc, kind, cell, shape, builder),
         _ => Ok(()),

@@ -4,7 +4,7 @@ ghost use Rattle.std.specs.Prelude.{◌≡◌, [], ◌∷◌, ◌++◌, Err, IfO
 ghost use Rattle.net_index.specs.Builder.{IsInLimits, PassesLimit};
 ghost use Rattle.map_gates.specs.Expand.{compared_of, is_given, value_of};
 
-use crate::choice::{above, chosen};
+use crate::choice::{above, chosen, halved};
 use crate::folds::{equality, folded, logic};
 use cell_types::{EqualKind, PinName, Shape, UnaryKind, WordKind};
 use gate_nets::{greater_width, operand_of, pin_signal};
@@ -27,6 +27,8 @@ pub(crate) fn is_given(kind: WordKind) -> bool
             | WordKind::Pmux
             | WordKind::Slice
             | WordKind::Concat
+            | WordKind::Buf
+            | WordKind::Bmux
     )
 }
 
@@ -43,7 +45,7 @@ fn concat(alloc: Global, a: &[SigBit], b: &[SigBit]) -> Result<SigSpec, Memory>
 {
     let mut word = Vec::from_slice(alloc, a)?;
     word.extend_from_slice(b)?;
-    Ok(SigSpec::from_vec(word))
+    SigSpec::from_vec(word)
 }
 
 /// The bit of `$eq` or `$ne`, of the operands at the greater width.
@@ -100,6 +102,14 @@ pub(crate) fn value(
         WordKind::Pmux => chosen(alloc, a, b, pin_signal(cell, PinName::S), builder),
         WordKind::Slice => Ok(SigSpec::from_slice(alloc, above(a, shape.offset as usize))?),
         WordKind::Concat => Ok(concat(alloc, a, b)?),
+        WordKind::Buf => {
+            let width = shape.widths.y as usize;
+            Ok(operand_of(alloc, cell, PinName::A, width, false)?)
+        }
+        WordKind::Bmux => {
+            let s = pin_signal(cell, PinName::S);
+            halved(alloc, shape.widths.y, a, s, builder)
+        }
         _ => Ok(SigSpec::make(alloc)),
     }
 }

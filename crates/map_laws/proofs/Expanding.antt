@@ -7,7 +7,8 @@ use Rattle.rtl_ir.specs.declared.cell.Cell.{Cell}
 use Rattle.rtl_ir.specs.declared.module.Link.{Link}
 use Rattle.rtl_ir.specs.declared.module.Module.{Module}
 use Rattle.rtl_ir.specs.declared.wire.Wire.{Wire}
-use Rattle.map_laws.specs.Expansion.{Adds, AreRising, Expands, IsExpansion, cells_added, links_added, wires_added}
+use Rattle.rtl_ir.specs.Signals.{bits_of_wire}
+use Rattle.map_laws.specs.Expansion.{Adds, AreRising, Expands, IsExpansion, bits_from, cells_added, links_added, wires_added}
 
 -- a module with further cells, wires and connections
 abbrev pub further : List Cell → List Wire → List Link → Module → Module
@@ -59,3 +60,11 @@ rising_more low middle high [] ys h k = lower ys k
     lower [] j = omega (arith, h, j)
     lower (y ∷ ys) j = (j.0, omega (arith, h, j.1), j.2, j.3)
 rising_more low middle high (x ∷ xs) ys h k = (h.0, h.1, h.2, rising_more (h.0 + 1) middle high xs ys h.3 k)
+
+-- the bits of wires and of those after them
+pub bits_further : (first : ℕ) (ws vs : List Wire) → bits_from first (ws ++ vs) ≡ bits_from first ws ++ bits_from (first + length ws) vs
+bits_further first [] vs = ap (λ n. bits_from n vs) (omega arith)
+bits_further first (w ∷ ws) vs =
+    let place : (first + 1) + length ws ≡ first + length (w ∷ ws) = omega arith in
+    ap (λ z. bits_of_wire first w.width ++ z) (bits_further (first + 1) ws vs ∙ ap (λ n. bits_from (first + 1) ws ++ bits_from n vs) place)
+    ∙ sym (append_assoc (bits_of_wire first w.width) (bits_from (first + 1) ws) (bits_from (first + length (w ∷ ws)) vs))

@@ -10,7 +10,7 @@ use Rattle.map_laws.specs.Expansion.{IsWhole, IsWholeCell, IsWholeGate, IsWholeL
 
 -- what stands in a module with so many wires does so in one with more
 module _ (few many : ℕ) where
-  bit_more : (s : SigBit) → few ≤ many → BitIn few s → BitIn many s
+  pub bit_more : (s : SigBit) → few ≤ many → BitIn few s → BitIn many s
   bit_more (Fixed b) h i = tt
   bit_more (OnWire b) h i = omega (arith, h, i)
 

@@ -104,7 +104,8 @@ pub(crate) fn value(
     builder: &mut Builder,
 ) -> Result<SigSpec, PassFault>
     ensures exact { IfOk result (λ bits. (bits, builder.new) ≡ value_of shape.now.kind shape.now cell.now builder.old) }
-    ensures over { result ≡ Err PassFault.Over → PassesLimit (value_of shape.now.kind shape.now cell.now builder.old).1 }
+    ensures over { result ≡ Err PassFault.Over →
+        PassesLimit (value_of shape.now.kind shape.now cell.now builder.old).1 }
     ensures within { IsInLimits builder.old → OnOk result (IsInLimits builder.new) }
 {
     match shape.kind {

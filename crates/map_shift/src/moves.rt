@@ -23,7 +23,7 @@ fn moved_left(alloc: Global, fill: SigBit, by: usize, bits: &[SigBit]) -> Result
     let count = by.min(bits.len());
     let mut word = vec![in alloc; fill; count]?;
     word.extend_from_slice(&bits[..bits.len() - count])?;
-    Ok(SigSpec::from_vec(word))
+    SigSpec::from_vec(word)
 }
 
 /// A word moved by so many places to the lowest one, with the fill on top.
@@ -33,7 +33,7 @@ fn moved_right(alloc: Global, fill: SigBit, by: usize, bits: &[SigBit]) -> Resul
     let count = by.min(bits.len());
     let mut word = Vec::from_slice(alloc, &bits[count..])?;
     word.resize(bits.len(), fill)?;
-    Ok(SigSpec::from_vec(word))
+    SigSpec::from_vec(word)
 }
 
 /// A word moved by so many places, as wide as it is.

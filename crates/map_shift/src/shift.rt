@@ -10,21 +10,29 @@ use net_index::{Builder, PassFault};
 use rtl_sig::{SigBit, SigSpec, fill_of};
 use std::alloc::Global;
 
+/// Where a word is moved, and what fills the places that are left.
+#[derive(Clone, Copy)]
+struct Motion {
+    way: Way,
+    fill: SigBit,
+}
+
 /// A word moved by what a bit of the distance stands for, where the bit is 1.
 fn step(
     alloc: Global,
-    way: Way,
-    fill: SigBit,
+    motion: Motion,
     place: usize,
     bits: &[SigBit],
     by: SigBit,
     builder: &mut Builder,
 ) -> Result<SigSpec, PassFault>
-    ensures exact { IfOk result (λ word. (word, builder.new) ≡ step_of way fill place bits.now by builder.old) }
-    ensures over { result ≡ Err PassFault.Over → PassesLimit (step_of way fill place bits.now by builder.old).1 }
+    ensures exact { IfOk result (λ word. (word, builder.new) ≡
+        step_of motion.way motion.fill place bits.now by builder.old) }
+    ensures over { result ≡ Err PassFault.Over →
+        PassesLimit (step_of motion.way motion.fill place bits.now by builder.old).1 }
     ensures within { IsInLimits builder.old → OnOk result (IsInLimits builder.new) }
 {
-    let further = moved(alloc, way, fill, place, bits)?;
+    let further = moved(alloc, motion.way, motion.fill, place, bits)?;
     select(alloc, bits, further.as_slice(), by, builder)
 }
 
@@ -44,7 +52,8 @@ pub(crate) fn shifted(
 {
     let mut so_far = SigSpec::from_slice(alloc, bits)?;
     for (place, by) in distance.iter().enumerate() {
-        so_far = step(alloc, way, fill, place, so_far.as_slice(), *by, builder)?;
+        let motion = Motion { way, fill };
+        so_far = step(alloc, motion, place, so_far.as_slice(), *by, builder)?;
     }
     Ok(so_far)
 }

@@ -2,6 +2,8 @@
 
 ghost use Rattle.std.specs.Prelude.{◌≡◌, Err, IfOk, OnOk};
 ghost use Rattle.net_index.specs.Builder.{IsInLimits, PassesLimit};
+ghost use Rattle.cell_types.specs.declared.pin_name.PinName.TheVariants.{A, B};
+ghost use Rattle.map_laws.specs.Operand.{pin_signal};
 ghost use Rattle.map_shift.specs.Expand.{fill_by, is_mapped, moved_by, shift_by, value_of};
 
 use crate::moves::Way;
@@ -32,25 +34,30 @@ fn fill_by(kind: ShiftKind, signed: bool, a: &[SigBit]) -> SigBit
     }
 }
 
-/// A word moved as the kind does by a distance, signed or not.
+/// The bits of the first operand moved as the kind does by the second one, signed or not.
 fn moved_by(
     alloc: Global,
     kind: ShiftKind,
-    signed: bool,
-    fill: SigBit,
+    cell: &Cell,
+    shape: &Shape,
     bits: &[SigBit],
-    distance: &[SigBit],
     builder: &mut Builder,
 ) -> Result<SigSpec, PassFault>
-    ensures exact { IfOk result (λ word. (word, builder.new) ≡ moved_by kind signed fill bits.now distance.now builder.old) }
-    ensures over { result ≡ Err PassFault.Over → PassesLimit (moved_by kind signed fill bits.now distance.now builder.old).1 }
+    ensures exact { IfOk result (λ word. (word, builder.new) ≡
+        moved_by kind shape.now.signs.b (fill_by kind shape.now.signs.a (pin_signal cell.now A)) bits.now
+        (pin_signal cell.now B) builder.old) }
+    ensures over { result ≡ Err PassFault.Over →
+        PassesLimit (moved_by kind shape.now.signs.b (fill_by kind shape.now.signs.a (pin_signal cell.now A)) bits.now
+        (pin_signal cell.now B) builder.old).1 }
     ensures within { IsInLimits builder.old → OnOk result (IsInLimits builder.new) }
 {
+    let fill = fill_by(kind, shape.signs.a, pin_signal(cell, PinName::A));
+    let distance = pin_signal(cell, PinName::B);
     match kind {
         ShiftKind::Shl | ShiftKind::Sshl => {
             shifted(alloc, Way::Left, fill, bits, distance, builder)
         }
-        ShiftKind::Shift | ShiftKind::Shiftx if signed => {
+        ShiftKind::Shift | ShiftKind::Shiftx if shape.signs.b => {
             shifted_either_way(alloc, fill, bits, distance, builder)
         }
         _ => shifted(alloc, Way::Right, fill, bits, distance, builder),
@@ -72,17 +79,7 @@ fn shift(
     let a = pin_signal(cell, PinName::A);
     let width = a.len().max(shape.widths.y as usize);
     let bits = operand_of(alloc, cell, PinName::A, width, shape.signs.a)?;
-    let fill = fill_by(kind, shape.signs.a, a);
-    let distance = pin_signal(cell, PinName::B);
-    moved_by(
-        alloc,
-        kind,
-        shape.signs.b,
-        fill,
-        bits.as_slice(),
-        distance,
-        builder,
-    )
+    moved_by(alloc, kind, cell, shape, bits.as_slice(), builder)
 }
 
 /// The net of the value of a cell, by its kind.
@@ -93,7 +90,8 @@ pub(crate) fn value(
     builder: &mut Builder,
 ) -> Result<SigSpec, PassFault>
     ensures exact { IfOk result (λ bits. (bits, builder.new) ≡ value_of shape.now.kind shape.now cell.now builder.old) }
-    ensures over { result ≡ Err PassFault.Over → PassesLimit (value_of shape.now.kind shape.now cell.now builder.old).1 }
+    ensures over { result ≡ Err PassFault.Over →
+        PassesLimit (value_of shape.now.kind shape.now cell.now builder.old).1 }
     ensures within { IsInLimits builder.old → OnOk result (IsInLimits builder.new) }
 {
     match shape.kind {

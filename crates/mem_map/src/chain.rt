@@ -43,7 +43,7 @@ fn port_runs(
         written = new_rest;
         enable = cut(enable, *count).1;
     }
-    Ok(SigSpec::from_vec(value.into_vec()))
+    Ok(SigSpec::from_vec(value.into_vec())?)
 }
 
 /// A write port on the value so far of the word at an address, where it can reach the address.

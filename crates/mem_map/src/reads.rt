@@ -131,7 +131,7 @@ fn or_unknown(alloc: Global, width: usize, value: Option<SigSpec>) -> Result<Sig
 {
     match value {
         Some(signal) => Ok(signal),
-        None => Ok(SigSpec::from_vec(vec![in alloc; SigBit::Fixed(Bit::X); width]?)),
+        None => SigSpec::from_vec(vec![in alloc; SigBit::Fixed(Bit::X); width]?),
     }
 }
 

@@ -165,7 +165,7 @@ module _ (ports : Ports) (m : Module) (ready : IsReady ports m) (distinct : Dist
   read_fits k c i (Some (StorageGate kind)) own e of = absurd (cc)
   read_fits k c i None own e of = absurd (cc)
 
-  reads_fit : (from : ℕ) (cells : List Cell) → Each (λ (c : Cell). In c m.cells) cells → Each (λ (port : ReadPort). ReadFits s.width port × (0 < s.width) × (s.width ≤ 4096)) (read_ports s.name from cells)
+  pub reads_fit : (from : ℕ) (cells : List Cell) → Each (λ (c : Cell). In c m.cells) cells → Each (λ (port : ReadPort). ReadFits s.width port × (0 < s.width) × (s.width ≤ 4096)) (read_ports s.name from cells)
   reads_fit from [] h port i = absurd i
   reads_fit from (c ∷ cells) h port i =
       by (is_read_kind (cell_kind c) && is_of_memory s.name c) refl i (reads_fit (from + 1) cells (λ d j. h d (inr j)) port)
@@ -177,14 +177,14 @@ module _ (ports : Ports) (m : Module) (ready : IsReady ports m) (distinct : Dist
       by true e (inr j) later = later j
       by false e j later = later j
 
-  writes_fit : Each (λ (port : WritePort). WriteFits s.width port × (0 < s.width) × (s.width ≤ 4096)) (map write_port (cell_accesses s.name m.cells))
+  pub writes_fit : Each (λ (port : WritePort). WriteFits s.width port × (0 < s.width) × (s.width ≤ 4096)) (map write_port (cell_accesses s.name m.cells))
   writes_fit port i =
       let a = In-mapped write_port port (cell_accesses s.name m.cells) i in
       let c = access_cell m.cells s.name a.0 a.1 in
       let own : WriteFits s.width (write_port (cell_access c.0)) × (0 < s.width) × (s.width ≤ 4096) = write_fits c.0 (parts_of MemwrV2 c.0 c.1 (write_kind c.0 c.3) c.4) in
       subst (λ (q : WritePort). WriteFits s.width q × (0 < s.width) × (s.width ≤ 4096)) (sym (a.2 ∙ ap write_port c.2)) own
 
-  words_long : (at : ℕ) → Each (λ bits. length bits ≡ s.width) (gathered m at s).words
+  pub words_long : (at : ℕ) → Each (λ bits. length bits ≡ s.width) (gathered m at s).words
   words_long at bits i =
       let k = In-mapped _ bits (addresses_of s) i in
       ap length k.2 ∙ length-map-range_with_len _ 0 s.width

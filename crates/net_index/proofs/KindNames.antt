@@ -215,6 +215,6 @@ pub kind_named : (name : List ℕ) (kind : CellKind) → kind_of name ≡ Some k
 kind_named name kind e =
     split Cell.StorageGate (storage_gate_of name) _ kind e (λ x i k. storage_gate_is name x i ∙ ap name_of k) (λ e1.
     split Cell.Gate (gate_of name) _ kind e1 (λ x i k. named_is gate_name gates (refl, (refl, (refl, (refl, (refl, (refl, (refl, (refl, (refl, (refl, (refl, (refl, tt)))))))))))) name x i ∙ ap name_of k) (λ e2.
-    split Cell.Word (word_of name) _ kind e2 (λ x i k. named_is word_name words (refl, (refl, (refl, (refl, (refl, (refl, (refl, (refl, (refl, (refl, (refl, (refl, (refl, (refl, (refl, (refl, (refl, (refl, (refl, (refl, (refl, (refl, (refl, (refl, (refl, (refl, (refl, (refl, (refl, (refl, (refl, (refl, (refl, (refl, (refl, (refl, (refl, (refl, tt)))))))))))))))))))))))))))))))))))))) name x i ∙ ap name_of k) (λ e3.
+    split Cell.Word (word_of name) _ kind e2 (λ x i k. named_is word_name words (refl, (refl, (refl, (refl, (refl, (refl, (refl, (refl, (refl, (refl, (refl, (refl, (refl, (refl, (refl, (refl, (refl, (refl, (refl, (refl, (refl, (refl, (refl, (refl, (refl, (refl, (refl, (refl, (refl, (refl, (refl, (refl, (refl, (refl, (refl, (refl, (refl, (refl, (refl, (refl, (refl, (refl, tt)))))))))))))))))))))))))))))))))))))))))) name x i ∙ ap name_of k) (λ e3.
     split Cell.Storage (storage_of name) _ kind e3 (λ x i k. named_is storage_name storages (refl, (refl, (refl, (refl, (refl, (refl, (refl, (refl, (refl, (refl, (refl, (refl, (refl, (refl, (refl, (refl, tt)))))))))))))))) name x i ∙ ap name_of k) (λ e4.
     mapped Cell.Memory (memory_of name) kind e4 (λ x i k. named_is memory_name memories (refl, (refl, (refl, (refl, (refl, tt))))) name x i ∙ ap name_of k)))))

@@ -65,6 +65,10 @@ word_name Word.Mux = codes "$mux"
 word_name Word.Pmux = codes "$pmux"
 word_name Word.Slice = codes "$slice"
 word_name Word.Concat = codes "$concat"
+word_name Word.Buf = codes "$buf"
+word_name Word.Bwmux = codes "$bwmux"
+word_name Word.Bmux = codes "$bmux"
+word_name Word.Demux = codes "$demux"
 
 -- of a combinational gate
 abbrev pub gate_name : GateKind → List ℕ

@@ -18,11 +18,11 @@ use std::mem;
 pub fn whole(alloc: Global, wire: u32, width: u32) -> Result<SigSpec, Memory>
     ensures value { IfOk result (λ signal. signal ≡ whole wire width) }
 {
-    let mut bits = Vec::with_capacity(alloc, width as usize)?;
+    let mut bits = SigSpec::with_capacity(alloc, width as usize)?;
     for at in 0..width {
         bits.push(SigBit::Wire(WireBit { wire, at }))?;
     }
-    Ok(SigSpec::from_vec(bits))
+    Ok(bits)
 }
 
 /// A wire that is no port, under the fresh name of this number.

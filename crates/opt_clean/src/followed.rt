@@ -93,9 +93,9 @@ pub(crate) fn followed_signal(
     ensures value { IfOk result (λ found. (ports : rtl.Ports) (m : Module) → IsIndex index.now ports m →
         found ≡ map (follow m.links) signal.now) }
 {
-    let mut found = Vec::with_capacity(alloc, signal.len())?;
+    let mut found = SigSpec::with_capacity(alloc, signal.len())?;
     for bit in signal {
         found.push(index.follow(*bit))?;
     }
-    Ok(SigSpec::from_vec(found))
+    Ok(found)
 }

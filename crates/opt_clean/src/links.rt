@@ -148,9 +148,9 @@ fn run_link(alloc: Global, run: &[WireBit], index: &Index) -> Result<Link, Memor
 fn signal_of(alloc: Global, bits: &[WireBit]) -> Result<SigSpec, Memory>
     ensures value { IfOk result (λ signal. signal ≡ map OnWire bits.now) }
 {
-    let mut signal = Vec::with_capacity(alloc, bits.len())?;
+    let mut signal = SigSpec::with_capacity(alloc, bits.len())?;
     for bit in bits {
         signal.push(SigBit::Wire(*bit))?;
     }
-    Ok(SigSpec::from_vec(signal))
+    Ok(signal)
 }

@@ -173,11 +173,11 @@ impl Moves {
         ensures value { IfOk result (λ moved. (marks : List Bool) → AreMoves self.now marks →
             moved ≡ map (moved_bit marks) signal.now) }
     {
-        let mut moved = Vec::with_capacity(alloc, signal.len())?;
+        let mut moved = SigSpec::with_capacity(alloc, signal.len())?;
         for bit in signal {
             moved.push(self.bit(*bit))?;
         }
-        Ok(SigSpec::from_vec(moved))
+        Ok(moved)
     }
 
     /// The pins with such bits.

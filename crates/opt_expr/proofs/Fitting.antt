@@ -1,6 +1,8 @@
 -- The widths of a combinational cell that fits its kind, as the rules ask for them.
-use Rattle.std.proofs.Common.{◌≡◌, ℕ, ◌*◌, ◌<◌, ◌≤◌, Bool, true, false, List, [], ◌∷◌, length, map, Some, None, inl, inr, refl, sym, ◌∙◌, ap, subst, arith}
+use Rattle.std.proofs.Common.{◌≡◌, ℕ, ◌*◌, ◌^◌, ◌<◌, ◌≤◌, Bool, true, false, List, [], ◌∷◌, length, map, Some, None, inl, inr, refl, sym, ◌∙◌, ap, subst, arith}
 use Rattle.std.specs.Prelude.{◌||◌, ◌-◌, replicate, take}
+use Rattle.std.proofs.Math.Nat.{le-mul_of_pos_right}
+use Rattle.std.proofs.lemmas.Nat.{pow_pos}
 use Rattle.std.specs.List.{list_any}
 use Rattle.std.proofs.lemmas.Bool.{ltb-false, true≢false}
 use Rattle.std.proofs.lemmas.List.{length-append, length-map, length-take, length-replicate}
@@ -165,6 +167,14 @@ y_within Words.Mux w offset h = let a = h.0 in let e = h.3 in (omega (arith, a.0
 y_within Words.Pmux w offset h = let a = h.0 in let e = h.3 in (omega (arith, a.0, e), omega (arith, a.1, e))
 y_within Words.Slice w offset h = h.0.1
 y_within Words.Concat w offset h = let a = h.0 in let e = h.2 in (omega (arith, a.0, e), h.3)
+y_within Words.Buf w offset h = let a = h.0 in let e = h.1 in (omega (arith, a.0, e), omega (arith, a.1, e))
+y_within Words.Bwmux w offset h = let a = h.0 in let e = h.3 in (omega (arith, a.0, e), omega (arith, a.1, e))
+y_within Words.Bmux w offset h = h.0
+y_within Words.Demux w offset h =
+    let a = h.0 in
+    let e = h.2 in
+    let more : w.a ≤ w.a * 2 ^ w.s = le-mul_of_pos_right w.a (pow_pos w.s) in
+    (omega (arith, a.0, e, more), h.3)
 
 word_bounds : (kind : WordKind) (c : Cell) → misfit (Word kind) c ≡ None → (0 < (cell_shape (Word kind) c.params).widths.y) × ((cell_shape (Word kind) c.params).widths.y ≤ 4096)
 unfolding misfit cell_shape

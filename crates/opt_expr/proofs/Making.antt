@@ -1,6 +1,6 @@
 -- What changes are made of: bits of the operands and constants, and the shapes of new cells.
 use Rattle.std.proofs.Common.{◌≡◌, ℕ, zero, suc, Bool, true, false, List, [], ◌∷◌, ◌++◌, map, take, drop, replicate, Option, Some, None, ◌⊎◌, inl, inr, ⊎_elim, refl, sym, ◌∙◌, ap, subst}
-use Rattle.std.specs.Prelude.{◌&&◌, ◌==◌, ◌-◌, ◌+◌, ◌+ℤ◌, ℤ, pos, negsuc, max, nat_lt, length, slice_get, slice_index_or, unwrap_or, if◌then◌else◌}
+use Rattle.std.specs.Prelude.{◌&&◌, ◌==◌, ◌-◌, ◌+◌, ◌*◌, ◌+ℤ◌, ℤ, pos, negsuc, max, nat_lt, length, slice_get, slice_index_or, unwrap_or, if◌then◌else◌}
 use Rattle.std.proofs.lemmas.Bool.{and_parts, eqb-true}
 use Rattle.std.specs.List.{list_all, range_with_len}
 use Rattle.rtl_bits.specs.Knowledge.{all_known}
@@ -38,10 +38,11 @@ use Rattle.expr_rules.specs.Rules.Compare.{beside_bit, compare, of_equals, one_b
 use Rattle.expr_rules.specs.Rules.Constants.{constant_value}
 use Rattle.expr_rules.specs.Rules.Fold.{folded_bit, one_bit}
 use Rattle.expr_rules.specs.Rules.Logic.{and_with_ones, beside_ones, beside_zeros, double_not, equal_operands, equal_parity, or_with_zeros, xor_with_ones}
-use Rattle.expr_rules.specs.Rules.Mux.{arm_of, equal_arms, inverted_select, known_select, select_inverse, select_itself, unknown_arm}
+use Rattle.expr_rules.specs.Rules.Mux.{arm_bit, arm_of, equal_arms, equal_words, known_selects, inverted_select, known_select, select_inverse, select_itself, unknown_arm}
+use Rattle.expr_rules.specs.Rules.Parts.{known_part, known_place, number_in}
 use Rattle.expr_rules.specs.Rules.Shift.{known_shift, moved_signal, signal_at, signal_from}
 use Rattle.expr_rules.specs.Rules.Wiring.{buffer, wiring}
-use Rattle.expr_rules.specs.Signals.{filled, first_bit, constants_of, is_bit, is_known_constant, is_one, is_unknown_constant, is_zero, same_word}
+use Rattle.expr_rules.specs.Signals.{filled, first_bit, constants_of, is_bit, is_known_constant, is_one, is_unknown_constant, is_zero, part_of, same_word}
 use Rattle.expr_rules.specs.declared.change.Change.{Change}
 use Rattle.expr_rules.specs.declared.change.Change.TheVariants.{Gives, Becomes}
 use Rattle.expr_rules.specs.declared.change.NewCell.{NewCell}
@@ -194,6 +195,7 @@ module _ (P : SigBit → Type 0) (fixed : (c : Bit) → P (Fixed c)) (shape : Sh
 
     buffer_made : (kind : WordKind) → IfMade (buffer kind o)
     buffer_made (Word.Unary Unaries.Pos) = left
+    buffer_made Word.Buf = a
     buffer_made kind = tt
 
     wiring_made : (kind : WordKind) → IfMade (wiring kind shape o)
@@ -365,6 +367,35 @@ module _ (P : SigBit → Type 0) (fixed : (c : Bit) → P (Fixed c)) (shape : Sh
         chooser_made o.a o.b o.s w.0 (w.1 one) one a b s)
     one_bit_made kind w = tt
 
+    arm_has : (bit : SigBit) (at : ℕ) → P (if is_one bit then slice_index_or o.b at (Fixed X) else slice_index_or o.a at (Fixed X))
+    arm_has bit at = by (is_one bit)
+      where
+        by : (t : Bool) → P (if t then slice_index_or o.b at (Fixed X) else slice_index_or o.a at (Fixed X))
+        by true = at_place P fixed o.b at (Fixed X) (fixed X) b
+        by false = at_place P fixed o.a at (Fixed X) (fixed X) a
+
+    known_selects_made : (kind : WordKind) → IfMade (known_selects kind shape o)
+    known_selects_made Word.Bwmux =
+        when_made (list_all is_known_constant o.s) (Gives (map (arm_bit o) (range_with_len 0 shape.widths.y))) (λ e.
+        each_made P (arm_bit o) (range_with_len 0 shape.widths.y) (λ at. arm_has (slice_index_or o.s at (Fixed X)) at))
+    known_selects_made kind = tt
+
+    equal_words_made : (kind : WordKind) → IfMade (equal_words kind o)
+    equal_words_made Word.Bwmux = when_made (same_word o.a o.b) (Gives o.a) (λ e. a)
+    equal_words_made kind = tt
+
+    known_part_made : (kind : WordKind) → IfMade (known_part kind shape o)
+    known_part_made Word.Bmux =
+        map_made (λ part. Gives (part_of o.a (part * shape.widths.y) shape.widths.y)) (number_in o.s) (λ part e.
+        each_part P fixed o.a (part * shape.widths.y) (range_with_len 0 shape.widths.y) a)
+    known_part_made kind = tt
+
+    known_place_made : (kind : WordKind) → IfMade (known_place kind o)
+    known_place_made Word.Demux =
+        map_made (λ part. Gives (filled (part * length o.a) S0 ++ o.a)) (number_in o.s) (λ part e.
+        each_more P fixed (filled (part * length o.a) S0) o.a (each_filled P fixed (part * length o.a) (Fixed S0) (fixed S0)) a)
+    known_place_made kind = tt
+
     by_made : (rule : Rule) (kind : WordKind) → AreWide kind shape o → IfMade (result_by rule kind shape o)
     by_made By.ConstantInputs kind w = constants_made (is_all_constant o.a && (is_all_constant o.b && is_all_constant o.s))
     by_made By.KnownValue kind w = constants_made (all_known (constant_value shape o))
@@ -390,6 +421,10 @@ module _ (P : SigBit → Type 0) (fixed : (c : Bit) → P (Fixed c)) (shape : Sh
     by_made By.KnownShift kind w = shift_made kind
     by_made By.Compare kind w = compare_made kind
     by_made By.OneBit kind w = one_bit_made kind w
+    by_made By.KnownSelects kind w = known_selects_made kind
+    by_made By.EqualWords kind w = equal_words_made kind
+    by_made By.KnownPart kind w = known_part_made kind
+    by_made By.KnownPlace kind w = known_place_made kind
 
     gate_made : (rule : Rule) → IfMade (result_of_gate rule shape o)
     gate_made By.ConstantInputs = constants_made (is_all_constant o.a && (is_all_constant o.b && is_all_constant o.s))

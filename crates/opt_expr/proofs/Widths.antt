@@ -13,9 +13,12 @@ use Rattle.cell_types.specs.declared.kind.CellKind.TheVariants as Cells
 use Rattle.cell_types.specs.declared.pin_name.PinName.TheVariants.{A, B, S, Y}
 use Rattle.cell_types.specs.declared.word.UnaryKind.TheVariants.{Not, Pos, Neg}
 use Rattle.cell_types.specs.declared.word.WordKind.{WordKind}
-use Rattle.cell_types.specs.declared.word.WordKind.TheVariants.{Unary, Fold, Bitwise, Logic, Equal, Order, Arith, Division, Shift, Mux, Pmux, Slice, Concat}
+use Rattle.cell_types.specs.declared.word.WordKind.TheVariants.{Unary, Fold, Bitwise, Logic, Equal, Order, Arith, Division, Shift, Mux, Pmux, Slice, Concat, Buf, Bwmux, Bmux, Demux}
 use Rattle.cell_types.specs.Fault.{fault_of, fits, has_other_width, has_width, is_bad, is_wide, is_wide_pin, limit_of, may_lack}
 use Rattle.cell_types.specs.Shape.{small}
+use Rattle.cell_types.specs.Given.{number_in}
+use Rattle.cell_types.proofs.Within.{made_bounds}
+use Rattle.cell_types.specs.declared.param_name.ParamName.TheVariants.{SWidth}
 use Rattle.cell_word.specs.Values.{IsWithin}
 use Rattle.rtl_bits.specs.declared.bit.Bit.{Bit}
 use Rattle.cell_types.specs.PinName.{pin_text}
@@ -106,8 +109,18 @@ module _ (c : Cell) (a b s : List Bit) (wide : length a ≡ length (signal_at c.
   three : (kind : WordKind) → limit_of kind ≡ 128 → IsLimited kind (given_params c.params) c.pins A → IsLimited kind (given_params c.params) c.pins B → IsLimited kind (given_params c.params) c.pins Y → (length a ≤ 128) × (length b ≤ 128) × (small (pin_width (Cells.Word kind) (given_params c.params) Y) ≤ 128)
   three kind limit p q r = let x = p.signal in let y = q.signal in let z = r.width in (omega arith, omega arith, omega arith)
 
+  -- few bits choose one of parts
+  few : (kind : WordKind) → list_all (has_width (Cells.Word kind) (given_params c.params) (pin_widths c.pins)) (A ∷ S ∷ Y ∷ []) ≡ true → list_any (is_wide_pin kind (given_params c.params)) (A ∷ S ∷ Y ∷ []) ≡ false
+      → pin_width (Cells.Word kind) (given_params c.params) S ≡ number_in (given_params c.params) SWidth → limit_of kind ≡ 4096 → small (number_in (given_params c.params) SWidth) ≤ 12 → length s ≤ 12
+  few kind hs ws own limit low =
+      let h = (and_parts (has_width (Cells.Word kind) (given_params c.params) (pin_widths c.pins) S) _ (and_parts (has_width (Cells.Word kind) (given_params c.params) (pin_widths c.pins) A) _ hs).1).0 in
+      let w = (any_false (is_wide_pin kind (given_params c.params) S) _ (any_false (is_wide_pin kind (given_params c.params) A) _ ws).1).0 in
+      let narrow : pin_width (Cells.Word kind) (given_params c.params) S ≤ limit_of kind = ltb-false (limit_of kind) (pin_width (Cells.Word kind) (given_params c.params) S) w in
+      let fits : length (signal_at c.pins (pin_text S)) ≤ pin_width (Cells.Word kind) (given_params c.params) S = signal_width (Cells.Word kind) (given_params c.params) c.pins S h in
+      omega arith
+
   pub computed : (kind : WordKind) → misfit (Cells.Word kind) c ≡ None → IsWithin kind a b s (cell_shape (Cells.Word kind) c.params).widths.y
-  unfolding cell_shape
+  unfolding cell_shape misfit
   computed (Unary Not) fit = tt
   computed (Unary Pos) fit = tt
   computed (Unary Neg) fit =
@@ -141,6 +154,12 @@ module _ (c : Cell) (a b s : List Bit) (wide : length a ≡ length (signal_at c.
       omega arith
   computed Slice fit = tt
   computed Concat fit = tt
+  computed Buf fit = tt
+  computed Bwmux fit = tt
+  computed Bmux fit =
+      few Bmux (widths_fit (Cells.Word Bmux) c fit) (not_wide (Cells.Word Bmux) c fit) refl refl (made_bounds (Cells.Word Bmux) (given_params c.params) (pin_widths c.pins) fit).1.1
+  computed Demux fit =
+      few Demux (widths_fit (Cells.Word Demux) c fit) (not_wide (Cells.Word Demux) c fit) refl refl (made_bounds (Cells.Word Demux) (given_params c.params) (pin_widths c.pins) fit).1.1
 
 lacks_none : (kind : CellKind) → combinational (Some kind) ≡ Some kind → (name : PinName) → may_lack kind name ≡ false
 lacks_none (Cells.Word kind) word name = refl

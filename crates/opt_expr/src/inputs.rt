@@ -94,9 +94,9 @@ fn followed_signal(
         after ≡ map (follow links) signal.now) }
     ensures keeps { (links : List Link) → IsAliases aliases.old links → IsAliases aliases.new links }
 {
-    let mut after = Vec::with_capacity(alloc, signal.len())?;
+    let mut after = SigSpec::with_capacity(alloc, signal.len())?;
     for bit in signal {
         after.push(aliases.follow(*bit))?;
     }
-    Ok(SigSpec::from_vec(after))
+    Ok(after)
 }

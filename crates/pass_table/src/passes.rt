@@ -1,7 +1,7 @@
 //! A script of `proc` and one more word over the design of a text, or `memory` and gates of bitwise cells.
 
 ghost use Rattle.std.specs.Prelude.{◌≡◌, ◌<◌, [], ◌∷◌, IfOk, length, true};
-ghost use Rattle.rtl_write.specs.Readable.{IsReadable};
+ghost use Rattle.rtl_readable.specs.Readable.{IsReadable};
 ghost use Rattle.script_core.specs.declared.word.Word.TheVariants.{Proc, Opt, Memory as WordMemory};
 
 use crate::bitwise::with_gates;

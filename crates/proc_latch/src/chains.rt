@@ -51,8 +51,10 @@ impl Chains {
         body: SigBit,
         acc: SigBit,
     ) -> Result<SigBit, PassFault>
-        ensures exact { IfOk result (λ bit. (bit, seen self.new) ≡ with_case_bit node signal.now patterns.now body acc (seen self.old)) }
-        ensures over { result ≡ Err PassFault.Over → PassesLimit (with_case_bit node signal.now patterns.now body acc (seen self.old)).1.trees.building }
+        ensures exact { IfOk result (λ bit. (bit, seen self.new) ≡
+            with_case_bit node signal.now patterns.now body acc (seen self.old)) }
+        ensures over { result ≡ Err PassFault.Over →
+            PassesLimit (with_case_bit node signal.now patterns.now body acc (seen self.old)).1.trees.building }
         ensures within { IsInLimits self.old.trees.builder → OnOk result (IsInLimits self.new.trees.builder) }
     {
         let body = SigSpec::from_slice(self.trees.alloc, &[body])?;

@@ -1,10 +1,9 @@
 //! Bits that are always updated, one by one.
 
 ghost use Rattle.std.specs.Prelude.{◌≡◌, ◌∷◌, [], Err, IfOk, OnOk};
-ghost use Rattle.cell_types.specs.PinName.{pin_text};
 ghost use Rattle.rtl_sig.specs.declared.sig.SigBit.TheVariants.{Wire as OnWire};
 ghost use Rattle.rtl_ir.specs.Assigns.{tree_bits};
-ghost use Rattle.rtl_ir.specs.Build.{new_link, pin_of};
+ghost use Rattle.rtl_ir.specs.Build.{new_link};
 ghost use Rattle.rtl_ir.specs.Flat.Process.{may_hold};
 ghost use Rattle.rtl_ir.specs.Follow.{all_joins, joins};
 ghost use Rattle.net_index.specs.Builder.{IsInLimits, PassesLimit, new_params};
@@ -21,8 +20,8 @@ use crate::side::Side;
 use cell_types::{CellKind, Param, ParamName, PinName, StorageKind};
 use indexmap::IndexMap;
 use net_index::{Builder, PassFault, number_param};
-use rtl_bits::{Memory, Text};
-use rtl_ir::{Case, Link, Pin};
+use rtl_bits::Memory;
+use rtl_ir::{Case, Link, Pin, pin_of};
 use rtl_sig::{SigBit, SigSpec, WireBit};
 use std::alloc::Global;
 
@@ -35,8 +34,11 @@ impl Chains {
         lines: &[Link],
     ) -> Result<(), PassFault>
         requires tables { AreTables root.now tables.now }
-        ensures exact { OnOk result (seen self.new.trees ≡ always_steps root.now (tree_bits root.now) (all_joins lines.now) (seen self.old.trees)) }
-        ensures over { result ≡ Err PassFault.Over → PassesLimit (always_steps root.now (tree_bits root.now) (all_joins lines.now) (seen self.old.trees)).building }
+        ensures exact { OnOk result (seen self.new.trees ≡
+            always_steps root.now (tree_bits root.now) (all_joins lines.now) (seen self.old.trees)) }
+        ensures over { result ≡ Err PassFault.Over →
+            PassesLimit (always_steps root.now (tree_bits root.now) (all_joins lines.now)
+            (seen self.old.trees)).building }
         ensures within { IsInLimits self.old.trees.builder → OnOk result (IsInLimits self.new.trees.builder) }
     {
         for line in lines {
@@ -54,8 +56,11 @@ impl Chains {
         right: &[SigBit],
     ) -> Result<(), PassFault>
         requires tables { AreTables root.now tables.now }
-        ensures exact { OnOk result (seen self.new.trees ≡ always_steps root.now (tree_bits root.now) (joins left.now right.now) (seen self.old.trees)) }
-        ensures over { result ≡ Err PassFault.Over → PassesLimit (always_steps root.now (tree_bits root.now) (joins left.now right.now) (seen self.old.trees)).building }
+        ensures exact { OnOk result (seen self.new.trees ≡
+            always_steps root.now (tree_bits root.now) (joins left.now right.now) (seen self.old.trees)) }
+        ensures over { result ≡ Err PassFault.Over →
+            PassesLimit (always_steps root.now (tree_bits root.now) (joins left.now right.now)
+            (seen self.old.trees)).building }
         ensures within { IsInLimits self.old.trees.builder → OnOk result (IsInLimits self.new.trees.builder) }
     {
         for at in 0..left.len().min(right.len()) {
@@ -73,8 +78,11 @@ impl Chains {
         source: SigBit,
     ) -> Result<(), PassFault>
         requires tables { AreTables root.now tables.now }
-        ensures exact { OnOk result (seen self.new.trees ≡ always_steps root.now (tree_bits root.now) (joins (left ∷ []) (source ∷ [])) (seen self.old.trees)) }
-        ensures over { result ≡ Err PassFault.Over → PassesLimit (always_steps root.now (tree_bits root.now) (joins (left ∷ []) (source ∷ [])) (seen self.old.trees)).building }
+        ensures exact { OnOk result (seen self.new.trees ≡
+            always_steps root.now (tree_bits root.now) (joins (left ∷ []) (source ∷ [])) (seen self.old.trees)) }
+        ensures over { result ≡ Err PassFault.Over →
+            PassesLimit (always_steps root.now (tree_bits root.now) (joins (left ∷ []) (source ∷ []))
+            (seen self.old.trees)).building }
         ensures within { IsInLimits self.old.trees.builder → OnOk result (IsInLimits self.new.trees.builder) }
     {
         match left {
@@ -93,8 +101,11 @@ impl Chains {
         source: SigBit,
     ) -> Result<(), PassFault>
         requires tables { AreTables root.now tables.now }
-        ensures exact { OnOk result (seen self.new.trees ≡ always_step root.now (tree_bits root.now) (record { bit = bit; source = source }) (seen self.old.trees)) }
-        ensures over { result ≡ Err PassFault.Over → PassesLimit (always_step root.now (tree_bits root.now) (record { bit = bit; source = source }) (seen self.old.trees)).building }
+        ensures exact { OnOk result (seen self.new.trees ≡
+            always_step root.now (tree_bits root.now) (record { bit = bit; source = source }) (seen self.old.trees)) }
+        ensures over { result ≡ Err PassFault.Over →
+            PassesLimit (always_step root.now (tree_bits root.now) (record { bit = bit; source = source })
+            (seen self.old.trees)).building }
         ensures within { IsInLimits self.old.trees.builder → OnOk result (IsInLimits self.new.trees.builder) }
     {
         let bits = tables.bits.list.as_slice();
@@ -110,7 +121,11 @@ impl Chains {
 
     /// A bit that never holds is connected to its value.
     fn connect(&mut self, bit: WireBit, source: SigBit) -> Result<(), PassFault>
-        ensures exact { OnOk result (seen self.new.trees ≡ record { building = new_link (OnWire bit ∷ []) (source ∷ []) self.old.trees.builder; made = self.old.trees.made.items }) }
+        ensures exact { OnOk result (seen self.new.trees ≡
+            record {
+              building = new_link (OnWire bit ∷ []) (source ∷ []) self.old.trees.builder;
+              made = self.old.trees.made.items;
+            }) }
         ensures over { result ≡ Err PassFault.Over → PassesLimit self.old.trees.builder }
         ensures within { IsInLimits self.old.trees.builder → OnOk result (IsInLimits self.new.trees.builder) }
     {
@@ -130,8 +145,11 @@ impl Chains {
         source: SigBit,
     ) -> Result<(), PassFault>
         requires tables { AreTables root.now tables.now }
-        ensures exact { OnOk result (seen self.new.trees ≡ latch_step root.now (tree_bits root.now) (record { bit = own; source = source }) (seen self.old.trees)) }
-        ensures over { result ≡ Err PassFault.Over → PassesLimit (latch_step root.now (tree_bits root.now) (record { bit = own; source = source }) (seen self.old.trees)).building }
+        ensures exact { OnOk result (seen self.new.trees ≡
+            latch_step root.now (tree_bits root.now) (record { bit = own; source = source }) (seen self.old.trees)) }
+        ensures over { result ≡ Err PassFault.Over →
+            PassesLimit (latch_step root.now (tree_bits root.now) (record { bit = own; source = source })
+            (seen self.old.trees)).building }
         ensures within { IsInLimits self.old.trees.builder → OnOk result (IsInLimits self.new.trees.builder) }
     {
         let data = Reading {
@@ -154,23 +172,17 @@ impl Chains {
     /// The value of a bit on one side, with chains of its own.
     fn side_value(&mut self, read: &Reading<'_>, source: SigBit) -> Result<SigBit, PassFault>
         requires read { IsRead read.now }
-        ensures exact { IfOk result (λ value. (value, seen self.new.trees) ≡ side_value (side_of read.now.side) read.now.root.now (tree_bits read.now.root.now) (record { bit = read.now.own; source = source }) (seen self.old.trees)) }
-        ensures over { result ≡ Err PassFault.Over → PassesLimit (side_value (side_of read.now.side) read.now.root.now (tree_bits read.now.root.now) (record { bit = read.now.own; source = source }) (seen self.old.trees)).1.building }
+        ensures exact { IfOk result (λ value. (value, seen self.new.trees) ≡
+            side_value (side_of read.now.side) read.now.root.now (tree_bits read.now.root.now)
+            (record { bit = read.now.own; source = source }) (seen self.old.trees)) }
+        ensures over { result ≡ Err PassFault.Over →
+            PassesLimit (side_value (side_of read.now.side) read.now.root.now (tree_bits read.now.root.now)
+            (record { bit = read.now.own; source = source }) (seen self.old.trees)).1.building }
         ensures within { IsInLimits self.old.trees.builder → OnOk result (IsInLimits self.new.trees.builder) }
     {
         self.chains = IndexMap::new(self.trees.alloc);
         self.leaf(read, read.tables.bits.list.len(), source)
     }
-}
-
-/// A pin of one bit.
-fn pin(alloc: Global, name: PinName, bit: SigBit) -> Result<Pin, Memory>
-    ensures value { IfOk result (λ pin. pin ≡ pin_of (pin_text name) (bit ∷ [])) }
-{
-    Ok(Pin {
-        name: Text::from_slice(alloc, name.text())?,
-        sig: SigSpec::from_slice(alloc, &[bit])?,
-    })
 }
 
 /// The parameters of a latch of one bit.
@@ -188,9 +200,9 @@ fn latch_pins(alloc: Global, own: WireBit, new: SigBit, enable: SigBit) -> Resul
     ensures value { IfOk result (λ pins. pins.items ≡ latch_pins own new enable) }
 {
     let mut pins = Vec::new(alloc);
-    pins.push(pin(alloc, PinName::En, enable)?)?;
-    pins.push(pin(alloc, PinName::D, new)?)?;
-    pins.push(pin(alloc, PinName::Q, SigBit::Wire(own))?)?;
+    pins.push(pin_of(alloc, PinName::En, &[enable])?)?;
+    pins.push(pin_of(alloc, PinName::D, &[new])?)?;
+    pins.push(pin_of(alloc, PinName::Q, &[SigBit::Wire(own)])?)?;
     Ok(pins)
 }
 

@@ -38,7 +38,8 @@ pub(crate) fn latches_step(
 /// A process with one rule that acts, where that always does. Any other adds nothing.
 fn latch_process(alloc: Global, builder: Builder, process: &Process) -> Result<Builder, PassFault>
     ensures exact { IfOk result (λ after. after ≡ latch_process process.now (acting_rules process.now.syncs) builder) }
-    ensures over { result ≡ Err PassFault.Over → PassesLimit (latch_process process.now (acting_rules process.now.syncs) builder) }
+    ensures over { result ≡ Err PassFault.Over →
+        PassesLimit (latch_process process.now (acting_rules process.now.syncs) builder) }
     ensures within { IsInLimits builder → IfOk result IsInLimits }
 {
     match only_acting(process.syncs.as_slice()) {
@@ -84,7 +85,8 @@ fn only_acting(rules: &[SyncRule]) -> Option<&SyncRule>
 
 /// The rule, where none of the others acts.
 fn alone<'a>(rule: &'a SyncRule, others: &[SyncRule]) -> Option<&'a SyncRule>
-    ensures value { option_map_or (λ (r : _). Some r.now) result None ≡ (if list_any acts others.now then None else Some rule.now) }
+    ensures value { option_map_or (λ (r : _). Some r.now) result None ≡
+        (if list_any acts others.now then None else Some rule.now) }
 {
     if any_acts(others) { None } else { Some(rule) }
 }
@@ -136,7 +138,8 @@ fn process_left(alloc: Global, process: &Process) -> Result<Process, Memory>
 
 /// The rules that do not always act.
 fn rules_left(alloc: Global, rules: &[SyncRule]) -> Result<Vec<SyncRule>, Memory>
-    ensures value { IfOk result (λ left. left.items ≡ filter (λ (r : SyncRule). if is_always r.event then false else true) rules.now) }
+    ensures value { IfOk result (λ left. left.items ≡ filter (λ (r : SyncRule).
+        if is_always r.event then false else true) rules.now) }
 {
     let mut left = Vec::with_capacity(alloc, rules.len())?;
     for rule in rules {

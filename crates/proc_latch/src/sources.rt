@@ -46,7 +46,8 @@ impl Sources {
 
     /// Puts last what is given to a bit.
     fn put(&mut self, bit: WireBit, given: Given) -> Result<(), Memory>
-        ensures ok { OnOk result ((b : WireBit) → given_in self.new b ≡ given_in self.old b ++ (if same_bit bit b then given ∷ [] else [])) }
+        ensures ok { OnOk result ((b : WireBit) →
+            given_in self.new b ≡ given_in self.old b ++ (if same_bit bit b then given ∷ [] else [])) }
     {
         let mut list = match self.given.remove(&bit) {
             Some(list) => list,
@@ -59,7 +60,8 @@ impl Sources {
 
     /// Puts last what a place of an assign gives, where it names a bit.
     fn put_place(&mut self, node: usize, left: SigBit, source: SigBit) -> Result<(), Memory>
-        ensures ok { OnOk result ((b : WireBit) → given_in self.new b ≡ given_in self.old b ++ own_given b node (joins (left ∷ []) (source ∷ []))) }
+        ensures ok { OnOk result ((b : WireBit) →
+            given_in self.new b ≡ given_in self.old b ++ own_given b node (joins (left ∷ []) (source ∷ []))) }
     {
         if let SigBit::Wire(bit) = left {
             self.put(bit, Given { node, source })?;
@@ -69,7 +71,8 @@ impl Sources {
 
     /// Puts last what an assign of the case at this node gives.
     fn put_line(&mut self, node: usize, left: &[SigBit], right: &[SigBit]) -> Result<(), Memory>
-        ensures ok { OnOk result ((b : WireBit) → given_in self.new b ≡ given_in self.old b ++ own_given b node (joins left.now right.now)) }
+        ensures ok { OnOk result ((b : WireBit) →
+            given_in self.new b ≡ given_in self.old b ++ own_given b node (joins left.now right.now)) }
     {
         for at in 0..left.len().min(right.len()) {
             self.put_place(node, left[at], right[at])?;
@@ -79,7 +82,8 @@ impl Sources {
 
     /// Puts last what the assigns of the case at this node give.
     fn put_lines(&mut self, node: usize, lines: &[Link]) -> Result<(), Memory>
-        ensures ok { OnOk result ((b : WireBit) → given_in self.new b ≡ given_in self.old b ++ own_given b node (all_joins lines.now)) }
+        ensures ok { OnOk result ((b : WireBit) →
+            given_in self.new b ≡ given_in self.old b ++ own_given b node (all_joins lines.now)) }
     {
         for line in lines {
             self.put_line(node, line.left.as_slice(), line.right.as_slice())?;
@@ -90,7 +94,8 @@ impl Sources {
     /// Puts last what is given in the case and below it. The answer is the first node behind the case.
     #[cycle(sources)]
     fn put_case(&mut self, node: usize, case: &Case) -> Result<usize, Memory>
-        ensures given { OnOk result ((b : WireBit) → given_in self.new b ≡ given_in self.old b ++ case_given b node case.now) }
+        ensures given { OnOk result ((b : WireBit) →
+            given_in self.new b ≡ given_in self.old b ++ case_given b node case.now) }
         ensures behind { IfOk result (λ behind. behind ≡ behind_case node case.now.switches) }
     {
         self.put_lines(node, case.assigns.as_slice())?;
@@ -104,7 +109,8 @@ impl Sources {
     /// Puts last what is given below the switch. The answer is the first node behind the switch.
     #[cycle(sources)]
     fn put_switch(&mut self, node: usize, switch: &Switch) -> Result<usize, Memory>
-        ensures given { OnOk result ((b : WireBit) → given_in self.new b ≡ given_in self.old b ++ switch_given b node switch.now) }
+        ensures given { OnOk result ((b : WireBit) →
+            given_in self.new b ≡ given_in self.old b ++ switch_given b node switch.now) }
         ensures behind { IfOk result (λ behind. behind ≡ behind_switch node switch.now.cases) }
     {
         let mut next = next_node(node)?;

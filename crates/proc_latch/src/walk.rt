@@ -5,7 +5,18 @@ ghost use Rattle.rtl_sig.specs.declared.sig.SigBit.TheVariants.{Wire as OnWire};
 ghost use Rattle.rtl_ir.specs.Tree.{cases_of, switches_of};
 ghost use Rattle.net_index.specs.Builder.{IsInLimits, PassesLimit};
 ghost use Rattle.match_cells.specs.Numbers.{HasCases, HasSwitches, behind_case, behind_switch};
-ghost use Rattle.proc_latch.specs.Chains.{IsRead, case_chain, cases_chain, chain_of, new_chain, reads, seen, start_leaf, switch_chain, switches_chain};
+ghost use Rattle.proc_latch.specs.Chains.{
+  IsRead,
+  case_chain,
+  cases_chain,
+  chain_of,
+  new_chain,
+  reads,
+  seen,
+  start_leaf,
+  switch_chain,
+  switches_chain,
+};
 ghost use Rattle.proc_latch.specs.Givens.{AreInOrder};
 ghost use Rattle.proc_latch.specs.Sides.{side_of};
 
@@ -16,6 +27,23 @@ use match_cells::{behind, case_nodes};
 use net_index::PassFault;
 use rtl_ir::{Case, Switch};
 use rtl_sig::{SigBit, WireBit};
+
+/// How the chain of a bit is made: how leaves are read, how many chains may be made one in another, and what the
+/// assigns give the bit.
+#[derive(Clone, Copy)]
+struct Way<'a> {
+    read: &'a Reading<'a>,
+    depth: usize,
+    given: &'a [Given],
+}
+
+/// A case with the number of its node, and the signal that it is chosen by.
+#[derive(Clone, Copy)]
+struct Arm<'a> {
+    node: usize,
+    signal: &'a [SigBit],
+    case: &'a Case,
+}
 
 impl Chains {
     /// A leaf as it is read. So many chains may be made one in another.
@@ -28,7 +56,8 @@ impl Chains {
     ) -> Result<SigBit, PassFault>
         requires read { IsRead read.now }
         ensures exact { IfOk result (λ bit. (bit, seen self.new) ≡ reads read.now depth leaf (seen self.old)) }
-        ensures over { result ≡ Err PassFault.Over → PassesLimit (reads read.now depth leaf (seen self.old)).1.trees.building }
+        ensures over { result ≡ Err PassFault.Over →
+            PassesLimit (reads read.now depth leaf (seen self.old)).1.trees.building }
         ensures within { IsInLimits self.old.trees.builder → OnOk result (IsInLimits self.new.trees.builder) }
     {
         let bit = match leaf {
@@ -51,8 +80,11 @@ impl Chains {
     #[cycle(chain)]
     fn chain(&mut self, read: &Reading<'_>, depth: usize, bit: WireBit) -> Result<SigBit, PassFault>
         requires read { IsRead read.now }
-        ensures exact { IfOk result (λ value. (value, seen self.new) ≡ chain_of (reads read.now depth) (side_of read.now.side) read.now.root.now bit (seen self.old)) }
-        ensures over { result ≡ Err PassFault.Over → PassesLimit (chain_of (reads read.now depth) (side_of read.now.side) read.now.root.now bit (seen self.old)).1.trees.building }
+        ensures exact { IfOk result (λ value. (value, seen self.new) ≡
+            chain_of (reads read.now depth) (side_of read.now.side) read.now.root.now bit (seen self.old)) }
+        ensures over { result ≡ Err PassFault.Over →
+            PassesLimit (chain_of (reads read.now depth) (side_of read.now.side) read.now.root.now bit
+            (seen self.old)).1.trees.building }
         ensures within { IsInLimits self.old.trees.builder → OnOk result (IsInLimits self.new.trees.builder) }
     {
         match self.chain_at(bit) {
@@ -70,8 +102,11 @@ impl Chains {
         bit: WireBit,
     ) -> Result<SigBit, PassFault>
         requires read { IsRead read.now }
-        ensures exact { IfOk result (λ value. (value, seen self.new) ≡ new_chain (reads read.now depth) (side_of read.now.side) read.now.root.now bit (seen self.old)) }
-        ensures over { result ≡ Err PassFault.Over → PassesLimit (new_chain (reads read.now depth) (side_of read.now.side) read.now.root.now bit (seen self.old)).1.trees.building }
+        ensures exact { IfOk result (λ value. (value, seen self.new) ≡
+            new_chain (reads read.now depth) (side_of read.now.side) read.now.root.now bit (seen self.old)) }
+        ensures over { result ≡ Err PassFault.Over →
+            PassesLimit (new_chain (reads read.now depth) (side_of read.now.side) read.now.root.now bit
+            (seen self.old)).1.trees.building }
         ensures within { IsInLimits self.old.trees.builder → OnOk result (IsInLimits self.new.trees.builder) }
     {
         let given = read.tables.sources.of_bit(bit);
@@ -79,7 +114,12 @@ impl Chains {
         let start = self.start(read, depth, value_at(given, 0), missing)?;
         let root = read.root;
         let switches = root.switches.as_slice();
-        let value = self.switches_chain(read, depth, given, 1, switches, start)?;
+        let way = Way {
+            read: &*read,
+            depth,
+            given,
+        };
+        let value = self.switches_chain(&way, 1, switches, start)?;
         self.put_chain(bit, value)?;
         Ok(value)
     }
@@ -94,8 +134,10 @@ impl Chains {
         prior: SigBit,
     ) -> Result<SigBit, PassFault>
         requires read { IsRead read.now }
-        ensures exact { IfOk result (λ value. (value, seen self.new) ≡ start_leaf (reads read.now depth) source prior (seen self.old)) }
-        ensures over { result ≡ Err PassFault.Over → PassesLimit (start_leaf (reads read.now depth) source prior (seen self.old)).1.trees.building }
+        ensures exact { IfOk result (λ value. (value, seen self.new) ≡
+            start_leaf (reads read.now depth) source prior (seen self.old)) }
+        ensures over { result ≡ Err PassFault.Over →
+            PassesLimit (start_leaf (reads read.now depth) source prior (seen self.old)).1.trees.building }
         ensures within { IsInLimits self.old.trees.builder → OnOk result (IsInLimits self.new.trees.builder) }
     {
         match source {
@@ -108,25 +150,27 @@ impl Chains {
     #[cycle(chain)]
     fn switches_chain(
         &mut self,
-        read: &Reading<'_>,
-        depth: usize,
-        given: &[Given],
+        way: &Way<'_>,
         node: usize,
         switches: &[Switch],
         prior: SigBit,
     ) -> Result<SigBit, PassFault>
-        requires read { IsRead read.now }
-        requires in_order { AreInOrder given.now }
-        requires table { HasSwitches read.now.tables.now.nodes.items node (switches_of switches.now) }
-        ensures exact { IfOk result (λ value. (value, seen self.new) ≡ switches_chain (reads read.now depth) given.now node (switches_of switches.now) prior (seen self.old)) }
-        ensures over { result ≡ Err PassFault.Over → PassesLimit (switches_chain (reads read.now depth) given.now node (switches_of switches.now) prior (seen self.old)).1.trees.building }
+        requires read { IsRead way.now.read.now }
+        requires in_order { AreInOrder way.now.given.now }
+        requires table { HasSwitches way.now.read.now.tables.now.nodes.items node (switches_of switches.now) }
+        ensures exact { IfOk result (λ value. (value, seen self.new) ≡
+            switches_chain (reads way.now.read.now way.now.depth) way.now.given.now node (switches_of switches.now)
+            prior (seen self.old)) }
+        ensures over { result ≡ Err PassFault.Over →
+            PassesLimit (switches_chain (reads way.now.read.now way.now.depth) way.now.given.now node
+            (switches_of switches.now) prior (seen self.old)).1.trees.building }
         ensures within { IsInLimits self.old.trees.builder → OnOk result (IsInLimits self.new.trees.builder) }
     {
         let mut node = node;
         let mut value = prior;
         for switch in switches {
-            value = self.switch_chain(read, depth, given, node, switch, value)?;
-            node = behind(read.tables.nodes.as_slice(), node);
+            value = self.switch_chain(way, node, switch, value)?;
+            node = behind(way.read.tables.nodes.as_slice(), node);
         }
         Ok(value)
     }
@@ -135,55 +179,65 @@ impl Chains {
     #[cycle(chain)]
     fn switch_chain(
         &mut self,
-        read: &Reading<'_>,
-        depth: usize,
-        given: &[Given],
+        way: &Way<'_>,
         node: usize,
         switch: &Switch,
         prior: SigBit,
     ) -> Result<SigBit, PassFault>
-        requires read { IsRead read.now }
-        requires in_order { AreInOrder given.now }
-        requires behind { slice_get read.now.tables.now.nodes.items node ≡ Some (behind_switch node switch.now.cases) }
-        requires table { HasCases read.now.tables.now.nodes.items (node + 1) switch.now.cases }
-        ensures exact { IfOk result (λ value. (value, seen self.new) ≡ switch_chain (reads read.now depth) given.now node switch.now.signal switch.now.cases prior (seen self.old)) }
-        ensures over { result ≡ Err PassFault.Over → PassesLimit (switch_chain (reads read.now depth) given.now node switch.now.signal switch.now.cases prior (seen self.old)).1.trees.building }
+        requires read { IsRead way.now.read.now }
+        requires in_order { AreInOrder way.now.given.now }
+        requires behind { slice_get way.now.read.now.tables.now.nodes.items node ≡
+            Some (behind_switch node switch.now.cases) }
+        requires table { HasCases way.now.read.now.tables.now.nodes.items (node + 1) switch.now.cases }
+        ensures exact { IfOk result (λ value. (value, seen self.new) ≡
+            switch_chain (reads way.now.read.now way.now.depth) way.now.given.now node switch.now.signal
+            switch.now.cases prior (seen self.old)) }
+        ensures over { result ≡ Err PassFault.Over →
+            PassesLimit (switch_chain (reads way.now.read.now way.now.depth) way.now.given.now node switch.now.signal
+            switch.now.cases prior (seen self.old)).1.trees.building }
         ensures within { IsInLimits self.old.trees.builder → OnOk result (IsInLimits self.new.trees.builder) }
     {
-        if !has_between(given, node, behind(read.tables.nodes.as_slice(), node)) {
+        let next = behind(way.read.tables.nodes.as_slice(), node);
+        if !has_between(way.given, node, next) {
             return Ok(prior);
         }
         let signal = switch.signal.as_slice();
         let cases = switch.cases.as_slice();
-        self.cases_chain(read, depth, given, node + 1, signal, cases, prior)
+        self.cases_chain(way, node + 1, signal, cases, prior)
     }
 
     /// The cases of a switch act, the last one first, on the value of a bit before the switch.
     #[cycle(chain)]
     fn cases_chain(
         &mut self,
-        read: &Reading<'_>,
-        depth: usize,
-        given: &[Given],
+        way: &Way<'_>,
         node: usize,
         signal: &[SigBit],
         cases: &[Case],
         prior: SigBit,
     ) -> Result<SigBit, PassFault>
-        requires read { IsRead read.now }
-        requires in_order { AreInOrder given.now }
-        requires table { HasCases read.now.tables.now.nodes.items node (cases_of cases.now) }
-        ensures exact { IfOk result (λ value. (value, seen self.new) ≡ cases_chain (reads read.now depth) given.now node signal.now (cases_of cases.now) prior (seen self.old)) }
-        ensures over { result ≡ Err PassFault.Over → PassesLimit (cases_chain (reads read.now depth) given.now node signal.now (cases_of cases.now) prior (seen self.old)).1.trees.building }
+        requires read { IsRead way.now.read.now }
+        requires in_order { AreInOrder way.now.given.now }
+        requires table { HasCases way.now.read.now.tables.now.nodes.items node (cases_of cases.now) }
+        ensures exact { IfOk result (λ value. (value, seen self.new) ≡
+            cases_chain (reads way.now.read.now way.now.depth) way.now.given.now node signal.now (cases_of cases.now)
+            prior (seen self.old)) }
+        ensures over { result ≡ Err PassFault.Over →
+            PassesLimit (cases_chain (reads way.now.read.now way.now.depth) way.now.given.now node signal.now
+            (cases_of cases.now) prior (seen self.old)).1.trees.building }
         ensures within { IsInLimits self.old.trees.builder → OnOk result (IsInLimits self.new.trees.builder) }
     {
-        let nodes = case_nodes(self.trees.alloc, read.tables.nodes.as_slice(), node, cases)?;
+        let tables = way.read.tables;
+        let nodes = case_nodes(self.trees.alloc, tables.nodes.as_slice(), node, cases)?;
         let nodes = nodes.as_slice();
         let mut value = prior;
         for at in (0..cases.len()).rev() {
-            value = self.case_chain(
-                read, depth, given, nodes[at], signal, &cases[at], prior, value,
-            )?;
+            let arm = Arm {
+                node: nodes[at],
+                signal,
+                case: &cases[at],
+            };
+            value = self.case_chain(way, &arm, prior, value)?;
         }
         Ok(value)
     }
@@ -192,26 +246,32 @@ impl Chains {
     #[cycle(chain)]
     fn case_chain(
         &mut self,
-        read: &Reading<'_>,
-        depth: usize,
-        given: &[Given],
-        node: usize,
-        signal: &[SigBit],
-        case: &Case,
+        way: &Way<'_>,
+        arm: &Arm<'_>,
         prior: SigBit,
         acc: SigBit,
     ) -> Result<SigBit, PassFault>
-        requires read { IsRead read.now }
-        requires in_order { AreInOrder given.now }
-        requires behind { slice_get read.now.tables.now.nodes.items node ≡ Some (behind_case node case.now.switches) }
-        requires table { HasSwitches read.now.tables.now.nodes.items (node + 1) case.now.switches }
-        ensures exact { IfOk result (λ value. (value, seen self.new) ≡ case_chain (reads read.now depth) given.now node signal.now case.now.patterns case.now.switches prior acc (seen self.old)) }
-        ensures over { result ≡ Err PassFault.Over → PassesLimit (case_chain (reads read.now depth) given.now node signal.now case.now.patterns case.now.switches prior acc (seen self.old)).1.trees.building }
+        requires read { IsRead way.now.read.now }
+        requires in_order { AreInOrder way.now.given.now }
+        requires behind { slice_get way.now.read.now.tables.now.nodes.items arm.now.node ≡
+            Some (behind_case arm.now.node arm.now.case.now.switches) }
+        requires table { HasSwitches way.now.read.now.tables.now.nodes.items (arm.now.node + 1)
+            arm.now.case.now.switches }
+        ensures exact { IfOk result (λ value. (value, seen self.new) ≡
+            case_chain (reads way.now.read.now way.now.depth) way.now.given.now arm.now.node arm.now.signal.now
+            arm.now.case.now.patterns arm.now.case.now.switches prior acc (seen self.old)) }
+        ensures over { result ≡ Err PassFault.Over →
+            PassesLimit (case_chain (reads way.now.read.now way.now.depth) way.now.given.now arm.now.node
+            arm.now.signal.now arm.now.case.now.patterns arm.now.case.now.switches prior acc
+            (seen self.old)).1.trees.building }
         ensures within { IsInLimits self.old.trees.builder → OnOk result (IsInLimits self.new.trees.builder) }
     {
-        let start = self.start(read, depth, value_at(given, node), prior)?;
+        let node = arm.node;
+        let case = arm.case;
+        let given = value_at(way.given, node);
+        let start = self.start(way.read, way.depth, given, prior)?;
         let switches = case.switches.as_slice();
-        let body = self.switches_chain(read, depth, given, node + 1, switches, start)?;
-        self.with_case(node, signal, case.patterns.as_slice(), body, acc)
+        let body = self.switches_chain(way, node + 1, switches, start)?;
+        self.with_case(node, arm.signal, case.patterns.as_slice(), body, acc)
     }
 }

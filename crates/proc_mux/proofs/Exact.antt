@@ -11,7 +11,8 @@ use Rattle.rtl_ir.specs.declared.process.Process.{Process}
 use Rattle.net_model.specs.Within.{Each}
 use Rattle.net_model.specs.Proc.Mux.{Trees, in_bit_order, run_value, tree_runs}
 use Rattle.net_model.specs.Proc.Mux as by_places
-use Rattle.proc_mux.specs.Givens.{case_given, unknowns}
+use Rattle.proc_mux.specs.Givens.{unknowns}
+use Rattle.proc_mux.specs.Rows.{tree_given}
 use Rattle.match_cells.specs.Trees.{Numbered, none_made}
 use Rattle.proc_mux.specs.Trees.{run_step, runs_step, switches_value, value_at}
 use Rattle.match_cells.proofs.Growing.{Grows, grows_more, grows_none, over_later}
@@ -21,7 +22,8 @@ use Rattle.net_index.specs.Builder.{PassesLimit}
 use Rattle.proc_mux.proofs.Fitting.{AreEven, root_fits, root_value}
 use Rattle.match_cells.proofs.Places.{IsInSwitches, switch_number}
 use Rattle.match_cells.proofs.Same.{Agrees, IsMade, none_is_made}
-use Rattle.proc_mux.proofs.Same.{switches_same, value_width}
+use Rattle.proc_mux.proofs.RowGivens.{given_is}
+use Rattle.proc_mux.proofs.Same.{FitsSwitches, switches_same, value_width}
 use Rattle.proc_mux.proofs.Uniform.{runs_uniform}
 
 -- what is built is the same, and so are the matches that are made
@@ -32,12 +34,14 @@ pub record AreSame (root : Switches) (d : Trees) (f : Numbered) : Type 0 where
 run_same : (c : CaseView) (run : List WireBit) → AreEven run (case_assigns c) → (d : Trees) (f : Numbered) → AreSame c.switches d f → AreSame c.switches (by_places.run_step c run d) (run_step c run f)
 unfolding run_step
 run_same c run even d f same =
-    let given = case_given run 0 c in
+    let given = tree_given c run in
+    let e = given_is c run even in
     let start = run_value c.assigns run (unknowns run) in
     let w : length (unknowns run) ≡ length run = length-map run _ in
-    let begins : unwrap_or (value_at given 0) (unknowns run) ≡ start = root_value c run even (unknowns run) w in
+    let begins : unwrap_or (value_at given 0) (unknowns run) ≡ start = ap (λ gs. unwrap_or (value_at gs 0) (unknowns run)) e ∙ root_value c run even (unknowns run) w in
+    let fits : FitsSwitches c.switches run given 1 c.switches = subst (λ gs. FitsSwitches c.switches run gs 1 c.switches) (sym e) (root_fits c run even) in
     let a =
-    switches_same c.switches run given [] 0 1 c.switches start d f (root_fits c run even)
+    switches_same c.switches run given [] 0 1 c.switches start d f fits
     (λ j q i. let e : j ≡ 0 + j = omega arith in subst (λ m. IsInSwitches c.switches (m ∷ q) × (switch_number 1 c.switches (m ∷ q) ≡ switch_number 1 c.switches (j ∷ q))) e (i, refl))
     (value_width c.switches run given c.assigns run (unknowns run) w) same.building same.made in
     let b : Agrees c.switches (length run) (by_places.switches_value run [] 0 c.switches start d) (switches_value given 1 c.switches (unwrap_or (value_at given 0) (unknowns run)) f) =

@@ -11,12 +11,13 @@ use Rattle.rtl_ir.specs.Follow.{all_joins, joins}
 use Rattle.rtl_ir.specs.Tree.{CaseView, Switches, NoSwitch, OneSwitch, Cases, NoCase, OneCase}
 use Rattle.net_model.specs.Lists.{In}
 use Rattle.net_model.specs.Proc.Mux.{assigns_run, names_bit, run_value}
-use Rattle.proc_mux.specs.Givens.{case_given, cases_given, own_given, switches_given, unknowns}
+use Rattle.proc_mux.specs.Givens.{unknowns}
 use Rattle.match_cells.specs.Numbers.{behind_case, behind_switch, cases_size, switches_size}
 use Rattle.proc_mux.specs.Trees.{has_between, value_at}
 use Rattle.proc_mux.specs.declared.given.Given.{Given}
 use Rattle.proc_mux.proofs.Same.{FitsCases, FitsSwitches}
 use Rattle.proc_mux.proofs.Sources.{names_is, source_append}
+use Rattle.proc_mux.proofs.TreeGivens.{case_given, cases_given, own_given, switches_given}
 
 -- all of these nodes stand before a number, or none does
 abbrev AllBelow : ℕ → List Given → Type 0
@@ -196,7 +197,7 @@ even_right run [] ys h = h
 even_right run (x ∷ xs) ys h = even_right run xs ys h.1
 
 -- lines name all bits of a run, or none
-even_all : (run : List WireBit) (ls : List Link) → AreEven run ls → (t : Bool) × ((b : WireBit) → In b run → list_any (names_bit b) ls ≡ t)
+pub even_all : (run : List WireBit) (ls : List Link) → AreEven run ls → (t : Bool) × ((b : WireBit) → In b run → list_any (names_bit b) ls ≡ t)
 even_all run [] h = (false, λ b i. refl)
 even_all run (l ∷ ls) h =
     let later = even_all run ls h.1 in
@@ -221,7 +222,7 @@ none_is p (y ∷ ys) x (inr i) e = none_is p ys x i (right (p y) (list_any p ys)
     right false b f = f
 
 -- lines that give a bit something name it
-assigned_is : (ls : List Link) (b : WireBit) → is_some (assigned ls b) ≡ list_any (names_bit b) ls
+pub assigned_is : (ls : List Link) (b : WireBit) → is_some (assigned ls b) ≡ list_any (names_bit b) ls
 assigned_is [] b = refl
 assigned_is (l ∷ ls) b =
     ap is_some (source_append (joins l.left l.right) (all_joins ls) b)

@@ -9,7 +9,8 @@ use Rattle.rtl_sig.specs.declared.sig.WireBit.{WireBit}
 use Rattle.rtl_ir.specs.Build.{new_link}
 use Rattle.rtl_ir.specs.Tree.{CaseView}
 use Rattle.net_index.specs.Builder.{PassesLimit}
-use Rattle.proc_mux.specs.Givens.{case_given, unknowns}
+use Rattle.proc_mux.specs.Givens.{unknowns}
+use Rattle.proc_mux.specs.Rows.{tree_given}
 use Rattle.match_cells.specs.Trees.{Numbered}
 use Rattle.proc_mux.specs.Trees.{run_step, runs_step, switches_value, value_at}
 use Rattle.proc_mux.specs.declared.given.Given.{Given}
@@ -24,8 +25,8 @@ unknown_goes run at h bits bits' all more so =
     ∙ ap (λ bs. bits ++ unknowns bs) (sym (drop-cons run at d h))
     ∙ so
 
-module _ (root : CaseView) (run : List WireBit) (t : Numbered) (given : List Given) (start : List SigBit) (are : given ≡ case_given run 0 root) (begins : start ≡ unwrap_or (value_at given 0) (unknowns run)) where
-  value_is : switches_value given 1 root.switches start t ≡ switches_value (case_given run 0 root) 1 root.switches (unwrap_or (value_at (case_given run 0 root) 0) (unknowns run)) t
+module _ (root : CaseView) (run : List WireBit) (t : Numbered) (given : List Given) (start : List SigBit) (are : given ≡ tree_given root run) (begins : start ≡ unwrap_or (value_at given 0) (unknowns run)) where
+  value_is : switches_value given 1 root.switches start t ≡ switches_value (tree_given root run) 1 root.switches (unwrap_or (value_at (tree_given root run) 0) (unknowns run)) t
   value_is = λ i. switches_value (are i) 1 root.switches ((begins ∙ ap (λ gs. unwrap_or (value_at gs 0) (unknowns run)) are) i) t
 
   pub run_made : (r : List SigBit × Numbered) (signal : List SigBit) → r ≡ switches_value given 1 root.switches start t → signal ≡ map OnWire run → record { building = new_link signal r.0 r.1.building; made = r.1.made } ≡ run_step root run t
@@ -37,14 +38,14 @@ module _ (root : CaseView) (run : List WireBit) (t : Numbered) (given : List Giv
   pub run_over : PassesLimit (switches_value given 1 root.switches start t).1.building → PassesLimit (run_step root run t).building
   unfolding run_step
   run_over over =
-      let value = switches_value (case_given run 0 root) 1 root.switches (unwrap_or (value_at (case_given run 0 root) 0) (unknowns run)) t in
+      let value = switches_value (tree_given root run) 1 root.switches (unwrap_or (value_at (tree_given root run) 0) (unknowns run)) t in
       over_later value.1.building (new_link (map OnWire run) value.0 value.1.building) (link_grows (map OnWire run) value.0 value.1.building)
       (subst (λ (r : List SigBit × Numbered). PassesLimit r.1.building) value_is over)
 
 pub run_grows : (root : CaseView) (run : List WireBit) (t : Numbered) → Grows t.building (run_step root run t).building
 unfolding run_step
 run_grows root run t =
-    let given = case_given run 0 root in
+    let given = tree_given root run in
     let start = unwrap_or (value_at given 0) (unknowns run) in
     let value = switches_value given 1 root.switches start t in
     grows_more t.building value.1.building (new_link (map OnWire run) value.0 value.1.building) (switches_grow given 1 root.switches start t) (link_grows (map OnWire run) value.0 value.1.building)

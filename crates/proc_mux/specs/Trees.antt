@@ -9,7 +9,8 @@ use Rattle.rtl_ir.specs.Build.{new_link}
 use Rattle.rtl_ir.specs.Tree.{Switches, NoSwitch, OneSwitch, Cases, NoCase, OneCase, CaseView}
 use Rattle.match_cells.specs.Numbers.{behind_case, behind_switch}
 use Rattle.match_cells.specs.Trees.{Numbered, with_case}
-use Rattle.proc_mux.specs.Givens.{case_given, unknowns}
+use Rattle.proc_mux.specs.Givens.{unknowns}
+use Rattle.proc_mux.specs.Rows.{tree_given}
 use Rattle.proc_mux.specs.declared.given.Given.{Given}
 
 -- what the assigns of the case at a node give, where it has assigns of the run
@@ -54,7 +55,7 @@ case_value given n signal patterns switches prior acc t =
 -- a run is connected to what the root case makes of x
 unfoldable pub run_step : CaseView → List WireBit → Numbered → Numbered
 run_step root run t =
-    let given = case_given run 0 root in
+    let given = tree_given root run in
     let start = unwrap_or (value_at given 0) (unknowns run) in
     let value = switches_value given 1 root.switches start t in
     record { building = new_link (map OnWire run) value.0 value.1.building; made = value.1.made }

@@ -1,10 +1,11 @@
 //! The last step of `proc`: trees of decisions become multiplexers, and the processes go.
 #![tactic(auto)]
 
+mod begins;
 mod given;
-mod given_walk;
 mod lines;
 mod process;
+mod rows;
 mod runs;
 mod walk;
 

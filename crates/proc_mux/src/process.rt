@@ -6,12 +6,12 @@ ghost use Rattle.net_index.specs.Builder.{IsInLimits, PassesLimit};
 ghost use Rattle.net_model.specs.Proc.Mux.{process_step, processes_step};
 ghost use Rattle.match_cells.specs.Numbers.{HasSwitches};
 ghost use Rattle.match_cells.specs.Trees.{seen};
+ghost use Rattle.proc_mux.specs.Rows.{AreRows};
 ghost use Rattle.proc_mux.specs.Trees.{run_step, switches_value};
 
-use crate::given::Given;
-use crate::given_walk::{given_of, unknowns};
-use crate::lines::lines_of;
-use crate::runs::{bits_in_order, runs_of};
+use crate::given::{Given, given_of, unknowns};
+use crate::rows::{Rows, rows_of};
+use crate::runs::tree_runs;
 use crate::walk::{start_of, switches_value};
 use match_cells::{Trees, nodes_behind};
 use net_index::{Builder, PassFault};
@@ -45,12 +45,11 @@ fn process_step(alloc: Global, builder: Builder, process: &Process) -> Result<Bu
 {
     let root = &process.root;
     let table = nodes_behind(alloc, root)?;
-    let lines = lines_of(alloc, root)?;
-    let bits = bits_in_order(alloc, root)?;
-    let runs = runs_of(alloc, lines.as_slice(), bits.as_slice())?;
+    let runs = tree_runs(alloc, root)?;
+    let rows = rows_of(alloc, root)?;
     let mut trees = Trees::of(alloc, builder, table.len())?;
     for run in runs.as_slice() {
-        run_step(&mut trees, table.as_slice(), root, run.as_slice())?;
+        run_step(&mut trees, table.as_slice(), &rows, root, run.as_slice())?;
     }
     Ok(trees.builder)
 }
@@ -59,15 +58,17 @@ fn process_step(alloc: Global, builder: Builder, process: &Process) -> Result<Bu
 fn run_step(
     trees: &mut Trees,
     table: &[usize],
+    rows: &Rows,
     root: &Case,
     run: &[WireBit],
 ) -> Result<(), PassFault>
     requires table { HasSwitches table.now 1 root.now.switches }
+    requires rows { AreRows rows.now root.now }
     ensures exact { OnOk result (seen trees.new ≡ run_step root.now run.now (seen trees.old)) }
     ensures over { result ≡ Err PassFault.Over → PassesLimit (run_step root.now run.now (seen trees.old)).building }
     ensures within { IsInLimits trees.old.builder → OnOk result (IsInLimits trees.new.builder) }
 {
-    let given = given_of(trees.alloc, run, root)?;
+    let given = given_of(trees.alloc, rows, run)?;
     let prior = unknowns(trees.alloc, run)?;
     let start = start_of(trees.alloc, given.as_slice(), 0, prior.as_slice())?;
     let value = tree_value(trees, table, given.as_slice(), root, start)?;

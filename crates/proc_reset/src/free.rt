@@ -33,7 +33,8 @@ pub(crate) fn are_free(
     bits: &[WireBit],
 ) -> Result<bool, Memory>
     ensures value { (ports : Ports) (m : Module) → AreIn reads.now (wire_bits (fixed_signals ports m)) →
-        IfOk result (λ free. free ≡ (are_unread bits.now (outer_reads ports m (others.now.before.now ++ others.now.after.now)) && are_unread bits.now (control_reads process.now))) }
+        IfOk result (λ free. free ≡ (are_unread bits.now (outer_reads ports m (others.now.before.now
+        ++ others.now.after.now)) && are_unread bits.now (control_reads process.now))) }
 {
     if has_one(reads, bits) {
         return Ok(false);
@@ -68,7 +69,8 @@ fn neither(before: bool, after: bool, tested: bool) -> bool
 
 /// Whether one of the processes reads a bit of the set.
 fn processes_meet(alloc: Global, set: &BitSet, processes: &[Process]) -> Result<bool, Memory>
-    ensures value { IfOk result (λ meet. (all : List WireBit) → AreIn set.now all → meet ≡ list_any (is_among all) (flat_map process_signals processes.now)) }
+    ensures value { IfOk result (λ meet. (all : List WireBit) → AreIn set.now all →
+        meet ≡ list_any (is_among all) (flat_map process_signals processes.now)) }
 {
     for process in processes {
         let signals = process_signals(alloc, process)?;

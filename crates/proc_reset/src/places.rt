@@ -7,7 +7,15 @@ ghost use Rattle.rtl_ir.specs.Follow.{all_joins, joins};
 ghost use Rattle.rtl_ir.specs.Tree.{CaseView};
 ghost use Rattle.net_model.specs.Proc.Reset.{line_of_places, reset_places};
 ghost use Rattle.process_trees.specs.Rounds.{AreLeaves};
-ghost use Rattle.proc_reset.specs.Places.{is_held, joins_of, leaves_at, left_side, one_constant, reset_line, right_side};
+ghost use Rattle.proc_reset.specs.Places.{
+  is_held,
+  joins_of,
+  leaves_at,
+  left_side,
+  one_constant,
+  reset_line,
+  right_side,
+};
 
 use process_trees::Leaves;
 use rtl_bits::Memory;
@@ -44,8 +52,8 @@ fn put_places(alloc: Global, updates: &mut Vec<Link>, places: &[Place]) -> Resul
         return Ok(());
     }
     let line = Link {
-        left: SigSpec::from_vec(left_side(alloc, places)?),
-        right: SigSpec::from_vec(right_side(alloc, places)?),
+        left: SigSpec::from_vec(left_side(alloc, places)?)?,
+        right: SigSpec::from_vec(right_side(alloc, places)?)?,
     };
     updates.push(line)?;
     Ok(())
@@ -98,7 +106,8 @@ fn put_place(
     source: SigBit,
 ) -> Result<(), Memory>
     ensures ok { OnOk result ((root : CaseView) (bits : List WireBit) → AreLeaves leaves.now root bits →
-        joins_of places.new.items ≡ joins_of places.old.items ++ reset_places (leaves_at root bits) (joins (left ∷ []) (source ∷ []))) }
+        joins_of places.new.items ≡
+        joins_of places.old.items ++ reset_places (leaves_at root bits) (joins (left ∷ []) (source ∷ []))) }
 {
     match left {
         SigBit::Fixed(_) => Ok(()),
@@ -114,7 +123,8 @@ fn put_bit(
     source: SigBit,
 ) -> Result<(), Memory>
     ensures ok { OnOk result ((root : CaseView) (bits : List WireBit) → AreLeaves leaves.now root bits →
-        joins_of places.new.items ≡ joins_of places.old.items ++ reset_places (leaves_at root bits) (record { bit = bit; source = source } ∷ [])) }
+        joins_of places.new.items ≡
+        joins_of places.old.items ++ reset_places (leaves_at root bits) (record { bit = bit; source = source } ∷ [])) }
 {
     let summary = leaves.of_source(source);
     if let Some(constant) = one_constant(summary.only) {
@@ -138,7 +148,8 @@ fn one_constant(only: Option<SigBit>) -> Option<SigBit>
 
 /// Whether a bit on the left of the lines keeps its value.
 pub(crate) fn lines_hold(leaves: &Leaves, lines: &[Link]) -> bool
-    ensures value { (root : CaseView) (bits : List WireBit) → AreLeaves leaves.now root bits → result ≡ list_any (is_held root bits) (all_joins lines.now) }
+    ensures value { (root : CaseView) (bits : List WireBit) → AreLeaves leaves.now root bits →
+        result ≡ list_any (is_held root bits) (all_joins lines.now) }
 {
     for line in lines {
         if line_holds(leaves, line.left.as_slice(), line.right.as_slice()) {
@@ -150,7 +161,8 @@ pub(crate) fn lines_hold(leaves: &Leaves, lines: &[Link]) -> bool
 
 /// The same of one line with these sides.
 fn line_holds(leaves: &Leaves, left: &[SigBit], right: &[SigBit]) -> bool
-    ensures value { (root : CaseView) (bits : List WireBit) → AreLeaves leaves.now root bits → result ≡ list_any (is_held root bits) (joins left.now right.now) }
+    ensures value { (root : CaseView) (bits : List WireBit) → AreLeaves leaves.now root bits →
+        result ≡ list_any (is_held root bits) (joins left.now right.now) }
 {
     for at in 0..left.len().min(right.len()) {
         if place_holds(leaves, left[at], right[at]) {
@@ -162,7 +174,8 @@ fn line_holds(leaves: &Leaves, left: &[SigBit], right: &[SigBit]) -> bool
 
 /// The same of a place of a line.
 fn place_holds(leaves: &Leaves, left: SigBit, source: SigBit) -> bool
-    ensures value { (root : CaseView) (bits : List WireBit) → AreLeaves leaves.now root bits → result ≡ list_any (is_held root bits) (joins (left ∷ []) (source ∷ [])) }
+    ensures value { (root : CaseView) (bits : List WireBit) → AreLeaves leaves.now root bits →
+        result ≡ list_any (is_held root bits) (joins (left ∷ []) (source ∷ [])) }
 {
     match left {
         SigBit::Fixed(_) => false,
@@ -172,7 +185,8 @@ fn place_holds(leaves: &Leaves, left: SigBit, source: SigBit) -> bool
 
 /// The same of a bit that is given this source.
 fn is_held(leaves: &Leaves, bit: WireBit, source: SigBit) -> bool
-    ensures value { (root : CaseView) (bits : List WireBit) → AreLeaves leaves.now root bits → result ≡ is_held root bits (record { bit = bit; source = source }) }
+    ensures value { (root : CaseView) (bits : List WireBit) → AreLeaves leaves.now root bits →
+        result ≡ is_held root bits (record { bit = bit; source = source }) }
 {
     leaves.of_source(source).are_all(bit)
 }

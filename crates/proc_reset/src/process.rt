@@ -40,13 +40,22 @@ pub(crate) struct Outer<'a> {
     pub(crate) reads: &'a BitSet,
 }
 
+/// A process with its module, and the others of that.
+#[derive(Clone, Copy)]
+struct Setting<'a> {
+    outer: &'a Outer<'a>,
+    others: &'a Others<'a>,
+    process: &'a Process,
+}
+
 /// The processes in order, each beside those before it as they have become.
 pub(crate) fn reset_processes(
     alloc: Global,
     outer: &Outer,
     processes: &[Process],
 ) -> Result<Vec<Process>, Memory>
-    ensures value { (ports : Ports) → IsOuter outer.now ports → IfOk result (λ done. done.items ≡ step.resets_step ports outer.now.«module».now [] processes.now) }
+    ensures value { (ports : Ports) → IsOuter outer.now ports →
+        IfOk result (λ done. done.items ≡ step.resets_step ports outer.now.«module».now [] processes.now) }
 {
     let mut done = Vec::with_capacity(alloc, processes.len())?;
     for at in 0..processes.len() {
@@ -76,10 +85,18 @@ fn reset_process(
     process: &Process,
 ) -> Result<Process, Memory>
     ensures value { (ports : Ports) → IsOuter outer.now ports → IfOk result (λ made.
-        made ≡ step.reset_process ports outer.now.«module».now (others.now.before.now ++ others.now.after.now) process.now (acting_rules process.now.syncs)) }
+        made ≡ step.reset_process ports outer.now.«module».now (others.now.before.now ++ others.now.after.now)
+        process.now (acting_rules process.now.syncs)) }
 {
     match acting_rules(process.syncs.as_slice()) {
-        Acting::Pair(first, second) => { reset_by(alloc, outer, others, process, first, second) }
+        Acting::Pair(first, second) => {
+            let setting = Setting {
+                outer,
+                others,
+                process,
+            };
+            reset_by(alloc, &setting, first, second)
+        }
         Acting::Idle | Acting::Single(_) | Acting::Several => process.copy(),
     }
 }
@@ -87,108 +104,115 @@ fn reset_process(
 /// The process by its two rules that act.
 fn reset_by(
     alloc: Global,
-    outer: &Outer,
-    others: &Others,
-    process: &Process,
+    setting: &Setting<'_>,
     first: &SyncRule,
     second: &SyncRule,
 ) -> Result<Process, Memory>
-    ensures value { (ports : Ports) → IsOuter outer.now ports → IfOk result (λ made.
-        made ≡ step.reset_by ports outer.now.«module».now (others.now.before.now ++ others.now.after.now) process.now first.now.updates (edges.edge_bit first.now.event) (edges.edge_bit second.now.event)) }
+    ensures value { (ports : Ports) → IsOuter setting.now.outer.now ports →
+        IfOk result (λ made. made ≡ step.reset_by ports setting.now.outer.now.«module».now
+        (setting.now.others.now.before.now ++ setting.now.others.now.after.now) setting.now.process.now
+        first.now.updates (edges.edge_bit first.now.event) (edges.edge_bit second.now.event)) }
 {
     match edge_bit(&first.event) {
-        Some(one) => by_second(alloc, outer, others, process, first, one, second),
-        None => process.copy(),
+        Some(one) => by_second(alloc, setting, first, one, second),
+        None => setting.process.copy(),
     }
 }
 
 /// The process by the first rule, at this edge, and the second one.
 fn by_second(
     alloc: Global,
-    outer: &Outer,
-    others: &Others,
-    process: &Process,
+    setting: &Setting<'_>,
     first: &SyncRule,
     one: EdgeBit,
     second: &SyncRule,
 ) -> Result<Process, Memory>
-    ensures value { (ports : Ports) → IsOuter outer.now ports → IfOk result (λ made.
-        made ≡ step.reset_by ports outer.now.«module».now (others.now.before.now ++ others.now.after.now) process.now first.now.updates (Some (edge_as one)) (edges.edge_bit second.now.event)) }
+    ensures value { (ports : Ports) → IsOuter setting.now.outer.now ports →
+        IfOk result (λ made. made ≡ step.reset_by ports setting.now.outer.now.«module».now
+        (setting.now.others.now.before.now ++ setting.now.others.now.after.now) setting.now.process.now
+        first.now.updates (Some (edge_as one)) (edges.edge_bit second.now.event)) }
 {
     match edge_bit(&second.event) {
-        Some(other) => by_edges(
-            alloc,
-            outer,
-            others,
-            process,
-            first.updates.as_slice(),
-            one,
-            other,
-        ),
-        None => process.copy(),
+        Some(other) => by_edges(alloc, setting, first.updates.as_slice(), one, other),
+        None => setting.process.copy(),
     }
 }
 
 /// The process by two edges with these lines.
 fn by_edges(
     alloc: Global,
-    outer: &Outer,
-    others: &Others,
-    process: &Process,
+    setting: &Setting<'_>,
     lines: &[Link],
     one: EdgeBit,
     other: EdgeBit,
 ) -> Result<Process, Memory>
-    ensures value { (ports : Ports) → IsOuter outer.now ports → IfOk result (λ made.
-        made ≡ step.reset_by ports outer.now.«module».now (others.now.before.now ++ others.now.after.now) process.now lines.now (Some (edge_as one)) (Some (edge_as other))) }
+    ensures value { (ports : Ports) → IsOuter setting.now.outer.now ports →
+        IfOk result (λ made. made ≡ step.reset_by ports setting.now.outer.now.«module».now
+        (setting.now.others.now.before.now ++ setting.now.others.now.after.now) setting.now.process.now lines.now
+        (Some (edge_as one)) (Some (edge_as other))) }
 {
+    let outer = setting.outer;
     let tested = outer
         .tests
-        .is_tested(alloc, outer.module, one.bit, &process.root)?;
+        .is_tested(alloc, outer.module, one.bit, &setting.process.root)?;
     if tested {
-        with_level(alloc, outer, others, process, one, lines)
+        with_level(alloc, setting, one, lines)
     } else {
-        with_level(alloc, outer, others, process, other, lines)
+        with_level(alloc, setting, other, lines)
     }
 }
 
 /// The process with a level rule for the reset.
 fn with_level(
     alloc: Global,
-    outer: &Outer,
-    others: &Others,
-    process: &Process,
+    setting: &Setting<'_>,
     reset: EdgeBit,
     lines: &[Link],
 ) -> Result<Process, Memory>
-    ensures value { (ports : Ports) → IsOuter outer.now ports → IfOk result (λ made.
-        made ≡ step.with_level ports outer.now.«module».now (others.now.before.now ++ others.now.after.now) process.now (edge_as reset) lines.now) }
+    ensures value { (ports : Ports) → IsOuter setting.now.outer.now ports →
+        IfOk result (λ made. made ≡ step.with_level ports setting.now.outer.now.«module».now
+        (setting.now.others.now.before.now ++ setting.now.others.now.after.now) setting.now.process.now
+        (edge_as reset) lines.now) }
 {
-    let bits = tree_bits(alloc, &process.root)?;
+    let bits = tree_bits(alloc, &setting.process.root)?;
     let tree = bits.as_slice();
-    let active = root_at(alloc, outer, reset.bit, reset.level, &process.root)?;
+    let active = root_at(
+        alloc,
+        setting.outer,
+        reset.bit,
+        reset.level,
+        &setting.process.root,
+    )?;
     let leaves = Leaves::of(alloc, &active, tree, None)?;
-    by_leaves(alloc, outer, others, process, reset, lines, tree, &leaves)
+    by_leaves(alloc, setting, reset, lines, tree, &leaves)
 }
 
-/// The same by the tree bits and the leaves with the reset active.
+/// The process with a level rule for the reset, by the tree bits and the leaves with the reset active.
 fn by_leaves(
     alloc: Global,
-    outer: &Outer,
-    others: &Others,
-    process: &Process,
+    setting: &Setting<'_>,
     reset: EdgeBit,
     lines: &[Link],
     bits: &[WireBit],
     leaves: &Leaves,
 ) -> Result<Process, Memory>
-    ensures value { (ports : Ports) (active : CaseView) → IsOuter outer.now ports → bits.now ≡ tree_bits process.now.root
-        → active ≡ open_case (switch_test ports outer.now.«module».now reset.bit) reset.level process.now.root → AreLeaves leaves.now active bits.now →
-        IfOk result (λ made. made ≡ step.with_level ports outer.now.«module».now (others.now.before.now ++ others.now.after.now) process.now (edge_as reset) lines.now) }
+    ensures value { (ports : Ports) (active : CaseView) → IsOuter setting.now.outer.now ports →
+        bits.now ≡ tree_bits setting.now.process.now.root →
+        active ≡ open_case (switch_test ports setting.now.outer.now.«module».now reset.bit) reset.level
+        setting.now.process.now.root → AreLeaves leaves.now active bits.now →
+        IfOk result (λ made. made ≡ step.with_level ports setting.now.outer.now.«module».now
+        (setting.now.others.now.before.now ++ setting.now.others.now.after.now) setting.now.process.now
+        (edge_as reset) lines.now) }
 {
-    let root = level_root(alloc, outer, others, process, reset, lines, bits, leaves)?;
-    let syncs = level_rules(alloc, leaves, reset, lines, process.syncs.as_slice())?;
-    process_with(process, root, syncs)
+    let root = level_root(alloc, setting, reset, lines, bits, leaves)?;
+    let syncs = level_rules(
+        alloc,
+        leaves,
+        reset,
+        lines,
+        setting.process.syncs.as_slice(),
+    )?;
+    process_with(setting.process, root, syncs)
 }
 
 /// The process with this root and these rules.
@@ -212,7 +236,8 @@ fn level_rules(
     rules: &[SyncRule],
 ) -> Result<Seq<SyncRule>, Memory>
     ensures value { (root : CaseView) (bits : List WireBit) → AreLeaves leaves.now root bits →
-        IfOk result (λ made. made ≡ step.with_reset reset.bit (step.reset_rule (leaves_at root bits) (edge_as reset) lines.now) rules.now) }
+        IfOk result (λ made. made ≡
+        step.with_reset reset.bit (step.reset_rule (leaves_at root bits) (edge_as reset) lines.now) rules.now) }
 {
     let rule = reset_rule(alloc, leaves, reset, lines)?;
     let made = with_reset(alloc, reset.bit, &rule, rules)?;
@@ -222,21 +247,23 @@ fn level_rules(
 /// The root without tests of the reset, where it need not be tested any more.
 fn level_root(
     alloc: Global,
-    outer: &Outer,
-    others: &Others,
-    process: &Process,
+    setting: &Setting<'_>,
     reset: EdgeBit,
     lines: &[Link],
     bits: &[WireBit],
     leaves: &Leaves,
 ) -> Result<Case, Memory>
-    ensures value { (ports : Ports) (active : CaseView) → IsOuter outer.now ports → AreLeaves leaves.now active bits.now →
+    ensures value { (ports : Ports) (active : CaseView) → IsOuter setting.now.outer.now ports →
+        AreLeaves leaves.now active bits.now →
         IfOk result (λ root. root ≡ (if not (list_any (is_held active bits.now) (all_joins lines.now))
-        && (step.are_unread bits.now (step.outer_reads ports outer.now.«module».now (others.now.before.now ++ others.now.after.now)) && step.are_unread bits.now (step.control_reads process.now))
-        then open_case (switch_test ports outer.now.«module».now reset.bit) (not reset.level) process.now.root else process.now.root)) }
+        && (step.are_unread bits.now (step.outer_reads ports setting.now.outer.now.«module».now
+        (setting.now.others.now.before.now ++ setting.now.others.now.after.now)) && step.are_unread bits.now
+        (step.control_reads setting.now.process.now)) then open_case
+        (switch_test ports setting.now.outer.now.«module».now reset.bit) (not reset.level)
+        setting.now.process.now.root else setting.now.process.now.root)) }
 {
-    let free = is_free(alloc, outer.reads, others, process, bits, leaves, lines)?;
-    root_after(alloc, outer, reset, free, &process.root)
+    let free = is_free(alloc, setting, bits, leaves, lines)?;
+    root_after(alloc, setting.outer, reset, free, &setting.process.root)
 }
 
 /// The root with the bit at the level.
@@ -247,7 +274,8 @@ fn root_at(
     level: bool,
     root: &Case,
 ) -> Result<Case, Memory>
-    ensures value { (ports : Ports) → IsOuter outer.now ports → IfOk result (λ made. made ≡ open_case (switch_test ports outer.now.«module».now event) level root.now) }
+    ensures value { (ports : Ports) → IsOuter outer.now ports →
+        IfOk result (λ made. made ≡ open_case (switch_test ports outer.now.«module».now event) level root.now) }
 {
     let by = Level {
         tests: outer.tests,
@@ -267,7 +295,8 @@ fn root_after(
     root: &Case,
 ) -> Result<Case, Memory>
     ensures value { (ports : Ports) → IsOuter outer.now ports → IfOk result (λ made.
-        made ≡ (if free then open_case (switch_test ports outer.now.«module».now reset.bit) (not reset.level) root.now else root.now)) }
+        made ≡ (if free then open_case (switch_test ports outer.now.«module».now reset.bit) (not reset.level)
+        root.now else root.now)) }
 {
     if free {
         root_at(alloc, outer, reset.bit, !reset.level, root)
@@ -280,19 +309,27 @@ fn root_after(
 /// updates of the process. The leaves are those with the reset active.
 fn is_free(
     alloc: Global,
-    reads: &BitSet,
-    others: &Others,
-    process: &Process,
+    setting: &Setting<'_>,
     bits: &[WireBit],
     leaves: &Leaves,
     lines: &[Link],
 ) -> Result<bool, Memory>
-    ensures value { (ports : Ports) (m : rtl.Module) (active : CaseView) → AreIn reads.now (wire_bits (fixed_signals ports m)) → AreLeaves leaves.now active bits.now →
+    ensures value { (ports : Ports) (m : rtl.Module) (active : CaseView) →
+        AreIn setting.now.outer.now.reads.now (wire_bits (fixed_signals ports m)) →
+        AreLeaves leaves.now active bits.now →
         IfOk result (λ free. free ≡ (not (list_any (is_held active bits.now) (all_joins lines.now))
-        && (step.are_unread bits.now (step.outer_reads ports m (others.now.before.now ++ others.now.after.now)) && step.are_unread bits.now (step.control_reads process.now)))) }
+        && (step.are_unread bits.now (step.outer_reads ports m (setting.now.others.now.before.now
+        ++ setting.now.others.now.after.now)) && step.are_unread bits.now
+        (step.control_reads setting.now.process.now)))) }
 {
     if lines_hold(leaves, lines) {
         return Ok(false);
     }
-    are_free(alloc, reads, others, process, bits)
+    are_free(
+        alloc,
+        setting.outer.reads,
+        setting.others,
+        setting.process,
+        bits,
+    )
 }

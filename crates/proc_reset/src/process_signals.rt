@@ -4,7 +4,14 @@ ghost use Rattle.std.specs.Prelude.{◌≡◌, ◌++◌, flat_map, IfOk, OnOk};
 ghost use Rattle.rtl_ir.specs.Assigns.{case_assigns, cases_assigns};
 ghost use Rattle.rtl_ir.specs.Rules.{acting_rules};
 ghost use Rattle.net_model.specs.Proc.Reset.{cases_signals, event_signal, switches_signals};
-ghost use Rattle.proc_reset.specs.Reads.{control_signals, event_signals, process_signals, rule_signals, sources, write_signals};
+ghost use Rattle.proc_reset.specs.Reads.{
+  control_signals,
+  event_signals,
+  process_signals,
+  rule_signals,
+  sources,
+  write_signals,
+};
 
 use crate::signals::put_sources;
 use process_trees::acts;
@@ -47,7 +54,8 @@ fn put_tests(signals: &mut Vec<SigBit>, case: &Case) -> Result<(), Memory>
 /// Puts the signal and the patterns of the switch last, and those of the switches below it.
 #[cycle(tests)]
 fn put_switch_tests(signals: &mut Vec<SigBit>, switch: &Switch) -> Result<(), Memory>
-    ensures ok { OnOk result (signals.new.items ≡ signals.old.items ++ (switch.now.signal ++ cases_signals switch.now.cases)) }
+    ensures ok { OnOk result (signals.new.items ≡
+        signals.old.items ++ (switch.now.signal ++ cases_signals switch.now.cases)) }
 {
     signals.extend_from_slice(switch.signal.as_slice())?;
     for case in &switch.cases {

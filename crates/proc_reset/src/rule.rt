@@ -52,7 +52,8 @@ fn reset_lines(alloc: Global, leaves: &Leaves, lines: &[Link]) -> Result<Vec<Lin
 
 /// The event at the level that the bit has after the edge.
 fn level_event(alloc: Global, edge: EdgeBit) -> Result<Event, Memory>
-    ensures value { IfOk result (λ event. event ≡ (if edge.level then High (OnWire edge.bit ∷ []) else Low (OnWire edge.bit ∷ []))) }
+    ensures value { IfOk result (λ event. event ≡
+        (if edge.level then High (OnWire edge.bit ∷ []) else Low (OnWire edge.bit ∷ []))) }
 {
     let signal = SigSpec::from_slice(alloc, &[SigBit::Wire(edge.bit)])?;
     if edge.level {
@@ -80,7 +81,8 @@ pub(crate) fn with_reset(
 
 /// The rule that stands where this old one stood.
 fn rule_after(bit: WireBit, rule: &SyncRule, old: &SyncRule) -> Result<SyncRule, Memory>
-    ensures value { IfOk result (λ made. made ≡ (if has_line old.now && step.is_edge_of bit (edges.edge_bit old.now.event) then rule.now else old.now)) }
+    ensures value { IfOk result (λ made. made ≡
+        (if has_line old.now && step.is_edge_of bit (edges.edge_bit old.now.event) then rule.now else old.now)) }
 {
     if has_line(old) && is_edge_of(bit, edge_bit(&old.event)) {
         rule.copy()

@@ -9,7 +9,7 @@ ghost use Rattle.proc_reset.specs.Reads.{cell_signals, fixed_signals, output_sig
 
 use net_index::{CellType, Types, drives_pin, whole};
 use rtl_bits::Memory;
-use rtl_ir::{Cell, Link, Module, Pin, Role, Wire};
+use rtl_ir::{Cell, Link, Module, Pin, Wire, is_output};
 use rtl_sig::SigBit;
 use std::alloc::Global;
 
@@ -19,7 +19,8 @@ pub(crate) fn fixed_signals(
     module: &Module,
     types: &Types,
 ) -> Result<Vec<SigBit>, Memory>
-    ensures value { IfOk result (λ signals. (ports : rtl.Ports) → AreTypes types.now ports → signals.items ≡ fixed_signals ports «module».now) }
+    ensures value { IfOk result (λ signals. (ports : rtl.Ports) → AreTypes types.now ports →
+        signals.items ≡ fixed_signals ports «module».now) }
 {
     let mut signals = Vec::new(alloc);
     put_sources(&mut signals, module.links.as_slice())?;
@@ -40,7 +41,8 @@ pub(crate) fn put_sources(signals: &mut Vec<SigBit>, lines: &[Link]) -> Result<(
 
 /// Puts the signals last that the cells read.
 fn put_cells(signals: &mut Vec<SigBit>, types: &Types, cells: &[Cell]) -> Result<(), Memory>
-    ensures ok { OnOk result ((ports : rtl.Ports) → AreTypes types.now ports → signals.new.items ≡ signals.old.items ++ flat_map (cell_signals ports) cells.now) }
+    ensures ok { OnOk result ((ports : rtl.Ports) → AreTypes types.now ports →
+        signals.new.items ≡ signals.old.items ++ flat_map (cell_signals ports) cells.now) }
 {
     for cell in cells {
         put_cell(signals, types, cell)?;
@@ -50,7 +52,8 @@ fn put_cells(signals: &mut Vec<SigBit>, types: &Types, cells: &[Cell]) -> Result
 
 /// Puts the signals last that the cell reads.
 fn put_cell(signals: &mut Vec<SigBit>, types: &Types, cell: &Cell) -> Result<(), Memory>
-    ensures ok { OnOk result ((ports : rtl.Ports) → AreTypes types.now ports → signals.new.items ≡ signals.old.items ++ cell_signals ports cell.now) }
+    ensures ok { OnOk result ((ports : rtl.Ports) → AreTypes types.now ports →
+        signals.new.items ≡ signals.old.items ++ cell_signals ports cell.now) }
 {
     let cell_type = types.find(cell.kind_name.as_slice());
     put_pins(signals, &cell_type, cell.pins.as_slice())
@@ -58,7 +61,8 @@ fn put_cell(signals: &mut Vec<SigBit>, types: &Types, cell: &Cell) -> Result<(),
 
 /// Puts the signals last that a cell of the type reads at these pins.
 fn put_pins(signals: &mut Vec<SigBit>, cell_type: &CellType, pins: &[Pin]) -> Result<(), Memory>
-    ensures ok { OnOk result ((type : rtl.CellType) → IsType cell_type.now type → signals.new.items ≡ signals.old.items ++ flat_map (pin_signal type) pins.now) }
+    ensures ok { OnOk result ((type : rtl.CellType) → IsType cell_type.now type →
+        signals.new.items ≡ signals.old.items ++ flat_map (pin_signal type) pins.now) }
 {
     for pin in pins {
         put_pin(signals, cell_type, pin)?;
@@ -68,7 +72,8 @@ fn put_pins(signals: &mut Vec<SigBit>, cell_type: &CellType, pins: &[Pin]) -> Re
 
 /// Puts the signal of the pin last, where a cell of the type reads it.
 fn put_pin(signals: &mut Vec<SigBit>, cell_type: &CellType, pin: &Pin) -> Result<(), Memory>
-    ensures ok { OnOk result ((type : rtl.CellType) → IsType cell_type.now type → signals.new.items ≡ signals.old.items ++ pin_signal type pin.now) }
+    ensures ok { OnOk result ((type : rtl.CellType) → IsType cell_type.now type →
+        signals.new.items ≡ signals.old.items ++ pin_signal type pin.now) }
 {
     if !drives_pin(cell_type, pin.name.as_slice()) {
         signals.extend_from_slice(pin.sig.as_slice())?;
@@ -100,18 +105,12 @@ fn put_output(
     place: u32,
     wire: &Wire,
 ) -> Result<(), Memory>
-    ensures ok { OnOk result (signals.new.items ≡ signals.old.items ++ (if is_output wire.now.role then whole place wire.now.width else [])) }
+    ensures ok { OnOk result (signals.new.items ≡
+        signals.old.items ++ (if is_output wire.now.role then whole place wire.now.width else [])) }
 {
     if is_output(wire.role) {
         let bits = whole(alloc, place, wire.width)?;
         signals.extend_from_slice(bits.as_slice())?;
     }
     Ok(())
-}
-
-/// Whether a port of this role is seen outside.
-fn is_output(role: Role) -> bool
-    ensures value { result ≡ is_output role }
-{
-    matches!(role, Role::Output)
 }

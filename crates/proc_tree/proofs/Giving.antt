@@ -18,10 +18,9 @@ use Rattle.rtl_ir.specs.SwitchRules.{root_by_rules}
 use Rattle.rtl_ir.specs.Tree.{CaseView}
 use Rattle.net_index.specs.IndexTable.{at_bit}
 use Rattle.net_model.proofs.Members.{map-append}
-use Rattle.proc_tree.specs.declared.places.Place.{Place}
+use Rattle.rtl_ir.specs.declared.follow.Join.{Join}
 use Rattle.proc_tree.specs.declared.starts.Starts.{Starts}
 use Rattle.proc_tree.specs.Leaves.{first_start}
-use Rattle.proc_tree.specs.Places.{join_of}
 use Rattle.proc_tree.specs.Starts.{Adds, AreStarts, AreStartsOf, starts_by, wire_is_begun}
 
 -- one more start value
@@ -62,22 +61,21 @@ pub adds_both : (a b c : Starts) (xs ys : List Begun) → Adds a b xs → Adds b
 adds_both a b c xs ys h k = record { adds = λ count all before. subst (AreStarts c count) (append_assoc all xs ys) (k.adds count (all ++ xs) (h.adds count all before)) }
 
 -- one more place
-pub places_next : (root : CaseView) (places : List Place) (i : ℕ) (d : Place) → i < length places → (leaf : Bit) → leaf ≡ first_start root (get_or places i d).source → (a b c : Starts)
-    → Adds a b (starts_by root (map join_of (take i places))) → Adds b c (record { bit = (get_or places i d).bit; value = leaf } ∷ [])
-    → Adds a c (starts_by root (map join_of (take (i + 1) places)))
+pub places_next : (root : CaseView) (places : List Join) (i : ℕ) (d : Join) → i < length places → (leaf : Bit) → leaf ≡ first_start root (get_or places i d).source → (a b c : Starts)
+    → Adds a b (starts_by root (take i places)) → Adds b c (record { bit = (get_or places i d).bit; value = leaf } ∷ [])
+    → Adds a c (starts_by root (take (i + 1) places))
 places_next root places i d lt leaf is a b c h k =
-    let p : Place = get_or places i d in
-    let done : List Place = take i places in
-    let now : Adds b c (starts_by root (map join_of (p ∷ []))) = subst (λ v. Adds b c (record { bit = p.bit; value = v } ∷ [])) is k in
-    let same : starts_by root (map join_of done) ++ starts_by root (map join_of (p ∷ [])) ≡ starts_by root (map join_of (take (i + 1) places)) =
+    let p : Join = get_or places i d in
+    let done : List Join = take i places in
+    let now : Adds b c (starts_by root (p ∷ [])) = subst (λ v. Adds b c (record { bit = p.bit; value = v } ∷ [])) is k in
+    let same : starts_by root done ++ starts_by root (p ∷ []) ≡ starts_by root (take (i + 1) places) =
     sym (
-    ap (λ xs. starts_by root (map join_of xs)) (take_more places i d lt)
-    ∙ ap (λ js. starts_by root js) (map-append join_of done (p ∷ []))
-    ∙ map-append (λ j. record { bit = j.bit; value = first_start root j.source }) (map join_of done) (map join_of (p ∷ []))) in
-    subst (Adds a c) same (adds_both a b c (starts_by root (map join_of done)) (starts_by root (map join_of (p ∷ []))) h now)
+    ap (λ xs. starts_by root xs) (take_more places i d lt)
+    ∙ map-append (λ j. record { bit = j.bit; value = first_start root j.source }) done (p ∷ [])) in
+    subst (Adds a c) same (adds_both a b c (starts_by root done) (starts_by root (p ∷ [])) h now)
 
-pub places_end : (root : CaseView) (places : List Place) (i : ℕ) → length places ≤ i → (a b : Starts) → Adds a b (starts_by root (map join_of (take i places))) → Adds a b (starts_by root (map join_of places))
-places_end root places i far a b h = subst (λ xs. Adds a b (starts_by root (map join_of xs))) (take_all i places far) h
+pub places_end : (root : CaseView) (places : List Join) (i : ℕ) → length places ≤ i → (a b : Starts) → Adds a b (starts_by root (take i places)) → Adds a b (starts_by root places)
+places_end root places i far a b h = subst (λ xs. Adds a b (starts_by root xs)) (take_all i places far) h
 
 -- the start values of a process, by its tree read by the rules
 pub process_given : (p : Process) (root : CaseView) (rules : List SyncRule) (a b : Starts) → root ≡ root_by_rules p.root → rules ≡ p.syncs → Adds a b (starts_by root (all_joins (init_lines rules))) → Adds a b (process_starts p)

@@ -19,9 +19,6 @@ use Rattle.rtl_ir.specs.Tree.{Switches, NoSwitch, OneSwitch, Cases, NoCase, OneC
 use Rattle.net_index.proofs.DriverMarks.{once_same}
 use Rattle.net_index.proofs.IndexEnds.{ends_all, ends_here, ends_later, ends_not, ends_on}
 use Rattle.net_index.proofs.IndexTables.{same_bit-refl, same_bit-true}
-use Rattle.net_model.proofs.Members.{map-append}
-use Rattle.proc_tree.specs.declared.places.Place.{Place}
-use Rattle.proc_tree.specs.Places.{join_of}
 use Rattle.proc_tree.specs.Leaves.{case_first, cases_first, constant_or_x, first_start, switches_first}
 use Rattle.proc_tree.proofs.FirstLeaf.{assigned_both, first_fixed, first_is, first_of, first_of_both, first_step}
 
@@ -302,19 +299,13 @@ pub follows_way : (root : CaseView) (links : List Link) → all_joins links ≡ 
 follows_way root links e s = ap (λ js. constant_or_x (follow_joins js s)) e ∙ way_leads root s
 
 -- the places of a connection that has so many bits and sources
-turned_more : {A B : Type 0} (f : A → B) (xs : List A) → map f (reverse xs) ≡ reverse (map f xs)
-turned_more f [] = refl
-turned_more f (x ∷ xs) =
-    ap (map f) (reverse-append (x ∷ []) xs) ∙ map-append f (reverse xs) (x ∷ [])
-    ∙ ap (λ ys. ys ++ f x ∷ []) (turned_more f xs) ∙ sym (reverse-append (f x ∷ []) (map f xs))
-
-pair_up : (places : List Place) → joins (map (λ (p : Place). OnWire p.bit) places) (map (λ (p : Place). p.source) places) ≡ map join_of places
+pair_up : (places : List Join) → joins (map (λ (p : Join). OnWire p.bit) places) (map (λ (p : Join). p.source) places) ≡ places
 pair_up [] = refl
-pair_up (p ∷ places) = ap (λ js. join_of p ∷ js) (pair_up places)
+pair_up (p ∷ places) = ap (λ js. p ∷ js) (pair_up places)
 
-pub one_line : (places : List Place) (left right : List SigBit) → left ≡ map (λ (p : Place). OnWire p.bit) (reverse places) → right ≡ map (λ (p : Place). p.source) (reverse places)
-    → (links : List Link) → links ≡ record { left = left; right = right } ∷ [] → all_joins links ≡ reverse (map join_of places)
+pub one_line : (places : List Join) (left right : List SigBit) → left ≡ map (λ (p : Join). OnWire p.bit) (reverse places) → right ≡ map (λ (p : Join). p.source) (reverse places)
+    → (links : List Link) → links ≡ record { left = left; right = right } ∷ [] → all_joins links ≡ reverse places
 one_line places left right e f links is =
     ap all_joins is ∙ (λ i. joins (e i) (f i) ++ [])
-    ∙ append-nil (joins (map (λ (p : Place). OnWire p.bit) (reverse places)) (map (λ (p : Place). p.source) (reverse places)))
-    ∙ pair_up (reverse places) ∙ turned_more join_of places
+    ∙ append-nil (joins (map (λ (p : Join). OnWire p.bit) (reverse places)) (map (λ (p : Join). p.source) (reverse places)))
+    ∙ pair_up (reverse places)

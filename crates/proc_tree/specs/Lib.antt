@@ -1,4 +1,3 @@
-pub mod Places
 pub mod Leaves
 pub mod Starts
 pub mod Attributes

@@ -5,13 +5,11 @@ ghost use Rattle.rtl_sig.specs.declared.sig.SigBit.TheVariants.{Wire as OnWire};
 ghost use Rattle.rtl_ir.specs.Follow.{all_joins};
 ghost use Rattle.rtl_ir.specs.Tree.{CaseView};
 ghost use Rattle.proc_tree.specs.Leaves.{AreLeaves, case_first, constant_or_x, first_start, switch_first};
-ghost use Rattle.proc_tree.specs.Places.{join_of};
-ghost use Rattle.proc_tree.specs.declared.places.Place.{Place};
+ghost use Rattle.rtl_ir.specs.declared.follow.Join.{Join};
 
-use crate::places::{Place, put_lines};
 use net_index::Index;
 use rtl_bits::{Bit, Memory, Seq};
-use rtl_ir::{Case, Link, Module, PortTable, Switch};
+use rtl_ir::{Case, Join, Link, Module, PortTable, Switch, add_all_joins};
 use rtl_sig::{SigBit, SigSpec};
 use std::alloc::Global;
 
@@ -57,22 +55,22 @@ fn constant_or_x(bit: SigBit) -> Bit
 }
 
 /// A module that connects these places. Of the connections of a bit the first counts, and of its assigns the last.
-fn body_of(alloc: Global, places: &[Place]) -> Result<Module, Memory>
-    ensures value { IfOk result (λ body. all_joins body.links ≡ reverse (map join_of places.now)) }
+fn body_of(alloc: Global, places: &[Join]) -> Result<Module, Memory>
+    ensures value { IfOk result (λ body. all_joins body.links ≡ reverse places.now) }
 {
     let left = left_of(alloc, places)?;
     let right = right_of(alloc, places)?;
     let mut body = Module::empty(alloc, b"")?;
     body.links.push(Link {
-        left: SigSpec::from_vec(left),
-        right: SigSpec::from_vec(right),
+        left: SigSpec::from_vec(left)?,
+        right: SigSpec::from_vec(right)?,
     })?;
     Ok(body)
 }
 
 /// The bits of the places, from the last one to the first.
-fn left_of(alloc: Global, places: &[Place]) -> Result<Vec<SigBit>, Memory>
-    ensures value { IfOk result (λ left. left.items ≡ map (λ (p : Place). OnWire p.bit) (reverse places.now)) }
+fn left_of(alloc: Global, places: &[Join]) -> Result<Vec<SigBit>, Memory>
+    ensures value { IfOk result (λ left. left.items ≡ map (λ (p : Join). OnWire p.bit) (reverse places.now)) }
 {
     Ok(
         places
@@ -84,8 +82,8 @@ fn left_of(alloc: Global, places: &[Place]) -> Result<Vec<SigBit>, Memory>
 }
 
 /// The sources of the places, from the last one to the first.
-fn right_of(alloc: Global, places: &[Place]) -> Result<Vec<SigBit>, Memory>
-    ensures value { IfOk result (λ right. right.items ≡ map (λ (p : Place). p.source) (reverse places.now)) }
+fn right_of(alloc: Global, places: &[Join]) -> Result<Vec<SigBit>, Memory>
+    ensures value { IfOk result (λ right. right.items ≡ map (λ (p : Join). p.source) (reverse places.now)) }
 {
     Ok(
         places
@@ -98,20 +96,20 @@ fn right_of(alloc: Global, places: &[Place]) -> Result<Vec<SigBit>, Memory>
 
 /// Puts the places of the assigns last that act in the case where each switch takes its first case.
 #[cycle(first)]
-fn put_case(places: &mut Vec<Place>, case: &Case) -> Result<(), Memory>
-    ensures ok { OnOk result (map join_of places.new.items ≡ map join_of places.old.items ++ all_joins (case_first case.now)) }
+fn put_case(places: &mut Vec<Join>, case: &Case) -> Result<(), Memory>
+    ensures ok { OnOk result (places.new.items ≡ places.old.items ++ all_joins (case_first case.now)) }
 {
-    put_lines(places, case.assigns.as_slice())?;
+    add_all_joins(places, case.assigns.as_slice())?;
     for switch in &case.switches {
         put_switch(places, switch)?;
     }
     Ok(())
 }
 
-/// The same of the first case of the switch.
+/// Puts the places of the assigns last that act in the first case of the switch.
 #[cycle(first)]
-fn put_switch(places: &mut Vec<Place>, switch: &Switch) -> Result<(), Memory>
-    ensures ok { OnOk result (map join_of places.new.items ≡ map join_of places.old.items ++ all_joins (switch_first switch.now)) }
+fn put_switch(places: &mut Vec<Join>, switch: &Switch) -> Result<(), Memory>
+    ensures ok { OnOk result (places.new.items ≡ places.old.items ++ all_joins (switch_first switch.now)) }
 {
     match switch.cases.first() {
         Some(case) => put_case(places, case),

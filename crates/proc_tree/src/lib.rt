@@ -2,7 +2,6 @@
 #![tactic(auto)]
 
 mod leaves;
-mod places;
 mod processes;
 mod starts;
 mod wires;

@@ -1,20 +1,32 @@
 //! The start values that processes give.
 
-ghost use Rattle.std.specs.Prelude.{◌≡◌, ℕ, ◌<◌, ◌==◌, ◌||◌, false, List, [], ◌∷◌, length, map, slice_index_or, IfOk, OnOk};
+ghost use Rattle.std.specs.Prelude.{
+  ◌≡◌,
+  ℕ,
+  ◌<◌,
+  ◌==◌,
+  ◌||◌,
+  false,
+  List,
+  [],
+  ◌∷◌,
+  length,
+  slice_index_or,
+  IfOk,
+  OnOk,
+};
 ghost use Rattle.rtl_ir.specs.Flat.Start.{Begun, last_start};
 ghost use Rattle.rtl_ir.specs.Follow.{all_joins};
 ghost use Rattle.rtl_ir.specs.Rules.{init_lines};
 ghost use Rattle.rtl_ir.specs.Tree.{CaseView};
 ghost use Rattle.net_index.specs.IndexTable.{at_bit};
 ghost use Rattle.proc_tree.specs.Leaves.{AreLeaves};
-ghost use Rattle.proc_tree.specs.Places.{join_of};
 ghost use Rattle.proc_tree.specs.Starts.{Adds, AreStarts, starts_by, wire_is_begun};
 
 use crate::leaves::Leaves;
-use crate::places::{Place, put_lines};
 use net_index::BitTable;
 use rtl_bits::{Bit, Memory};
-use rtl_ir::{Case, Event, SyncRule, Wire};
+use rtl_ir::{Case, Join, SyncRule, Wire, init_joins};
 use rtl_sig::WireBit;
 use std::alloc::Global;
 
@@ -38,7 +50,8 @@ impl Starts {
         })
     }
 
-    /// The start values behind these that a process with this tree, read by the rules of switches, and these rules gives.
+    /// The start values behind these that a process with this tree, read by the rules of switches, and these rules
+    /// gives.
     pub(crate) fn put_process(
         &mut self,
         alloc: Global,
@@ -47,7 +60,7 @@ impl Starts {
     ) -> Result<(), Memory>
         ensures ok { OnOk result (Adds self.old self.new (starts_by root.now (all_joins (init_lines rules.now)))) }
     {
-        let places = start_places(alloc, rules)?;
+        let places = init_joins(alloc, rules)?;
         if places.is_empty() {
             return Ok(());
         }
@@ -56,8 +69,9 @@ impl Starts {
     }
 
     /// Gives each of these bits the constant that its source comes to.
-    fn put_places(&mut self, places: &[Place], leaves: &Leaves) -> Result<(), Memory>
-        ensures ok { OnOk result ((root : CaseView) → AreLeaves leaves.now root → Adds self.old self.new (starts_by root (map join_of places.now))) }
+    fn put_places(&mut self, places: &[Join], leaves: &Leaves) -> Result<(), Memory>
+        ensures ok { OnOk result ((root : CaseView) → AreLeaves leaves.now root →
+            Adds self.old self.new (starts_by root places.now)) }
     {
         for place in places {
             self.put(place.bit, leaves.constant(place.source))?;
@@ -76,7 +90,8 @@ impl Starts {
 
     /// Whether a bit of the wire at the place is given one.
     pub(crate) fn is_begun(&self, wire: usize) -> bool
-        ensures value { (count : ℕ) (all : List Begun) → AreStarts self.now count all → wire < count → result ≡ wire_is_begun all wire }
+        ensures value { (count : ℕ) (all : List Begun) → AreStarts self.now count all → wire < count →
+            result ≡ wire_is_begun all wire }
     {
         if wire < self.begun.len() {
             self.begun[wire]
@@ -95,23 +110,11 @@ impl Starts {
 
 /// Marks the wire at the place, where there is one.
 fn mark(begun: &mut Vec<bool>, wire: usize)
-    ensures marked { (k : ℕ) → k < length begun.old.items → slice_index_or begun.new.items k false ≡ (slice_index_or begun.old.items k false || (wire == k)) }
+    ensures marked { (k : ℕ) → k < length begun.old.items →
+        slice_index_or begun.new.items k false ≡ (slice_index_or begun.old.items k false || (wire == k)) }
     ensures size { length begun.new.items ≡ length begun.old.items }
 {
     if wire < begun.len() {
         begun[wire] = true;
     }
-}
-
-/// The places of the lines that give start values.
-fn start_places(alloc: Global, rules: &[SyncRule]) -> Result<Vec<Place>, Memory>
-    ensures value { IfOk result (λ places. map join_of places.items ≡ all_joins (init_lines rules.now)) }
-{
-    let mut places = Vec::new(alloc);
-    for rule in rules {
-        if let Event::Init = rule.event {
-            put_lines(&mut places, rule.updates.as_slice())?;
-        }
-    }
-    Ok(places)
 }

@@ -1,27 +1,37 @@
 //! Wires with their start values.
 
-ghost use Rattle.std.specs.Prelude.{◌≡◌, ◌<◌, IfOk, IfSome, codes, length, slice_get, slice_index_or, slice_set, vec_len};
+ghost use Rattle.std.specs.Prelude.{
+  ◌≡◌,
+  ◌<◌,
+  IfOk,
+  IfSome,
+  length,
+  slice_get,
+  slice_index_or,
+  slice_set,
+  vec_len,
+};
 ghost use Rattle.rtl_bits.specs.declared.bit.Bit.TheVariants.{X};
 ghost use Rattle.rtl_ir.specs.declared.module.Module.{Module};
-ghost use Rattle.rtl_ir.specs.Attributes.{attribute_bits};
 ghost use Rattle.net_model.specs.Proc.Start.{begun_wires, init_attribute, with_attribute, wire_starts};
 ghost use Rattle.proc_tree.specs.Attributes.{place_of};
 ghost use Rattle.proc_tree.specs.Starts.{AreStartsOf, begun_wire};
 
 use crate::starts::Starts;
 use rtl_bits::{Bit, Bits, Copied, Memory, Seq, Text};
-use rtl_ir::{Attribute, Value, Wire, value_bits};
+use rtl_ir::{Attribute, Value, Wire, attribute_bits};
 use rtl_sig::WireBit;
 use std::alloc::Global;
 
-/// The wires, each with its start values in the attribute `\init` where a process gives one to a bit of it. More than 2^32
-/// of them are taken for want of memory.
+/// The wires, each with its start values in the attribute `\init` where a process gives one to a bit of it. More than
+/// 2^32 of them are taken for want of memory.
 pub(crate) fn begun_wires(
     alloc: Global,
     wires: &[Wire],
     starts: &Starts,
 ) -> Result<Vec<Wire>, Memory>
-    ensures value { IfOk result (λ begun. («module» : Module) → AreStartsOf starts.now «module» → «module».wires ≡ wires.now → begun.items ≡ begun_wires «module» 0 wires.now) }
+    ensures value { IfOk result (λ begun. («module» : Module) → AreStartsOf starts.now «module» →
+        «module».wires ≡ wires.now → begun.items ≡ begun_wires «module» 0 wires.now) }
 {
     let mut begun = Vec::with_capacity(alloc, wires.len())?;
     for (place, wire) in wires.iter().enumerate() {
@@ -32,7 +42,8 @@ pub(crate) fn begun_wires(
 
 /// The wire at the place, with its start values where a process gives one to a bit of it.
 fn begun_wire(alloc: Global, wire: &Wire, place: usize, starts: &Starts) -> Result<Wire, Memory>
-    ensures value { IfOk result (λ begun. («module» : Module) → AreStartsOf starts.now «module» → slice_get «module».wires place ≡ Some wire.now → begun ≡ begun_wire «module» place wire.now) }
+    ensures value { IfOk result (λ begun. («module» : Module) → AreStartsOf starts.now «module» →
+        slice_get «module».wires place ≡ Some wire.now → begun ≡ begun_wire «module» place wire.now) }
 {
     if !starts.is_begun(place) {
         return wire.copy();
@@ -51,9 +62,10 @@ fn place_number(place: usize) -> Result<u32, Memory>
 
 /// The start values of the bits of the wire at the place: those that processes give, else those of its `\init`.
 fn start_bits(alloc: Global, wire: &Wire, place: u32, starts: &Starts) -> Result<Bits, Memory>
-    ensures value { IfOk result (λ bits. («module» : Module) → AreStartsOf starts.now «module» → slice_get «module».wires place ≡ Some wire.now → bits ≡ wire_starts «module» place wire.now.width) }
+    ensures value { IfOk result (λ bits. («module» : Module) → AreStartsOf starts.now «module» →
+        slice_get «module».wires place ≡ Some wire.now → bits ≡ wire_starts «module» place wire.now.width) }
 {
-    let init = init_bits(alloc, wire.attributes.as_slice())?;
+    let init = attribute_bits(alloc, wire.attributes.as_slice(), b"\\init")?;
     let mut bits = Vec::with_capacity(alloc, wire.width as usize)?;
     for at in 0..wire.width {
         let given = starts.given(WireBit { wire: place, at });
@@ -61,18 +73,6 @@ fn start_bits(alloc: Global, wire: &Wire, place: u32, starts: &Starts) -> Result
         bits.push(value.seen())?;
     }
     Ok(Bits::from_vec(bits))
-}
-
-/// The bits of the attribute `\init`, none where there is no such attribute.
-fn init_bits(alloc: Global, attributes: &[Attribute]) -> Result<Bits, Memory>
-    ensures value { IfOk result (λ bits. bits ≡ attribute_bits attributes.now (codes "\\init")) }
-{
-    for attribute in attributes {
-        if attribute.name.as_slice() == b"\\init".as_slice() {
-            return value_bits(alloc, &attribute.value);
-        }
-    }
-    Ok(Bits::make(alloc))
 }
 
 /// The bit at a place, past the end x.
@@ -87,7 +87,8 @@ fn bit_at(bits: &[Bit], at: u32) -> Bit
 
 /// The wire with these bits as its start values.
 fn with_starts(alloc: Global, wire: &Wire, bits: Bits) -> Result<Wire, Memory>
-    ensures value { IfOk result (λ begun. begun ≡ record wire.now { attributes = with_attribute (init_attribute bits) wire.now.attributes }) }
+    ensures value { IfOk result (λ begun. begun ≡
+        record wire.now { attributes = with_attribute (init_attribute bits) wire.now.attributes }) }
 {
     let init = Attribute {
         name: Text::from_slice(alloc, b"\\init")?,

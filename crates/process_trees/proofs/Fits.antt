@@ -1,9 +1,10 @@
 -- The words at the inputs of a cell without fault are within the limits of its kind.
-use Rattle.std.proofs.Common.{◌≡◌, ℕ, zero, suc, ◌≤◌, Bool, true, false, not, ◌||◌, List, [], ◌∷◌, length, map, Some, None, slice_index_or, refl, sym, ap, subst, arith, lit≤}
+use Rattle.std.proofs.Common.{◌≡◌, ℕ, zero, suc, ◌≤◌, Bool, true, false, not, ◌||◌, List, [], ◌∷◌, length, map, Some, None, slice_index_or, refl, sym, ◌∙◌, ap, subst, arith, lit≤}
 use Rattle.std.specs.Prelude.{if◌then◌else◌, Ok, ◌==◌, find}
 use Rattle.std.specs.List.{AllByRecursion, list_all, list_any}
 use Rattle.std.specs.Option.{option_map_or}
 use Rattle.std.specs.Str.{bytes_eq}
+use Rattle.std.proofs.lemmas.Slice.Eq.{bytes_eq-Decides}
 use Rattle.std.proofs.lemmas.Bool.{true≢false, and_parts, ltb-false, eqb-true}
 use Rattle.rtl_bits.specs.declared.bit.Bit.{Bit}
 use Rattle.cell_types.specs.declared.given.Param.{Param}
@@ -17,7 +18,7 @@ use Rattle.cell_types.specs.declared.word.UnaryKind.{UnaryKind}
 use Rattle.cell_types.specs.declared.word.UnaryKind.TheVariants.{Not, Pos, Neg}
 use Rattle.cell_types.specs.declared.word.WordKind.{WordKind}
 use Rattle.cell_types.specs.declared.word.WordKind.TheVariants as Word
-use Rattle.cell_types.specs.Fault.{fault_of, fits, has_other_width, has_width, is_bad, is_wide, is_wide_pin, limit_of}
+use Rattle.cell_types.specs.Fault.{are_params_good, are_pins_good, fault_of, fits, has_no_meaning, has_other_width, has_pin, has_width, is_bad, is_joined, is_wide, is_wide_pin, limit_of}
 use Rattle.cell_types.specs.PinName.{pin_text}
 use Rattle.cell_types.specs.Pins.{pins_of}
 use Rattle.cell_types.specs.Shape.{made_shape, shape_of, small, unless}
@@ -39,16 +40,19 @@ not_false : (a : Bool) → not a ≡ false → a ≡ true
 not_false true e = refl
 not_false false e = absurd (true≢false e)
 
--- a cell without fault is not too wide, and each pin has its width
-faultless : (kind : CellKind) (params : List Param) (pins : List PinWidth) → fault_of kind params pins ≡ None → (is_wide kind params ≡ false) × (list_all (has_width kind params pins) (pins_of kind) ≡ true)
+-- a cell without fault is not too wide, each pin has its width, and there is no other pin
+faultless : (kind : CellKind) (params : List Param) (pins : List PinWidth) → fault_of kind params pins ≡ None → (is_wide kind params ≡ false) × (list_all (has_width kind params pins) (pins_of kind) ≡ true) × (list_all (has_pin kind) pins ≡ true)
 faultless kind params pins e =
     by (is_bad kind params pins) (is_wide kind params) (has_other_width kind params pins) refl refl refl
   where
-    by : (bad wide other : Bool) → is_bad kind params pins ≡ bad → is_wide kind params ≡ wide → has_other_width kind params pins ≡ other → (is_wide kind params ≡ false) × (list_all (has_width kind params pins) (pins_of kind) ≡ true)
+    by : (bad wide other : Bool) → is_bad kind params pins ≡ bad → is_wide kind params ≡ wide → has_other_width kind params pins ≡ other → (is_wide kind params ≡ false) × (list_all (has_width kind params pins) (pins_of kind) ≡ true) × (list_all (has_pin kind) pins ≡ true)
     by true wide other b w o = absurd (let none : fault_of kind params pins ≡ None = e in cc)
     by false true other b w o = absurd (let none : fault_of kind params pins ≡ None = e in cc)
     by false false true b w o = absurd (let none : fault_of kind params pins ≡ None = e in cc)
-    by false false false b w o = (w, not_false (list_all (has_width kind params pins) (pins_of kind)) o)
+    by false false false b w o =
+        let good = or_false (not (are_params_good kind params) || not (are_pins_good kind pins)) (has_no_meaning kind params) b in
+        let own = not_false (are_pins_good kind pins) (or_false (not (are_params_good kind params)) (not (are_pins_good kind pins)) good.0).1 in
+        (w, not_false (list_all (has_width kind params pins) (pins_of kind)) o, (and_parts (list_all (is_joined kind pins) (pins_of kind)) (list_all (has_pin kind) pins) own).1)
 
 -- the signal at a pin is no wider than the pin of that name
 signal_width : (kind : CellKind) (params : List Param) (pins : List Pin) (name : PinName) → has_width kind params (pin_widths pins) name ≡ true → length (signal_at pins (pin_text name)) ≤ pin_width kind params name
@@ -64,6 +68,19 @@ signal_width kind params (p ∷ pins) name e =
         subst (λ z. length (option_map_or (λ (q : Pin). q.sig) (if z then Some p else find (λ (q : Pin). bytes_eq q.name (pin_text name)) pins) []) ≤ pin_width kind params name) (sym f) (omega (arith, same))
     by rest h false f =
         subst (λ z. length (option_map_or (λ (q : Pin). q.sig) (if z then Some p else find (λ (q : Pin). bytes_eq q.name (pin_text name)) pins) []) ≤ pin_width kind params name) (sym f) rest
+
+-- there is no signal at a pin that the kind lacks
+no_signal : (kind : CellKind) (pins : List Pin) (name : PinName) → list_all (has_pin kind) (pin_widths pins) ≡ true → list_any (λ n. bytes_eq (pin_text name) (pin_text n)) (pins_of kind) ≡ false → length (signal_at pins (pin_text name)) ≡ 0
+no_signal kind [] name h e = refl
+no_signal kind (p ∷ pins) name h e =
+    let both = and_parts (has_pin kind (record { name = p.name; width = length p.sig })) (list_all (has_pin kind) (pin_widths pins)) h in
+    by (no_signal kind pins name both.1 e) both.0 (bytes_eq p.name (pin_text name)) refl
+  where
+    by : length (signal_at pins (pin_text name)) ≡ 0 → has_pin kind (record { name = p.name; width = length p.sig }) ≡ true → (t : Bool) → bytes_eq p.name (pin_text name) ≡ t → length (option_map_or (λ (q : Pin). q.sig) (if t then Some p else find (λ (q : Pin). bytes_eq q.name (pin_text name)) pins) []) ≡ 0
+    by rest own true f =
+        let same : p.name ≡ pin_text name = (bytes_eq-Decides p.name (pin_text name)).0 f in
+        absurd (true≢false (sym (subst (λ z. list_any (λ n. bytes_eq z (pin_text n)) (pins_of kind) ≡ true) same own) ∙ e))
+    by rest own false f = rest
 
 limit_small : (kind : WordKind) → limit_of kind ≤ 4096
 limit_small (Word.Unary kind) = by kind
@@ -116,20 +133,28 @@ IsNarrow kind c =
     × (slice_index_or (widths kind c) 1 0 ≤ small (pin_width (Cells.Word kind) (given_params c.params) B))
     × (slice_index_or (widths kind c) 2 0 ≤ small (pin_width (Cells.Word kind) (given_params c.params) S))
 
-is_narrow : (kind : WordKind) (c : Cell) → AllByRecursion (Narrow kind c) (pins_of (Cells.Word kind)) → IsNarrow kind c
-is_narrow (Word.Unary kind) c h = (lit≤ tt, h.0, omega arith, omega arith)
-is_narrow (Word.Fold kind) c h = (lit≤ tt, h.0, omega arith, omega arith)
-is_narrow (Word.Bitwise kind) c h = (lit≤ tt, h.0, h.1.0, omega arith)
-is_narrow (Word.Logic kind) c h = (lit≤ tt, h.0, h.1.0, omega arith)
-is_narrow (Word.Equal kind) c h = (lit≤ tt, h.0, h.1.0, omega arith)
-is_narrow (Word.Order kind) c h = (lit≤ tt, h.0, h.1.0, omega arith)
-is_narrow (Word.Arith kind) c h = (lit≤ tt, h.0, h.1.0, omega arith)
-is_narrow (Word.Division kind) c h = (lit≤ tt, h.0, h.1.0, omega arith)
-is_narrow (Word.Shift kind) c h = (lit≤ tt, h.0, h.1.0, omega arith)
-is_narrow Word.Mux c h = (lit≤ tt, h.0, h.1.0, h.1.1.0)
-is_narrow Word.Pmux c h = (lit≤ tt, h.0, h.1.0, h.1.1.0)
-is_narrow Word.Slice c h = (lit≤ tt, h.0, omega arith, omega arith)
-is_narrow Word.Concat c h = (lit≤ tt, h.0, h.1.0, omega arith)
+is_narrow : (kind : WordKind) (c : Cell) → list_all (has_pin (Cells.Word kind)) (pin_widths c.pins) ≡ true → AllByRecursion (Narrow kind c) (pins_of (Cells.Word kind)) → IsNarrow kind c
+is_narrow (Word.Unary kind) c own h = (lit≤ tt, h.0, omega arith, omega arith)
+is_narrow (Word.Fold kind) c own h = (lit≤ tt, h.0, omega arith, omega arith)
+is_narrow (Word.Bitwise kind) c own h = (lit≤ tt, h.0, h.1.0, omega arith)
+is_narrow (Word.Logic kind) c own h = (lit≤ tt, h.0, h.1.0, omega arith)
+is_narrow (Word.Equal kind) c own h = (lit≤ tt, h.0, h.1.0, omega arith)
+is_narrow (Word.Order kind) c own h = (lit≤ tt, h.0, h.1.0, omega arith)
+is_narrow (Word.Arith kind) c own h = (lit≤ tt, h.0, h.1.0, omega arith)
+is_narrow (Word.Division kind) c own h = (lit≤ tt, h.0, h.1.0, omega arith)
+is_narrow (Word.Shift kind) c own h = (lit≤ tt, h.0, h.1.0, omega arith)
+is_narrow Word.Mux c own h = (lit≤ tt, h.0, h.1.0, h.1.1.0)
+is_narrow Word.Pmux c own h = (lit≤ tt, h.0, h.1.0, h.1.1.0)
+is_narrow Word.Slice c own h = (lit≤ tt, h.0, omega arith, omega arith)
+is_narrow Word.Concat c own h = (lit≤ tt, h.0, h.1.0, omega arith)
+is_narrow Word.Buf c own h = (lit≤ tt, h.0, omega arith, omega arith)
+is_narrow Word.Bwmux c own h = (lit≤ tt, h.0, h.1.0, h.1.1.0)
+is_narrow Word.Bmux c own h =
+    let none = no_signal (Cells.Word Word.Bmux) c.pins B own refl in
+    (lit≤ tt, h.0, omega (arith, none), h.1.0)
+is_narrow Word.Demux c own h =
+    let none = no_signal (Cells.Word Word.Demux) c.pins B own refl in
+    (lit≤ tt, h.0, omega (arith, none), h.1.0)
 
 -- the words at the inputs of a cell without fault
 pub inputs_there : (kind : WordKind) (c : Cell) (shape : Shape) (words : List (List Bit)) → misfit (Cells.Word kind) c ≡ None → shape ≡ cell_shape (Cells.Word kind) c.params
@@ -138,7 +163,7 @@ unfolding misfit cell_shape
 inputs_there kind c shape words e is same =
     let params = given_params c.params in
     let good = faultless (Cells.Word kind) params (pin_widths c.pins) e in
-    let fit = is_narrow kind c (narrow kind c (pins_of (Cells.Word kind)) good.1 good.0) in
+    let fit = is_narrow kind c good.2 (narrow kind c (pins_of (Cells.Word kind)) good.1 good.0) in
     let made : shape_of (Cells.Word kind) params (pin_widths c.pins) ≡ Ok (made_shape (Cells.Word kind) params) = ap (λ f. unless f (made_shape (Cells.Word kind) params)) e in
     let count = count_same words (widths kind c) same in
     let a = lengths_at words (widths kind c) same 0 in

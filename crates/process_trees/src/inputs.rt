@@ -3,13 +3,13 @@
 ghost use Rattle.std.specs.Prelude.{◌≡◌, ◌==◌, None, Some, if◌then◌else◌, IfOk, List, count_by, find, flat_map, map};
 ghost use Rattle.rtl_sig.specs.declared.sig.SigBit.{SigBit};
 ghost use Rattle.rtl_ir.specs.declared.module.Link.{Link};
-ghost use Rattle.rtl_ir.specs.EventTests.{input_signals, is_open};
+ghost use Rattle.rtl_ir.specs.EventTests.{input_signals, is_open, placed_pins};
 ghost use Rattle.rtl_ir.specs.Follow.{all_joins};
 ghost use Rattle.rtl_ir.specs.Parameters.{signal_at};
 ghost use Rattle.process_trees.specs.Tables.{AreLinks};
 
 use crate::tables::EventTests;
-use cell_types::{CellKind, PinName, pins_of};
+use cell_types::{CellKind, PinName, WordKind, pins_of};
 use rtl_bits::Memory;
 use rtl_ir::{Cell, Pin};
 use rtl_sig::SigBit;
@@ -27,6 +27,18 @@ pub(crate) fn signal_at<'a>(pins: &'a [Pin], name: &[u8]) -> &'a [SigBit]
     &[]
 }
 
+/// The pins of a combinational kind; where it has S and no B, the place of B is kept.
+fn placed_pins(kind: CellKind) -> &'static [PinName]
+    ensures value { result.now ≡ placed_pins kind }
+{
+    match kind {
+        CellKind::Word(WordKind::Bmux | WordKind::Demux) => {
+            &[PinName::A, PinName::B, PinName::S, PinName::Y]
+        }
+        _ => pins_of(kind),
+    }
+}
+
 /// The signals at the inputs of a cell of this kind, in the order A, B, S.
 pub(crate) fn input_signals<'a>(
     alloc: Global,
@@ -36,7 +48,7 @@ pub(crate) fn input_signals<'a>(
     ensures value { IfOk result (λ signals. map (λ s. s.now) signals.items ≡ input_signals kind cell.now) }
 {
     let mut signals = Vec::new(alloc);
-    for name in pins_of(kind) {
+    for name in placed_pins(kind) {
         if name.text() != PinName::Y.text() {
             signals.push(signal_at(cell.pins.as_slice(), name.text()))?;
         }

@@ -77,6 +77,10 @@ module _ (p : Path) (wires : List Wire) (w : Valuation) where
   word_row Words.Pmux c t = refl
   word_row Words.Slice c t = refl
   word_row Words.Concat c t = refl
+  word_row Words.Buf c t = refl
+  word_row Words.Bwmux c t = refl
+  word_row Words.Bmux c t = refl
+  word_row Words.Demux c t = refl
 
   gate_row : (k : GateKind) (c : Cell) (t : Time Place) → row_value (Cells.Gate k) c t ≡ lowest_bit (Cells.Gate k) c (read_words_of (input_signals (Cells.Gate k) c))
   unfolding cell_shape

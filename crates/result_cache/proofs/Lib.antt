@@ -4,3 +4,6 @@ pub mod Calls
 pub mod Facts
 pub mod Filled
 pub mod Holders
+pub mod Rising
+pub mod FilledKeys
+pub mod NewKeys

@@ -1,4 +1,5 @@
 pub mod History
 pub mod Tickets
 pub mod Stored
+pub mod Filled
 pub mod Claims

@@ -1,10 +1,13 @@
 //! Laws of legal histories, and what holds of every shard.
 
-ghost use Rattle.std.specs.Prelude.{◌≡◌, ◌↔◌, ◌≤◌, ◌+◌, ◌++◌, ℕ, List, true, IfSome, IsSome};
-ghost use Rattle.rtl_sig.specs.Names.{AreDistinct};
+ghost use Rattle.std.specs.Prelude.{◌≡◌, ◌↔◌, ◌≤◌, ◌+◌, ◌++◌, ℕ, List, Some, true, if◌then◌else◌, IfSome, IsSome};
+ghost use Rattle.std.specs.Option.{is_some};
+ghost use Rattle.std.specs.Str.{bytes_eq};
+ghost use Rattle.rtl_sig.specs.Names.{AreDistinct, has_name};
 ghost use Rattle.result_cache.specs.History.{held, filled, state_after, IsFilled, IsLegal};
 ghost use Rattle.result_cache.specs.Tickets.{calls_by, has_ticket, times_filled, given, returned};
-ghost use Rattle.result_cache.specs.Stored.{value_at, mode_at, kept_mode, held_keys};
+ghost use Rattle.result_cache.specs.Stored.{Contents, KeepsValues, value_at, mode_at, kept_mode, held_keys};
+ghost use Rattle.result_cache.specs.Filled.{filled_keys, with_key};
 
 use crate::call::Call;
 use crate::keyed::Keyed;
@@ -38,3 +41,13 @@ pub fn shards_are_sound<V: Keyed>(shard: &Shard<V>)
 {
     shard.facts();
 }
+
+/// The filled keys are those that have a value. They stay where each key keeps its value, and are one
+/// more where one key was filled.
+pub fn filled_keys_have_values<V: Keyed>()
+    ensures among { (s : Contents V) (key : List ℕ) → has_name (filled_keys s) key ≡ is_some (value_at s key) }
+    ensures kept { (old new : Contents V) → KeepsValues old new → filled_keys new ≡ filled_keys old }
+    ensures more { (old new : Contents V) (key : List ℕ) (value : V) →
+        ((q : List ℕ) → value_at new q ≡ (if bytes_eq key q then Some value else value_at old q)) →
+        filled_keys new ≡ with_key key (filled_keys old) }
+{}

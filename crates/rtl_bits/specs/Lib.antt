@@ -2,3 +2,4 @@ pub mod Knowledge
 pub mod Tables
 pub mod Numbers
 pub mod Counts
+pub mod Text

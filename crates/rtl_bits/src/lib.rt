@@ -8,7 +8,9 @@ pub mod laws;
 mod memory;
 mod numbers;
 mod seq;
+mod short;
 mod steps;
+mod text;
 
 pub use bit::{Bit, bit_and, bit_mux, bit_not, bit_or, bit_xor, merge};
 pub use knowledge::all_known;
@@ -16,9 +18,7 @@ pub use memory::Memory;
 pub use numbers::{digit_of, is_one, low_bit_of, number_of, top_of};
 pub use seq::{Copied, Seq};
 pub use steps::Steps;
-
-/// A text, as its bytes.
-pub type Text = Seq<u8>;
+pub use text::Text;
 
 /// A list of bits, the least significant first.
 pub type Bits = Seq<Bit>;

@@ -9,7 +9,8 @@ use Rattle.rtl_bits.specs.declared.bit.Bit.TheVariants.{S0, S1, X}
 use Rattle.cell_types.specs.declared.kind.CellKind.{CellKind}
 use Rattle.cell_types.specs.declared.kind.CellKind.TheVariants as Cells
 use Rattle.cell_types.specs.declared.pin_name.PinName.{PinName}
-use Rattle.cell_types.specs.declared.pin_name.PinName.TheVariants.{Y}
+use Rattle.cell_types.specs.declared.pin_name.PinName.TheVariants.{A, B, S, Y}
+use Rattle.cell_types.specs.declared.word.WordKind.TheVariants.{Bmux, Demux}
 use Rattle.cell_types.specs.PinName.{pin_text}
 use Rattle.cell_types.specs.Pins.{pins_of}
 use Rattle.cell_types.specs.Shape.{made_shape}
@@ -47,9 +48,15 @@ combinational_kind (Library (Cells.Word kind)) = Some (Cells.Word kind)
 combinational_kind (Library (Cells.Gate kind)) = Some (Cells.Gate kind)
 combinational_kind type = None
 
+-- the pins of a combinational kind; where it has S and no B, the place of B is kept
+abbrev pub placed_pins : CellKind → List PinName
+placed_pins (Cells.Word Bmux) = A ∷ B ∷ S ∷ Y ∷ []
+placed_pins (Cells.Word Demux) = A ∷ B ∷ S ∷ Y ∷ []
+placed_pins kind = pins_of kind
+
 -- the input pins of a combinational kind, in the order A, B, S
 abbrev pub input_names : CellKind → List PinName
-input_names kind = filter (λ name. not (bytes_eq (pin_text name) (pin_text Y))) (pins_of kind)
+input_names kind = filter (λ name. not (bytes_eq (pin_text name) (pin_text Y))) (placed_pins kind)
 
 -- the signals at the inputs of a cell of a kind
 abbrev pub input_signals : CellKind → Cell → List (List SigBit)

@@ -6,7 +6,7 @@ use crate::cell::{Cell, CellParam, Pin};
 use crate::module::Link;
 use crate::value::{Attribute, Value};
 use crate::wire::Wire;
-use rtl_bits::{Bit, Seq};
+use rtl_bits::{Bit, Seq, Text};
 use rtl_sig::{SigBit, SigSpec};
 
 /// A value that can be compared with another one.
@@ -33,12 +33,6 @@ pub trait Same: Sized {
     }
 }
 
-impl Same for u8 {
-    fn same(&self, other: &u8) -> bool {
-        *self == *other
-    }
-}
-
 impl Same for Bit {
     fn same(&self, other: &Bit) -> bool {
         *self == *other
@@ -54,6 +48,12 @@ impl Same for SigBit {
 impl<T: Same> Same for Seq<T> {
     fn same(&self, other: &Seq<T>) -> bool {
         T::same_all(self.as_slice(), other.as_slice())
+    }
+}
+
+impl Same for Text {
+    fn same(&self, other: &Text) -> bool {
+        self.as_slice() == other.as_slice()
     }
 }
 

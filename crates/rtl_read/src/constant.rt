@@ -112,11 +112,11 @@ fn constant_bits(alloc: Global, value: &Value) -> Result<Bits, Memory>
 fn all_fixed(alloc: Global, bits: &[Bit]) -> Result<SigSpec, Memory>
     ensures { IfOk result (λ sig. sig ≡ map (λ b. Fixed b) bits.now) }
 {
-    let mut signal = Vec::with_capacity(alloc, bits.len())?;
+    let mut signal = SigSpec::with_capacity(alloc, bits.len())?;
     for bit in bits {
         signal.push(SigBit::Fixed(*bit))?;
     }
-    Ok(SigSpec::from_vec(signal))
+    Ok(signal)
 }
 
 /// A constant as a signal.

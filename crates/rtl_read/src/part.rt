@@ -42,12 +42,12 @@ fn range_bits(alloc: Global, wire: u32, from: u32, to: u32) -> Result<SigSpec, M
     ensures { IfOk result (λ sig. sig ≡ range_bits wire from (to - from)) }
 {
     let width = to.saturating_sub(from);
-    let mut bits = Vec::with_capacity(alloc, width as usize)?;
+    let mut bits = SigSpec::with_capacity(alloc, width as usize)?;
     for above in 0..width {
         let at = from + above;
         bits.push(SigBit::Wire(WireBit { wire, at }))?;
     }
-    Ok(SigSpec::from_vec(bits))
+    Ok(bits)
 }
 
 /// The bits of a wire from one place up to another go on top, the lowest last.

@@ -1,6 +1,6 @@
 //! Signals.
 
-ghost use Rattle.std.specs.Prelude.{◌≡◌, ◌<◌, ◌≤◌, ◌+◌, ◌++◌, List, length, IfOk, take, drop, ◌-◌};
+ghost use Rattle.std.specs.Prelude.{◌≡◌, ◌<◌, ◌≤◌, ◌+◌, ◌++◌, List, length, IfOk, Ok, take, drop, ◌-◌};
 ghost use Rattle.rtl_lex.specs.Items.{as_seen};
 ghost use Rattle.rtl_sig.specs.Names.{number_of};
 ghost use Rattle.rtl_read.specs.Signal.{
@@ -150,13 +150,14 @@ impl OpenSignal {
     }
 
     /// The innermost braces close.
-    fn close_brace(&mut self, item: &Item<'_>)
-        ensures { self.new ≡ close_brace (as_seen item.now) self.old self.old.braces }
+    fn close_brace(&mut self, item: &Item<'_>) -> Result<(), ReadFault>
+        ensures { Sets result self.new (Ok (close_brace (as_seen item.now) self.old self.old.braces)) }
     {
         if let Some(brace) = self.braces.pop() {
-            self.part = Part::of(SigSpec::from_vec(brace.into_vec()));
+            self.part = Part::of(SigSpec::from_vec(brace.into_vec())?);
             self.place = item.place;
         }
+        Ok(())
     }
 
     /// A token behind an opening brace.
@@ -170,8 +171,7 @@ impl OpenSignal {
         ensures { Sets result self.new (inside wires.now names.now item.now.sort (as_seen item.now) self.old) }
     {
         if item.sort == Sort::CloseBrace {
-            self.close_brace(item);
-            return Ok(());
+            return self.close_brace(item);
         }
         self.begin(alloc, wires, names, item)
     }

@@ -1,2 +1,3 @@
 pub mod Signal
 pub mod Names
+pub mod Storage

@@ -23,7 +23,7 @@ ghost use Rattle.rtl_sig.specs.declared.sig.SigBit.TheVariants.{Fixed};
 ghost use Rattle.rtl_sig.specs.Signal.{extended, fill_of};
 
 use crate::fault::SigFault;
-use rtl_bits::{Bit, Copied, Memory, Seq};
+use rtl_bits::{Bit, Copied, Memory};
 use std::alloc::Global;
 use std::marker::Model;
 
@@ -54,10 +54,20 @@ impl Copied for SigBit {
     }
 }
 
-/// A signal: a list of bits, the least significant first.
+/// A signal: a list of bits, the least significant first. One bit lies in the value itself, more on the heap. It keeps the
+/// allocator that it was made with.
 #[derive(Drop)]
 pub struct SigSpec {
-    bits: Seq<SigBit>,
+    alloc: Global,
+    storage: Storage,
+}
+
+/// Where the bits of a signal lie.
+#[derive(Drop)]
+enum Storage {
+    Nothing,
+    Inline([SigBit; 1]),
+    Heap(Box<Vec<SigBit>>),
 }
 
 impl Model for SigSpec {
@@ -66,14 +76,24 @@ impl Model for SigSpec {
 
     ghost Value = { List SigBit };
 
-    ghost view = { λ s. s.bits };
+    ghost use Rattle.rtl_sig.specs.Storage.{stored_bits};
+
+    ghost view = { λ s. stored_bits s.storage };
 }
 
 impl Copied for SigSpec {
     fn copy(&self) -> Result<SigSpec, Memory> {
-        Ok(SigSpec {
-            bits: self.bits.copy()?,
-        })
+        match &self.storage {
+            Storage::Nothing => Ok(SigSpec::make(self.alloc)),
+            Storage::Inline(bits) => Ok(SigSpec {
+                alloc: self.alloc,
+                storage: Storage::Inline(*bits),
+            }),
+            Storage::Heap(bits) => SigSpec::heap(
+                self.alloc,
+                Vec::from_slice(self.alloc, bits.as_slice())?,
+            ),
+        }
     }
 }
 
@@ -85,7 +105,17 @@ fn joined(alloc: Global, below: &[SigBit], above: &[SigBit]) -> Result<SigSpec, 
     let mut bits = Vec::with_capacity(alloc, below.len() + above.len())?;
     bits.extend_from_slice(below)?;
     bits.extend_from_slice(above)?;
-    Ok(SigSpec::from_vec(bits))
+    SigSpec::from_vec(bits)
+}
+
+/// The signal of the bits below, and one bit on top of them, on the heap.
+fn with_top(alloc: Global, below: &[SigBit], top: SigBit) -> Result<SigSpec, Memory>
+    ensures value { IfOk result (λ whole. whole ≡ below.now ++ top ∷ []) }
+{
+    let mut bits = Vec::with_capacity(alloc, 2)?;
+    bits.extend_from_slice(below)?;
+    bits.push(top)?;
+    SigSpec::heap(alloc, bits)
 }
 
 impl SigSpec {
@@ -94,34 +124,73 @@ impl SigSpec {
         ensures value { result ≡ [] }
     {
         SigSpec {
-            bits: Seq::make(alloc),
+            alloc,
+            storage: Storage::Nothing,
         }
     }
 
-    /// The signal of these bits, without taking memory.
-    pub fn from_vec(bits: Vec<SigBit>) -> SigSpec
-        ensures value { result ≡ bits.items }
+    /// The signal of no bits, with room for so many.
+    pub fn with_capacity(alloc: Global, count: usize) -> Result<SigSpec, Memory>
+        ensures value { IfOk result (λ sig. sig ≡ []) }
+    {
+        if count <= 1 {
+            return Ok(SigSpec::make(alloc));
+        }
+        SigSpec::heap(alloc, Vec::with_capacity(alloc, count)?)
+    }
+
+    /// The signal of one bit. It takes no memory.
+    fn one(alloc: Global, bit: SigBit) -> SigSpec
+        ensures value { result ≡ bit ∷ [] }
     {
         SigSpec {
-            bits: Seq::from_vec(bits),
+            alloc,
+            storage: Storage::Inline([bit]),
         }
     }
 
-    /// The bits, without taking memory.
-    pub fn into_vec(self) -> Vec<SigBit>
-        ensures value { result.items ≡ self }
+    /// The signal of these bits, on the heap.
+    fn heap(alloc: Global, bits: Vec<SigBit>) -> Result<SigSpec, Memory>
+        ensures value { IfOk result (λ sig. sig ≡ bits.items) }
     {
-        let SigSpec { bits } = self;
-        bits.into_vec()
+        Ok(SigSpec {
+            alloc,
+            storage: Storage::Heap(Box::new(alloc, bits)?),
+        })
+    }
+
+    /// The signal of these bits, which stay where they are if there are more than one.
+    pub fn from_vec(bits: Vec<SigBit>) -> Result<SigSpec, Memory>
+        ensures value { IfOk result (λ sig. sig ≡ bits.items) }
+    {
+        let alloc = *bits.allocator();
+        if bits.len() <= 1 {
+            return SigSpec::from_slice(alloc, bits.as_slice());
+        }
+        SigSpec::heap(alloc, bits)
+    }
+
+    /// The bits. A signal of more than one bit takes no memory for that.
+    pub fn into_vec(self) -> Result<Vec<SigBit>, Memory>
+        ensures value { IfOk result (λ bits. bits.items ≡ self) }
+    {
+        let SigSpec { alloc, storage } = self;
+        match storage {
+            Storage::Nothing => Ok(Vec::new(alloc)),
+            Storage::Inline(bits) => Ok(Vec::from_slice(alloc, bits.as_slice())?),
+            Storage::Heap(bits) => Ok(Box::into_inner(bits)),
+        }
     }
 
     /// The signal of these bits.
     pub fn from_slice(alloc: Global, bits: &[SigBit]) -> Result<SigSpec, Memory>
         ensures value { IfOk result (λ sig. sig ≡ bits.now) }
     {
-        Ok(SigSpec {
-            bits: Seq::from_slice(alloc, bits)?,
-        })
+        match bits {
+            [] => Ok(SigSpec::make(alloc)),
+            [bit] => Ok(SigSpec::one(alloc, *bit)),
+            _ => SigSpec::heap(alloc, Vec::from_slice(alloc, bits)?),
+        }
     }
 
     /// Puts the bit on top. After an error the signal is as before.
@@ -129,14 +198,23 @@ impl SigSpec {
         ensures ok { OnOk result (self.new ≡ self.old ++ bit ∷ []) }
         ensures err { OnErr result (self.new ≡ self.old) }
     {
-        self.bits.push(bit)
+        match &mut self.storage {
+            Storage::Nothing => self.storage = Storage::Inline([bit]),
+            Storage::Inline(below) => *self = with_top(self.alloc, below.as_slice(), bit)?,
+            Storage::Heap(bits) => bits.push(bit)?,
+        }
+        Ok(())
     }
 
     /// The bits, the least significant first.
     pub fn as_slice(&self) -> &[SigBit]
         ensures value { result.now ≡ self.now }
     {
-        self.bits.as_slice()
+        match &self.storage {
+            Storage::Nothing => &[],
+            Storage::Inline(bits) => bits.as_slice(),
+            Storage::Heap(bits) => bits.as_slice(),
+        }
     }
 
     /// The part of `width` bits from bit `at` on.
@@ -146,13 +224,13 @@ impl SigSpec {
         ensures range { result ≡ Err SigFault.Range → length self.now < at + width }
         ensures never { result ≡ Err SigFault.Width → ⊥ }
     {
-        let bits = self.bits.as_slice();
+        let bits = self.as_slice();
         let at = at as usize;
         let width = width as usize;
         if bits.len() < at + width {
             return Err(SigFault::Range);
         }
-        Ok(SigSpec::from_slice(self.bits.allocator(), &bits[at..at + width])?)
+        Ok(SigSpec::from_slice(self.alloc, &bits[at..at + width])?)
     }
 
     /// This signal with another one on top of it.
@@ -162,12 +240,12 @@ impl SigSpec {
         ensures width { result ≡ Err SigFault.Width → MAX_WIDTH < length self.now + length above.now }
         ensures never { result ≡ Err SigFault.Range → ⊥ }
     {
-        let below = self.bits.as_slice();
-        let above = above.bits.as_slice();
+        let below = self.as_slice();
+        let above = above.as_slice();
         if below.len() > MAX_WIDTH || above.len() > MAX_WIDTH - below.len() {
             return Err(SigFault::Width);
         }
-        Ok(joined(self.bits.allocator(), below, above)?)
+        Ok(joined(self.alloc, below, above)?)
     }
 
     /// This signal cut to `width` bits, or filled up with its top bit where `signed`, else with
@@ -175,12 +253,7 @@ impl SigSpec {
     pub fn extend(&self, width: u32, signed: bool) -> Result<SigSpec, Memory>
         ensures value { IfOk result (λ sig. sig ≡ extended self.now width signed) }
     {
-        extended(
-            self.bits.allocator(),
-            self.as_slice(),
-            width as usize,
-            signed,
-        )
+        extended(self.alloc, self.as_slice(), width as usize, signed)
     }
 }
 
@@ -188,11 +261,11 @@ impl SigSpec {
 pub fn fixed(alloc: Global, bits: &[Bit]) -> Result<SigSpec, Memory>
     ensures value { IfOk result (λ sig. sig ≡ map Fixed bits.now) }
 {
-    let mut sig = Vec::with_capacity(alloc, bits.len())?;
+    let mut sig = SigSpec::with_capacity(alloc, bits.len())?;
     for bit in bits {
         sig.push(SigBit::Fixed(*bit))?;
     }
-    Ok(SigSpec::from_vec(sig))
+    Ok(sig)
 }
 
 /// What fills a signal up: its top bit where it is signed, else 0.
@@ -217,5 +290,5 @@ pub fn extended(
 {
     let mut wide = Vec::from_slice(alloc, bits)?;
     wide.resize(width, fill_of(bits, signed))?;
-    Ok(SigSpec::from_vec(wide))
+    SigSpec::from_vec(wide)
 }

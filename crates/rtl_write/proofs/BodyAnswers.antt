@@ -8,7 +8,7 @@ use Rattle.rtl_read.specs.declared.read_fault.ReadFault.TheVariants as faults
 use Rattle.rtl_read.specs.Gives.{Gives, Fails}
 use Rattle.rtl_read.specs.Reads.{Reads}
 use Rattle.rtl_write.specs.Text.{body_text}
-use Rattle.rtl_write.specs.Readable.{IsReadableModule}
+use Rattle.rtl_readable.specs.Readable.{IsReadableModule}
 use Rattle.rtl_write.specs.Bodies.{with_name}
 use Rattle.rtl_write.proofs.BodyLaws.{alone, reads_named}
 

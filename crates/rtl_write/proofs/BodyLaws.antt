@@ -8,7 +8,7 @@ use Rattle.rtl_ir.specs.declared.module.Design.{Design}
 use Rattle.rtl_read.specs.Reads.{Reads}
 use Rattle.rtl_read.proofs.Unique.{one_design}
 use Rattle.rtl_write.specs.Text.{attributes_text, inner_text, module_text, body_text}
-use Rattle.rtl_write.specs.Readable.{IsName, IsReadableModule, IsReadable}
+use Rattle.rtl_readable.specs.Readable.{IsName, IsReadableModule, IsReadable}
 use Rattle.rtl_write.specs.Bodies.{with_name, HasPlaceForName}
 use Rattle.rtl_write.proofs.BodyLemmas.{body_parts, module_parts, inner_kept, named_body}
 use Rattle.rtl_write.proofs.Trip.{reads_design}

@@ -9,7 +9,7 @@ use Rattle.rtl_ir.specs.declared.value.Attribute.{Attribute}
 use Rattle.rtl_ir.specs.declared.module.Module.{Module}
 use Rattle.rtl_write.specs.Constant.{value_text}
 use Rattle.rtl_write.specs.Text.{attribute_text, attributes_text, inner_text, module_text, body_text}
-use Rattle.rtl_write.specs.Readable.{IsAttribute, AreAttributes}
+use Rattle.rtl_readable.specs.Readable.{IsAttribute, AreAttributes}
 use Rattle.rtl_write.specs.Bodies.{line_at, name_at, with_name}
 use Rattle.rtl_write.proofs.Marks.{Lacks, lacks_by, lacks_both, lacks_first, constant_lacks, name_lacks}
 

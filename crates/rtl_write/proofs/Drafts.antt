@@ -11,7 +11,7 @@ use Rattle.rtl_read.specs.declared.signal.OpenSignal.{OpenSignal}
 use Rattle.rtl_read.specs.Act.Signal.{open_bracket}
 use Rattle.rtl_lex.specs.Items.{Seen}
 use Rattle.rtl_read.specs.declared.open_module.OpenModule.{OpenModule}
-use Rattle.rtl_write.specs.Readable.{IsSignal}
+use Rattle.rtl_readable.specs.Readable.{IsSignal}
 use Rattle.rtl_write.proofs.Stages.{AreWaiting, IsOpen, IsIn, Out, In, Still, wires_in, Signalled, ThenPair, Stage}
 
 pub out_with : (d : Draft) → Out d → (a : Attributes) → AreWaiting a → Out (record d { attributes = a; name = [] })

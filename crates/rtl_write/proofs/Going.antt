@@ -35,7 +35,7 @@ use Rattle.rtl_read.specs.Constant as reading
 use Rattle.rtl_read.specs.Meaning.Attribute.{put_at, with_attribute}
 use Rattle.rtl_read.specs.Act.{act}
 use Rattle.rtl_write.specs.Constant.{bits_text, string_text}
-use Rattle.rtl_write.specs.Readable.{IsConstant, IsAttribute, AreAttributes, IsChar}
+use Rattle.rtl_readable.specs.Readable.{IsConstant, IsAttribute, AreAttributes, IsChar}
 use Rattle.rtl_write.proofs.Printed.{Printed, Piece, EndLine}
 use Rattle.rtl_write.proofs.Lexing.{seen_at, items_at, lead}
 use Rattle.rtl_write.proofs.Integers.{integer_back}

@@ -29,7 +29,7 @@ use Rattle.rtl_read.specs.declared.read_fault.ReadFault.TheVariants as faults
 use Rattle.rtl_read.specs.Meaning.Module.{with_cell}
 use Rattle.rtl_read.specs.Meaning.Cell.{plain_cell, with_param}
 use Rattle.rtl_read.specs.Act.{act}
-use Rattle.rtl_write.specs.Readable.{IsWire, IsCellParam, IsPin, IsCell}
+use Rattle.rtl_readable.specs.Readable.{IsWire, IsCellParam, IsPin, IsCell}
 use Rattle.rtl_write.proofs.Printed.{Printed}
 use Rattle.rtl_write.proofs.Lexing.{seen_at}
 use Rattle.rtl_write.proofs.Names.{IsNew, new_among}

@@ -35,7 +35,7 @@ use Rattle.rtl_read.specs.Draft.{nothing}
 use Rattle.rtl_read.specs.Meaning.Module.{fresh_module, with_process}
 use Rattle.rtl_read.specs.Meaning.Process.{plain_process}
 use Rattle.rtl_read.specs.Act.{act}
-use Rattle.rtl_write.specs.Readable.{IsWire, IsStore, IsParameter, IsCell, IsProcess, IsLink, IsReadableModule, IsReadable, item_names}
+use Rattle.rtl_readable.specs.Readable.{IsWire, IsStore, IsParameter, IsCell, IsProcess, IsLink, IsReadableModule, IsReadable, item_names}
 use Rattle.rtl_write.proofs.Printed.{Printed, EndLine}
 use Rattle.rtl_write.proofs.Lexing.{seen_at}
 use Rattle.rtl_write.proofs.Going.{Goes, goes_none, goes_then, goes_on, goes_line, goes_each, goes_attributes, waiting, TakesAttributes, all_at, okay}

@@ -16,7 +16,7 @@ use Rattle.rtl_read.specs.declared.signal.OpenSignal.{OpenSignal}
 use Rattle.rtl_read.specs.Signal.{no_signal, some_bits}
 use Rattle.rtl_read.specs.Meaning.Module.{with_link}
 use Rattle.rtl_read.specs.Act.Pair.{close_pair}
-use Rattle.rtl_write.specs.Readable.{IsWire, IsLink}
+use Rattle.rtl_readable.specs.Readable.{IsWire, IsLink}
 use Rattle.rtl_write.proofs.Printed.{Printed, EndLine}
 use Rattle.rtl_write.proofs.Going.{Goes, goes_none, goes_on, goes_line, okay}
 use Rattle.rtl_write.proofs.GoingSignals.{Begins, TakesSlices, IsOver, with_signal, goes_signal}

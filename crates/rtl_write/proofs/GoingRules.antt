@@ -34,7 +34,7 @@ use Rattle.rtl_read.specs.Meaning.Process.{plain_rule, plain_write, open_rule, w
 use Rattle.rtl_read.specs.Act.{act}
 use Rattle.rtl_read.specs.Act.Process.{close_process}
 use Rattle.rtl_read.specs.Act.Signal.{begin_signal}
-use Rattle.rtl_write.specs.Readable.{IsWire, IsLink, IsSomeSignal, IsEvent, IsWrite, IsRule}
+use Rattle.rtl_readable.specs.Readable.{IsWire, IsLink, IsSomeSignal, IsEvent, IsWrite, IsRule}
 use Rattle.rtl_write.proofs.Printed.{Printed, EndLine}
 use Rattle.rtl_write.proofs.Lexing.{seen_at}
 use Rattle.rtl_write.proofs.Going.{Goes, goes_none, goes_then, goes_on, goes_line, goes_each, goes_constant, goes_attributes, waiting, TakesAttributes, all_at, okay}

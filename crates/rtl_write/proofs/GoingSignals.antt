@@ -33,7 +33,7 @@ use Rattle.rtl_read.specs.Act.{act}
 use Rattle.rtl_read.specs.Act.Signal.{begin_signal, open_bracket}
 use Rattle.rtl_write.specs.Constant.{bits_text}
 use Rattle.rtl_write.specs.Signal.{runs_of}
-use Rattle.rtl_write.specs.Readable.{IsWire, IsSignal}
+use Rattle.rtl_readable.specs.Readable.{IsWire, IsSignal}
 use Rattle.rtl_write.proofs.Printed.{Printed, Piece}
 use Rattle.rtl_write.proofs.Lexing.{seen_at}
 use Rattle.rtl_write.proofs.Integers.{integer_back}

@@ -34,7 +34,7 @@ use Rattle.rtl_read.specs.Signal.{some_bits}
 use Rattle.rtl_read.specs.Meaning.Tree.{plain_case, case_of, enter_switch, close_switch, with_pattern, with_assign}
 use Rattle.rtl_read.specs.Act.{act}
 use Rattle.rtl_read.specs.Act.Process.{open_switch}
-use Rattle.rtl_write.specs.Readable.{IsWire, IsLink, IsSomeSignal, AreSwitches, AreCases}
+use Rattle.rtl_readable.specs.Readable.{IsWire, IsLink, IsSomeSignal, AreSwitches, AreCases}
 use Rattle.rtl_write.proofs.Printed.{Printed, EndLine}
 use Rattle.rtl_write.proofs.Lexing.{seen_at}
 use Rattle.rtl_write.proofs.Going.{Goes, goes_none, goes_then, goes_on, goes_line, goes_each, goes_attributes, waiting, TakesAttributes, all_at, okay}

@@ -30,7 +30,7 @@ use Rattle.rtl_read.specs.Draft.{nothing}
 use Rattle.rtl_read.specs.Meaning.Module.{is_taken, with_item_name, with_wire, with_parameter}
 use Rattle.rtl_read.specs.Meaning.Wire.{plain_wire, plain_store, some_width, within_limit}
 use Rattle.rtl_read.specs.Act.{act}
-use Rattle.rtl_write.specs.Readable.{IsInteger, IsConstant, IsParameter, IsWire, IsStore}
+use Rattle.rtl_readable.specs.Readable.{IsInteger, IsConstant, IsParameter, IsWire, IsStore}
 use Rattle.rtl_write.proofs.Printed.{Printed}
 use Rattle.rtl_write.proofs.Lexing.{seen_at}
 use Rattle.rtl_write.proofs.Integers.{integer_back}

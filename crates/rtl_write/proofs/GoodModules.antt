@@ -20,10 +20,10 @@ use Rattle.rtl_ir.specs.declared.process.Process.{Process}
 use Rattle.rtl_read.specs.declared.open_module.OpenModule.{OpenModule}
 use Rattle.rtl_ir.specs.declared.limits.TheConstants.{MAX_CELLS, MAX_BITS}
 use Rattle.rtl_read.specs.Meaning.Module.{fresh_module, is_taken, with_parameter, with_cell, with_process, with_link}
-use Rattle.rtl_write.specs.Readable.{IsName, IsConstant, IsParameter, AreAttributes, IsWire, IsStore, IsCell, IsLink, IsProcess, item_names}
+use Rattle.rtl_readable.specs.Readable.{IsName, IsConstant, IsParameter, AreAttributes, IsWire, IsStore, IsCell, IsLink, IsProcess, item_names}
 use Rattle.rtl_write.proofs.Names.{is_new, not_in_front}
 use Rattle.rtl_write.proofs.Distinct.{not_numbered, not_in_both, added_there, not_added, distinct_between}
-use Rattle.rtl_write.proofs.Grown.{grown_cell, grown_process, grown_link}
+use Rattle.rtl_readable.proofs.Grown.{grown_cell, grown_process, grown_link}
 use Rattle.rtl_write.proofs.Stages.{other_names, IsOpen, IsTaken, IsWireSoFar, IsStoreSoFar}
 
 -- ---- names

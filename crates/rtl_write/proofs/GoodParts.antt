@@ -27,7 +27,7 @@ use Rattle.rtl_read.specs.Constant.{constant, value, string, integer, low_bits, 
 use Rattle.rtl_read.specs.Meaning.Attribute.{no_attributes, put_at, with_attribute}
 use Rattle.rtl_read.specs.Meaning.Wire.{some_width, within_limit}
 use Rattle.rtl_grammar.specs.Uses.{◌>>=◌}
-use Rattle.rtl_write.specs.Readable.{IsName, IsInteger, IsConstant, IsAttribute, AreAttributes, IsBitOf, IsSignal}
+use Rattle.rtl_readable.specs.Readable.{IsName, IsInteger, IsConstant, IsAttribute, AreAttributes, IsBitOf, IsSignal}
 use Rattle.rtl_write.proofs.Distinct.{distinct_push, slice_get_lt}
 use Rattle.rtl_write.proofs.Items.{IsGood, all_chars}
 use Rattle.rtl_write.proofs.Stages.{AreWaiting}

@@ -14,7 +14,7 @@ use Rattle.rtl_read.specs.declared.tree.OpenSwitch.{OpenSwitch}
 use Rattle.rtl_read.specs.declared.tree.OpenTree.{OpenTree}
 use Rattle.rtl_read.specs.Signal.{some_bits}
 use Rattle.rtl_read.specs.Meaning.Tree.{plain_case, plain_tree, case_of, switch_of, enter_switch, open_case, put_case, close_case, close_last, with_pattern, with_assign}
-use Rattle.rtl_write.specs.Readable.{AreAttributes, IsAttribute, IsSignal, IsSomeSignal, IsLink, AreSwitches, AreCases}
+use Rattle.rtl_readable.specs.Readable.{AreAttributes, IsAttribute, IsSignal, IsSomeSignal, IsLink, AreSwitches, AreCases}
 use Rattle.rtl_write.proofs.Stages.{IsCaseSoFar, IsRooted, AreOuter, IsTreeSoFar}
 
 -- ---- parts

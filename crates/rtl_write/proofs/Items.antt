@@ -25,7 +25,7 @@ use Rattle.rtl_lex.specs.Strings.{char_by, escape, char_front, spelt, chars_of, 
 use Rattle.rtl_lex.specs.Numbers as numbers
 use Rattle.rtl_lex.specs.Tokens.{Piece, token_at, begun, front, name_front, string_front, minus_front, number_front, is_over}
 use Rattle.rtl_lex.specs.Items.{Seen, item_of, last_item, number_of, is_line, IsFirst, AreItems}
-use Rattle.rtl_write.specs.Readable.{IsName, IsInteger, IsChar}
+use Rattle.rtl_readable.specs.Readable.{IsName, IsInteger, IsChar}
 
 -- a name is one, and a number is in range
 pub record IsGood (i : Seen) : Type 0 where

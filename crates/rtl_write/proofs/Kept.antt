@@ -15,7 +15,7 @@ use Rattle.rtl_read.specs.declared.read_fault.ReadFault.{ReadFault}
 use Rattle.rtl_read.specs.Draft.{nothing, design_of}
 use Rattle.rtl_read.specs.Act.{act}
 use Rattle.rtl_read.specs.Reads.{Reads}
-use Rattle.rtl_write.specs.Readable.{IsReadableModule, IsReadable}
+use Rattle.rtl_readable.specs.Readable.{IsReadableModule, IsReadable}
 use Rattle.rtl_write.proofs.Items.{IsGood, good_items}
 use Rattle.rtl_write.proofs.GoodParts.{none_waiting}
 use Rattle.rtl_write.proofs.Stages.{Stage, Fits, Out}

@@ -26,7 +26,6 @@ pub mod PortLemmas
 pub mod BodyLemmas
 pub mod PortTableLemmas
 pub mod Items
-pub mod Grown
 pub mod Stages
 pub mod GoodParts
 pub mod GoodModules

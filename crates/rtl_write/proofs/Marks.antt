@@ -13,7 +13,7 @@ use Rattle.rtl_ir.specs.declared.value.Value.{Value}
 use Rattle.rtl_ir.specs.declared.value.Value.TheVariants as values
 use Rattle.rtl_write.specs.Constant.{bit_letter, letters_of, sign_mark, bits_text, escaped, string_text, value_text}
 use Rattle.rtl_write.specs.Constant as constants
-use Rattle.rtl_write.specs.Readable.{IsName, IsInteger, IsConstant}
+use Rattle.rtl_readable.specs.Readable.{IsName, IsInteger, IsConstant}
 use Rattle.rtl_write.proofs.Integers.{decimal_digits}
 
 -- no byte of these is the mark

@@ -15,7 +15,7 @@ use Rattle.rtl_ir.specs.declared.ports.PortLine.{PortLine}
 use Rattle.rtl_ir.specs.declared.ports.ModulePorts.{ModulePorts}
 use Rattle.rtl_ir.specs.declared.ports.PortTable.{PortTable}
 use Rattle.rtl_write.specs.Ports.{role_word, port_text, ports_by_module_text, ports_text}
-use Rattle.rtl_write.specs.Readable.{IsName}
+use Rattle.rtl_readable.specs.Readable.{IsName}
 use Rattle.rtl_write.specs.PortTables.{IsPortLine, AreModulePorts, ArePorts, parts_of, role_of, natural_of, port_of, add_port, with_port, with_line, modules_of}
 use Rattle.rtl_write.proofs.Integers.{integer_back}
 use Rattle.rtl_write.proofs.Marks.{Lacks, Separates, lacks_by, number_lacks, integer_lacks, name_lacks}

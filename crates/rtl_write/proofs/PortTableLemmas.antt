@@ -9,7 +9,7 @@ use Rattle.rtl_ir.specs.declared.wire.Wire.{Wire}
 use Rattle.rtl_ir.specs.declared.module.Module.{Module}
 use Rattle.rtl_ir.specs.declared.module.Design.{Design}
 use Rattle.rtl_ir.specs.Ports.{is_port, place_wire, in_number_order, line_of, place_module, in_name_order, instantiates, instances_of, ports_by_module, cells_at, port_table_of}
-use Rattle.rtl_write.specs.Readable.{IsWire, IsReadableModule, IsReadable}
+use Rattle.rtl_readable.specs.Readable.{IsWire, IsReadableModule, IsReadable}
 use Rattle.rtl_write.specs.PortTables.{IsPortLine, AreModulePorts, ArePorts}
 
 -- what holds of each wire holds of each in order

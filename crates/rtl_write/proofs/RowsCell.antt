@@ -24,7 +24,7 @@ use Rattle.rtl_read.specs.Meaning.Module.{is_taken, with_cell}
 use Rattle.rtl_read.specs.Meaning.Cell.{with_kind, with_cell_name, with_param, with_pin}
 use Rattle.rtl_read.specs.Act.Signal.{without_signal}
 use Rattle.rtl_read.specs.Act.Cell.{act_cell_kind, act_cell_name, act_cell_body, act_cell_parameter, act_cell_parameter_name, act_cell_parameter_value, act_pin_name, act_behind_pin}
-use Rattle.rtl_write.specs.Readable.{IsName, AreAttributes, IsCellParam, IsPin, IsCell}
+use Rattle.rtl_readable.specs.Readable.{IsName, AreAttributes, IsCellParam, IsPin, IsCell}
 use Rattle.rtl_write.proofs.Names.{is_new}
 use Rattle.rtl_write.proofs.Distinct.{not_numbered, distinct_push}
 use Rattle.rtl_write.proofs.Items.{IsGood}

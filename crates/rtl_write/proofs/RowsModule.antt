@@ -24,7 +24,7 @@ use Rattle.rtl_read.specs.Meaning.Module.{fresh_module, with_parameter, with_lin
 use Rattle.rtl_read.specs.Meaning.Wire.{plain_wire, plain_store}
 use Rattle.rtl_read.specs.Meaning.Cell.{plain_cell}
 use Rattle.rtl_read.specs.Act.Module.{act_module_name, close_module, act_next_item, act_body, act_parameter_name, act_parameter_value}
-use Rattle.rtl_write.specs.Readable.{IsConstant, AreAttributes, IsReadableModule}
+use Rattle.rtl_readable.specs.Readable.{IsConstant, AreAttributes, IsReadableModule}
 use Rattle.rtl_write.proofs.Names.{is_new}
 use Rattle.rtl_write.proofs.Distinct.{not_numbered, distinct_push}
 use Rattle.rtl_write.proofs.Items.{IsGood}

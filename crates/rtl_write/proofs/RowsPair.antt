@@ -11,7 +11,7 @@ use Rattle.rtl_grammar.specs.Grammar.Pair.{after_behind_left, after_behind_right
 use Rattle.rtl_read.specs.declared.draft.Draft.{Draft}
 use Rattle.rtl_read.specs.Act.Signal.{without_signal}
 use Rattle.rtl_read.specs.Act.Pair.{act_behind_left, act_behind_right}
-use Rattle.rtl_write.specs.Readable.{IsSignal}
+use Rattle.rtl_readable.specs.Readable.{IsSignal}
 use Rattle.rtl_write.proofs.Items.{IsGood}
 use Rattle.rtl_write.proofs.Stages.{Stage, Fits, wires_in, ThenSignal}
 use Rattle.rtl_write.proofs.Drafts.{bracket_stage}

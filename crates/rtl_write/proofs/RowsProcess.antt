@@ -27,7 +27,7 @@ use Rattle.rtl_read.specs.Meaning.Module.{is_taken, with_process}
 use Rattle.rtl_read.specs.Meaning.Process.{plain_process, with_process_name, process_of}
 use Rattle.rtl_read.specs.Meaning.Tree.{with_assign}
 use Rattle.rtl_read.specs.Act.Process.{with_tree, act_process_name, open_switch, close_process, act_next_switch, act_process_body}
-use Rattle.rtl_write.specs.Readable.{AreAttributes, IsSignal, AreSwitches, IsRule, IsProcess}
+use Rattle.rtl_readable.specs.Readable.{AreAttributes, IsSignal, AreSwitches, IsRule, IsProcess}
 use Rattle.rtl_write.proofs.Items.{IsGood}
 use Rattle.rtl_write.proofs.GoodParts.{none_waiting, are_attributes}
 use Rattle.rtl_write.proofs.GoodModules.{unused, named_open, name_taken, process_open}

@@ -25,7 +25,7 @@ use Rattle.rtl_read.specs.declared.read_fault.ReadFault.TheVariants as faults
 use Rattle.rtl_read.specs.Constant.{constant, integer, fixed}
 use Rattle.rtl_read.specs.Signal.{wire_bits, width_at, wire_signal, close_brace, inside, put_below, set_high, set_low, slice, behind_index, behind_inside}
 use Rattle.rtl_read.specs.Act.Signal.{begin_signal, open_bracket}
-use Rattle.rtl_write.specs.Readable.{IsBitOf, IsSignal, IsWire}
+use Rattle.rtl_readable.specs.Readable.{IsBitOf, IsSignal, IsWire}
 use Rattle.rtl_write.proofs.Items.{IsGood}
 use Rattle.rtl_write.proofs.GoodParts.{constant_good, fixed_good}
 use Rattle.rtl_write.proofs.Stages.{Stage, Fits, In, wires_in, IsGoodSignal, ThenSignal}

@@ -24,7 +24,7 @@ use Rattle.rtl_read.specs.Meaning.Process.{event_of, event_with, plain_rule, ope
 use Rattle.rtl_read.specs.Act.Signal.{without_signal, begin_signal}
 use Rattle.rtl_read.specs.Act.Process.{close_process}
 use Rattle.rtl_read.specs.Act.Sync.{act_sync_event, act_behind_event, end_rule, act_next_write, act_sync_body, act_write_memory, act_behind_address, act_behind_value, end_write, act_behind_enable}
-use Rattle.rtl_write.specs.Readable.{IsSignal, IsSomeSignal, IsLink, IsEvent, IsWrite, IsRule}
+use Rattle.rtl_readable.specs.Readable.{IsSignal, IsSomeSignal, IsLink, IsEvent, IsWrite, IsRule}
 use Rattle.rtl_write.proofs.Items.{IsGood}
 use Rattle.rtl_write.proofs.GoodParts.{Constant, constant_good, none_waiting, are_attributes}
 use Rattle.rtl_write.proofs.GoodTrees.{some_good}

@@ -13,7 +13,7 @@ use Rattle.rtl_sig.specs.declared.sig.WireBit.{WireBit}
 use Rattle.rtl_ir.specs.declared.wire.Wire as records
 use Rattle.rtl_write.specs.declared.run.TheConstants.{MAX_RUN}
 use Rattle.rtl_write.specs.Signal.{goes_on, last_bit, with_bit, runs_of}
-use Rattle.rtl_write.specs.Readable.{IsBitOf}
+use Rattle.rtl_readable.specs.Readable.{IsBitOf}
 
 -- so many bits of a wire from one on
 abbrev pub rising : ℕ → ℕ → ℕ → List SigBit

@@ -25,7 +25,7 @@ use Rattle.rtl_read.specs.declared.signal.OpenSignal.{OpenSignal}
 use Rattle.rtl_read.specs.Meaning.Cell.{plain_cell}
 use Rattle.rtl_read.specs.Meaning.Process.{plain_process, event_with}
 use Rattle.rtl_read.specs.Act.Pair.{close_pair}
-use Rattle.rtl_write.specs.Readable.{IsName, IsInteger, IsAttribute, AreAttributes, IsSignal, IsSomeSignal, IsLink, IsCellParam, IsPin, AreSwitches, AreCases, IsRule, item_names, IsReadableModule}
+use Rattle.rtl_readable.specs.Readable.{IsName, IsInteger, IsAttribute, AreAttributes, IsSignal, IsSomeSignal, IsLink, IsCellParam, IsPin, AreSwitches, AreCases, IsRule, item_names, IsReadableModule}
 
 -- ---- parts
 

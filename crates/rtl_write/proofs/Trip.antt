@@ -19,7 +19,7 @@ use Rattle.rtl_read.specs.Act.{act}
 use Rattle.rtl_read.specs.Reads.{AreItemsOf, Reads}
 use Rattle.rtl_read.specs.Draft.{nothing}
 use Rattle.rtl_write.specs.Text.{text_of}
-use Rattle.rtl_write.specs.Readable.{IsReadable}
+use Rattle.rtl_readable.specs.Readable.{IsReadable}
 use Rattle.rtl_write.proofs.Printed.{Printed}
 use Rattle.rtl_write.proofs.Lexing.{seen_at, items_at, Ended, lines_items}
 use Rattle.rtl_write.proofs.Statements.{spelled_design}

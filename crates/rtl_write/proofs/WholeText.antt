@@ -32,7 +32,7 @@ use Rattle.rtl_ir.specs.declared.process.SyncRule.{SyncRule}
 use Rattle.rtl_ir.specs.declared.process.Process.{Process}
 use Rattle.rtl_write.specs.Constant.{bits_text}
 use Rattle.rtl_write.specs.Signal.{constant_of, runs_of}
-use Rattle.rtl_write.specs.Readable.{IsName, IsInteger, IsChar, IsConstant, IsAttribute, AreAttributes, IsParameter, IsWire, IsStore, IsSignal, IsSomeSignal, IsLink, IsCellParam, IsPin, IsCell, AreSwitches, AreCases, IsEvent, IsWrite, IsRule, IsProcess, IsReadableModule, IsReadable}
+use Rattle.rtl_readable.specs.Readable.{IsName, IsInteger, IsChar, IsConstant, IsAttribute, AreAttributes, IsParameter, IsWire, IsStore, IsSignal, IsSomeSignal, IsLink, IsCellParam, IsPin, IsCell, AreSwitches, AreCases, IsEvent, IsWrite, IsRule, IsProcess, IsReadableModule, IsReadable}
 use Rattle.rtl_write.proofs.Printed.{Printed, Piece, EndLine, IsToken, AreLines, lines_then, opens_follows, IsTail, tail_end, tail_piece, line_piece}
 use Rattle.rtl_write.proofs.Forms.{word_token, mark_token, name_token}
 use Rattle.rtl_write.proofs.Integers.{integer_token}

@@ -2,6 +2,5 @@ pub mod Constant
 pub mod Signal
 pub mod Text
 pub mod Ports
-pub mod Readable
 pub mod Bodies
 pub mod PortTables

@@ -8,7 +8,7 @@ use Rattle.rtl_ir.specs.declared.wire.Role.TheVariants.{Inner, Input, Output, In
 use Rattle.rtl_ir.specs.declared.ports.PortLine.{PortLine}
 use Rattle.rtl_ir.specs.declared.ports.ModulePorts.{ModulePorts}
 use Rattle.rtl_ir.specs.declared.ports.PortTable.{PortTable}
-use Rattle.rtl_write.specs.Readable.{IsName, IsInteger}
+use Rattle.rtl_readable.specs.Readable.{IsName, IsInteger}
 
 -- a port, as a wire of a readable design has it
 pub record IsPortLine (p : PortLine) : Type 0 where

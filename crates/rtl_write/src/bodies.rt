@@ -4,7 +4,7 @@ ghost use Rattle.std.specs.Prelude.{◌≡◌, ◌≤◌, true, List, [], ◌∷
 ghost use Rattle.rtl_ir.specs.declared.module.Module.{Module};
 ghost use Rattle.rtl_read.specs.declared.read_fault.ReadFault.TheVariants as faults;
 ghost use Rattle.rtl_write.specs.Text.{body_text};
-ghost use Rattle.rtl_write.specs.Readable.{IsReadableModule};
+ghost use Rattle.rtl_readable.specs.Readable.{IsReadableModule};
 ghost use Rattle.rtl_write.specs.Bodies.{line_at, with_name};
 
 use rtl_bits::{Memory, Text};

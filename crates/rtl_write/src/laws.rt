@@ -6,7 +6,7 @@ ghost use Rattle.rtl_ir.specs.declared.module.Module.{Module};
 ghost use Rattle.rtl_ir.specs.Ports.{port_table_of};
 ghost use Rattle.rtl_read.specs.Reads.{Reads};
 ghost use Rattle.rtl_write.specs.Text.{body_text, text_of};
-ghost use Rattle.rtl_write.specs.Readable.{IsReadable, IsReadableModule};
+ghost use Rattle.rtl_readable.specs.Readable.{IsReadable, IsReadableModule};
 ghost use Rattle.rtl_write.specs.Bodies.{HasPlaceForName};
 ghost use Rattle.rtl_write.specs.PortTables.{ArePorts};
 

@@ -11,7 +11,7 @@ use synth_run::{Status, run};
 /// How a call over so many spaces ends, and what it writes.
 fn ended_over(alloc: Global, count: usize) -> Result<(Status, MemSink), Memory> {
     let spaces = vec![in alloc; b' '; count]?;
-    let mut source = SureSource::make(Text::from_vec(spaces));
+    let mut source = SureSource::make(Text::from_vec(spaces)?);
     let mut sink = MemSink::make(alloc, 100, Vec::new(alloc))?;
     let (status, _builds) = count_builds(alloc, &[], &mut source, &mut sink);
     Ok((status, sink))

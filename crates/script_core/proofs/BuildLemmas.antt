@@ -6,7 +6,7 @@ use Rattle.std.specs.Option.{option_map}
 use Rattle.std.proofs.lemmas.List.Elements.{All-head, All-tail}
 use Rattle.rtl_ir.specs.declared.module.Design.{Design}
 use Rattle.rtl_ir.specs.Faults.{check_faults}
-use Rattle.rtl_write.specs.Readable.{IsReadable}
+use Rattle.rtl_readable.specs.Readable.{IsReadable}
 use Rattle.rtl_ir.specs.declared.module.Module.{Module}
 use Rattle.rtl_ir.specs.Ports.{instances_of, ports_by_module, port_table_of}
 use Rattle.rtl_write.specs.Text.{body_text}

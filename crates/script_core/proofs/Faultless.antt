@@ -41,7 +41,7 @@ use Rattle.rtl_ir.specs.Scope.{Scope}
 use Rattle.rtl_ir.specs.Signals.{has_constant}
 use Rattle.rtl_ir.specs.WritePorts.{write_lines}
 use Rattle.rtl_ir.specs.Types.{Ports, CellType, Library, Instance, Unsupported, Unknown, port_lines, module_named, design_ports, table_ports, port_named, type_by, cell_type}
-use Rattle.rtl_write.specs.Readable.{IsReadable}
+use Rattle.rtl_readable.specs.Readable.{IsReadable}
 use Rattle.net_model.specs.Lists.{In, Distinct}
 use Rattle.net_model.specs.Within.{Each}
 use Rattle.net_model.proofs.Members.{In-map, In-mapped}

@@ -19,7 +19,7 @@ use Rattle.rtl_ir.specs.declared.process.WriteLine.{WriteLine}
 use Rattle.rtl_ir.specs.Tree.{Switches, NoSwitch, OneSwitch, Cases, NoCase, OneCase}
 use Rattle.rtl_sig.specs.declared.sig.SigBit.{SigBit}
 use Rattle.rtl_sig.specs.declared.sig.SigBit.TheVariants as sig
-use Rattle.rtl_write.specs.Readable.{AreCases, AreSwitches, IsBitOf, IsCell, IsEvent, IsLink, IsPin, IsProcess, IsReadable, IsReadableModule, IsRule, IsSomeSignal, IsWrite}
+use Rattle.rtl_readable.specs.Readable.{AreCases, AreSwitches, IsBitOf, IsCell, IsEvent, IsLink, IsPin, IsProcess, IsReadable, IsReadableModule, IsRule, IsSomeSignal, IsWrite}
 use Rattle.net_model.specs.Lists.{In}
 use Rattle.net_model.specs.Within.{BitIn, CasesIn, CellIn, Each, EventIn, IsWithin, LinkIn, ProcessIn, RuleIn, SigIn, SwitchesIn, WriteIn}
 use Rattle.proc_laws.specs.Ready as laws

@@ -4,7 +4,7 @@ use Rattle.std.specs.Prelude.{IfOk}
 use Rattle.rtl_ir.specs.declared.module.Module.{Module}
 use Rattle.rtl_ir.specs.declared.ports.PortTable.{PortTable}
 use Rattle.rtl_ir.specs.Ports.{port_table_of}
-use Rattle.rtl_write.specs.Readable.{IsReadableModule}
+use Rattle.rtl_readable.specs.Readable.{IsReadableModule}
 use Rattle.rtl_write.specs.PortTables.{ArePorts}
 use Rattle.rtl_write.proofs.PortTableLemmas.{readable_table}
 use Rattle.rtl_write.specs.Text.{body_text}

@@ -12,7 +12,7 @@ use Rattle.rtl_ir.specs.Flat.Place.{Frame}
 use Rattle.rtl_ir.specs.Flat.Tree.{design_ports}
 use Rattle.rtl_ir.specs.Flat.Tree.{table_ports as flat_ports}
 use Rattle.rtl_ir.specs.Ports.{instances_of, ports_by_module, port_table_of}
-use Rattle.rtl_write.specs.Readable.{IsReadable, IsReadableModule}
+use Rattle.rtl_readable.specs.Readable.{IsReadable, IsReadableModule}
 use Rattle.rtl_write.specs.PortTables.{ArePorts}
 use Rattle.rtl_write.proofs.BodyLaws.{readable_named, body_kept}
 use Rattle.rtl_write.proofs.PortTableLemmas.{readable_table}

@@ -4,7 +4,7 @@ use Rattle.rtl_ir.specs.declared.module.Design.{Design}
 use Rattle.rtl_ir.specs.declared.module.Module.{Module}
 use Rattle.rtl_ir.specs.declared.ports.PortTable.{PortTable}
 use Rattle.rtl_ir.specs.Faults.{check_faults}
-use Rattle.rtl_write.specs.Readable.{IsReadable, IsReadableModule}
+use Rattle.rtl_readable.specs.Readable.{IsReadable, IsReadableModule}
 use Rattle.rtl_write.specs.PortTables.{ArePorts}
 use Rattle.rtl_write.specs.Text.{body_text}
 use Rattle.rtl_write.specs.Ports.{ports_text}

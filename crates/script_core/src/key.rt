@@ -2,7 +2,7 @@
 
 ghost use Rattle.std.specs.Prelude.{◌≡◌, ◌<◌, ◌^◌, ◌++◌, IfOk, OnOk, length, map};
 ghost use Rattle.rtl_ir.specs.Faults.{faults_within};
-ghost use Rattle.rtl_write.specs.Readable.{IsReadable};
+ghost use Rattle.rtl_readable.specs.Readable.{IsReadable};
 ghost use Rattle.script_core.specs.declared.key.Key.{Key};
 ghost use Rattle.script_core.specs.Built.{IsAcceptedKey};
 ghost use Rattle.script_core.specs.Keys.{key_of, key_text, part_text};
@@ -12,7 +12,7 @@ use crate::script::Script;
 use crate::word::Word;
 use rtl_bits::{Copied, Memory, Text};
 use rtl_check::Checked;
-use rtl_ir::{Design, port_table};
+use rtl_ir::{Design, DesignPorts};
 use rtl_write::{body_text, ports_text};
 use std::alloc::Global;
 
@@ -35,21 +35,46 @@ impl Copied for Key {
     }
 }
 
-/// The key of the module at this place of the design, under the script.
+/// The key of the module at this place of the design, under the script. For several modules of a design `key_by` looks
+/// their types up in one table.
 pub fn key_of(alloc: Global, design: &Checked, module: u32, script: &Script) -> Result<Key, Memory>
     requires in_range { «module» < length design.now.design.modules }
     ensures exact { IfOk result (λ key. key ≡ key_of design.now.design.modules «module» script.now) }
     ensures accepted { IsReadable design.now.design → IfOk result IsAcceptedKey }
 {
-    key_in(alloc, design.design(), module, script)
+    let table = DesignPorts::of(alloc, design.design())?;
+    key_by(alloc, design, &table, module, script)
 }
 
-/// The key of the module at this place of any design.
-fn key_in(alloc: Global, design: &Design, module: u32, script: &Script) -> Result<Key, Memory>
+/// The key of the module at this place of the design, under the script, by the table of the design's modules.
+pub fn key_by(
+    alloc: Global,
+    design: &Checked,
+    table: &DesignPorts,
+    module: u32,
+    script: &Script,
+) -> Result<Key, Memory>
+    requires in_range { «module» < length design.now.design.modules }
+    requires table { table.now.modules.now ≡ design.now.design.modules }
+    ensures exact { IfOk result (λ key. key ≡ key_of design.now.design.modules «module» script.now) }
+    ensures accepted { IsReadable design.now.design → IfOk result IsAcceptedKey }
+{
+    key_in(alloc, design.design(), table, module, script)
+}
+
+/// The key of the module at this place of any design, by the table of its modules.
+fn key_in(
+    alloc: Global,
+    design: &Design,
+    table: &DesignPorts,
+    module: u32,
+    script: &Script,
+) -> Result<Key, Memory>
     requires in_range { «module» < length design.now.modules }
+    requires table { table.now.modules.now ≡ design.now.modules }
     ensures exact { IfOk result (λ key. key ≡ key_of design.now.modules «module» script.now) }
 {
-    let ports = port_table(alloc, design, module)?;
+    let ports = table.table_of(alloc, module)?;
     Ok(Key {
         body: body_text(alloc, &design.modules.as_slice()[module as usize])?,
         ports: ports_text(alloc, &ports)?,

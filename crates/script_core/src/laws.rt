@@ -7,7 +7,7 @@ ghost use Rattle.rtl_ir.specs.declared.ports.PortTable.{PortTable};
 ghost use Rattle.rtl_ir.specs.Faults.{check_faults};
 ghost use Rattle.rtl_ir.specs.Flat.Cell.{instances};
 ghost use Rattle.rtl_ir.specs.Flat.Tree.{design_ports, table_ports};
-ghost use Rattle.rtl_write.specs.Readable.{IsReadable};
+ghost use Rattle.rtl_readable.specs.Readable.{IsReadable};
 ghost use Rattle.net_model.specs.Gates.{is_gate_netlist};
 ghost use Rattle.net_model.specs.Lists.{In};
 ghost use Rattle.net_model.specs.Refine.{AgreeOn, Refines, RefinesIn};

@@ -11,9 +11,9 @@ mod parse;
 mod script;
 mod word;
 
-pub use building::build;
+pub use building::{build, build_outcome};
 pub use built::Built;
-pub use key::{Key, key_of};
+pub use key::{Key, key_by, key_of};
 pub use outcome::Outcome;
 pub use parse::{ScriptFault, parse_script};
 pub use script::{Script, default_script};

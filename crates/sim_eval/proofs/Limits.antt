@@ -17,11 +17,15 @@ use Rattle.cell_types.specs.declared.pin_name.PinName.TheVariants.{A, B, S, Y}
 use Rattle.cell_types.specs.declared.shape.Shape.{Shape}
 use Rattle.cell_types.specs.declared.word.UnaryKind.TheVariants.{Neg}
 use Rattle.cell_types.specs.declared.word.WordKind.{WordKind}
-use Rattle.cell_types.specs.declared.word.WordKind.TheVariants.{Unary, Order, Arith, Division, Shift, Pmux}
+use Rattle.cell_types.specs.declared.word.WordKind.TheVariants.{Unary, Order, Arith, Division, Shift, Pmux, Bmux, Demux}
 use Rattle.cell_types.specs.Fault.{fault_of, fits, has_other_width, has_width, is_bad, is_wide, is_wide_pin, limit_of}
 use Rattle.cell_types.specs.PinName.{pin_text}
 use Rattle.cell_types.specs.Pins.{pins_of}
-use Rattle.cell_types.specs.Shape.{made_shape}
+use Rattle.cell_types.specs.Shape.{made_shape, small}
+use Rattle.cell_types.specs.Bounds.{AreWordWidths}
+use Rattle.cell_types.specs.Given.{number_in}
+use Rattle.cell_types.specs.declared.param_name.ParamName.TheVariants.{SWidth}
+use Rattle.cell_types.proofs.Within.{made_bounds}
 use Rattle.cell_types.specs.Widths.{pin_width}
 use Rattle.rtl_ir.specs.declared.cell.Cell.{Cell as CellOf}
 use Rattle.rtl_ir.specs.declared.cell.Pin.{Pin}
@@ -32,7 +36,7 @@ use Rattle.rtl_ir.specs.Flat.Place.{Path}
 use Rattle.rtl_ir.specs.Flat.Point.{pin_points, points}
 use Rattle.rtl_ir.specs.Parameters.{given_params, signal_at}
 use Rattle.cell_word.specs.Values.{HasInputs}
-use Rattle.sim_eval.specs.Limits.{is_word_within, width_at}
+use Rattle.sim_eval.specs.Limits.{is_word_within, most_of, width_at}
 
 or_false : (a b : Bool) → (a || b) ≡ false → (a ≡ false) × (b ≡ false)
 or_false true b e = absurd (true≢false e)
@@ -75,29 +79,40 @@ length-points p wires (s ∷ signal) = ap suc (length-points p wires signal)
 le_true : (a b : ℕ) → a ≤ b → nat_le a b ≡ true
 le_true a b l = le-leb a b l
 
-module _ (p : Path) (wires : List Wire) (kind : WordKind) (params : List Param) (pins : List Pin) where
+-- what is within the width of a pin, and the pin within the limit of its kind
+most_within : (kind : WordKind) (name : PinName) (params : List Param) (n : ℕ) → AreWordWidths kind (made_shape (Cell.Word kind) params).widths (made_shape (Cell.Word kind) params).offset → n ≤ pin_width (Cell.Word kind) params name → pin_width (Cell.Word kind) params name ≤ limit_of kind → n ≤ most_of kind name
+most_within Bmux S params n keeps le narrow =
+    let few : small (number_in params SWidth) ≤ 12 = keeps.1.1 in
+    omega arith
+most_within Demux S params n keeps le narrow =
+    let few : small (number_in params SWidth) ≤ 12 = keeps.1.1 in
+    omega arith
+most_within kind name params n keeps le narrow = omega arith
+
+module _ (p : Path) (wires : List Wire) (kind : WordKind) (params : List Param) (pins : List Pin) (keeps : AreWordWidths kind (made_shape (Cell.Word kind) params).widths (made_shape (Cell.Word kind) params).offset) where
   abbrev widths : List ℕ
   widths = length (pin_points p wires pins A) ∷ length (pin_points p wires pins B) ∷ length (pin_points p wires pins S) ∷ []
 
   abbrev word : CellKind
   word = Cell.Word kind
 
-  signal_within : (name : PinName) → has_width word params (pin_widths pins) name ≡ true → is_wide_pin kind params name ≡ false → nat_le (length (pin_points p wires pins name)) (limit_of kind) ≡ true
-  signal_within name h w =
-      let narrow : pin_width word params name ≤ limit_of kind = ltb-false (limit_of kind) (pin_width word params name) w in
+  signal_long : (name : PinName) → has_width word params (pin_widths pins) name ≡ true → length (pin_points p wires pins name) ≤ pin_width word params name
+  signal_long name h =
       let long : length (pin_points p wires pins name) ≡ length (signal_at pins (pin_text name)) = length-points p wires (signal_at pins (pin_text name)) in
-      le_true _ (limit_of kind) (omega (arith, long, narrow, signal_width word params pins name h))
+      omega (arith, long, signal_width word params pins name h)
 
-  pin_within : (name : PinName) → has_width word params (pin_widths pins) name ≡ true → is_wide_pin kind params name ≡ false → nat_le (width_at (made_shape word params) widths name) (limit_of kind) ≡ true
-  pin_within A h w = signal_within A h w
-  pin_within B h w = signal_within B h w
-  pin_within S h w = signal_within S h w
-  pin_within Y h w =
-      let narrow : pin_width word params Y ≤ limit_of kind = ltb-false (limit_of kind) (pin_width word params Y) w in
-      le_true _ (limit_of kind) (omega arith)
-  pin_within name h w = le_true 0 (limit_of kind) (omega arith)
+  within : (name : PinName) (n : ℕ) → n ≤ pin_width word params name → is_wide_pin kind params name ≡ false → nat_le n (most_of kind name) ≡ true
+  within name n le w =
+      le_true n (most_of kind name) (most_within kind name params n keeps le (ltb-false (limit_of kind) (pin_width word params name) w))
 
-  pins_within : (names : List PinName) → list_all (has_width word params (pin_widths pins)) names ≡ true → list_any (is_wide_pin kind params) names ≡ false → list_all (λ name. nat_le (width_at (made_shape word params) widths name) (limit_of kind)) names ≡ true
+  pin_within : (name : PinName) → has_width word params (pin_widths pins) name ≡ true → is_wide_pin kind params name ≡ false → nat_le (width_at (made_shape word params) widths name) (most_of kind name) ≡ true
+  pin_within A h w = within A (length (pin_points p wires pins A)) (signal_long A h) w
+  pin_within B h w = within B (length (pin_points p wires pins B)) (signal_long B h) w
+  pin_within S h w = within S (length (pin_points p wires pins S)) (signal_long S h) w
+  pin_within Y h w = within Y (made_shape word params).widths.y (omega arith) w
+  pin_within name h w = within name 0 (omega arith) w
+
+  pins_within : (names : List PinName) → list_all (has_width word params (pin_widths pins)) names ≡ true → list_any (is_wide_pin kind params) names ≡ false → list_all (λ name. nat_le (width_at (made_shape word params) widths name) (most_of kind name)) names ≡ true
   pins_within [] h w = refl
   pins_within (name ∷ names) h w =
       let hs = and_parts (has_width word params (pin_widths pins) name) (list_all (has_width word params (pin_widths pins)) names) h in
@@ -109,7 +124,7 @@ pub word_within : (p : Path) (wires : List Wire) (kind : WordKind) (c : CellOf) 
 unfolding misfit cell_shape
 word_within p wires kind c e =
     let good = faultless (Cell.Word kind) (given_params c.params) (pin_widths c.pins) e in
-    pins_within p wires kind (given_params c.params) c.pins (pins_of (Cell.Word kind)) good.1 good.0
+    pins_within p wires kind (given_params c.params) c.pins (made_bounds (Cell.Word kind) (given_params c.params) (pin_widths c.pins) e) (pins_of (Cell.Word kind)) good.1 good.0
 
 -- a fault is no want of memory
 pub no_memory : (kind : CellKind) (c : CellOf) → misfit kind c ≡ Some fault.Memory → ⊥
@@ -152,4 +167,8 @@ inputs_within Pmux shape a b s h =
     let p = and_parts (nat_le (length a) 4096) _ h in
     let q = and_parts (nat_le (length b) 4096) _ p.1 in
     (lit≤ tt, (both_le (length s) shape.widths.y 4096 4096 q.1).0)
+inputs_within Bmux shape a b s h =
+    let p = and_parts (nat_le (length a) 4096) _ h in (lit≤ tt, (both_le (length s) shape.widths.y 12 4096 p.1).0)
+inputs_within Demux shape a b s h =
+    let p = and_parts (nat_le (length a) 4096) _ h in (lit≤ tt, (both_le (length s) shape.widths.y 12 4096 p.1).0)
 inputs_within kind shape a b s h = (lit≤ tt, tt)

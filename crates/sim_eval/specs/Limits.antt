@@ -7,6 +7,7 @@ use Rattle.cell_types.specs.declared.pin_name.PinName.{PinName}
 use Rattle.cell_types.specs.declared.pin_name.PinName.TheVariants.{A, B, S, Y}
 use Rattle.cell_types.specs.declared.shape.Shape.{Shape}
 use Rattle.cell_types.specs.declared.word.WordKind.{WordKind}
+use Rattle.cell_types.specs.declared.word.WordKind.TheVariants.{Bmux, Demux}
 use Rattle.cell_types.specs.Fault.{limit_of}
 use Rattle.cell_types.specs.Pins.{pins_of}
 use Rattle.rtl_ir.specs.Flat.Driver.{Driver, Worked, Stored}
@@ -23,9 +24,15 @@ width_at shape widths S = slice_index_or widths 2 0
 width_at shape widths Y = shape.widths.y
 width_at shape widths name = 0
 
+-- the greatest width of a pin: few bits choose one of parts
+abbrev pub most_of : WordKind → PinName → ℕ
+most_of Bmux S = 12
+most_of Demux S = 12
+most_of kind name = limit_of kind
+
 -- no pin of a combinational cell on words passes the limit of the kind
 abbrev pub is_word_within : WordKind → Shape → List ℕ → Bool
-is_word_within kind shape widths = list_all (λ name. nat_le (width_at shape widths name) (limit_of kind)) (pins_of (Cell.Word kind))
+is_word_within kind shape widths = list_all (λ name. nat_le (width_at shape widths name) (most_of kind name)) (pins_of (Cell.Word kind))
 
 -- a cell of this kind is combinational, and no pin of it passes the limit of the kind
 abbrev pub is_logic_within : CellKind → Shape → List ℕ → Bool

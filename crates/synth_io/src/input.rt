@@ -89,7 +89,12 @@ pub fn read_input<S: Source>(alloc: Global, source: &mut S) -> Result<Text, Inpu
     while bytes.len() <= LIMIT {
         let room = PIECE.min(LIMIT + 1 - bytes.len());
         match take_piece(source, &mut bytes, &mut piece, room) {
-            Ok(0) => return Ok(Text::from_vec(bytes)),
+            Ok(0) => {
+                let Ok(text) = Text::from_vec(bytes) else {
+                    return Err(InputError::Memory);
+                };
+                return Ok(text);
+            }
             Ok(_) => {}
             Err(error) => return Err(error),
         }

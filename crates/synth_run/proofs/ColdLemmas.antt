@@ -5,7 +5,7 @@ use Rattle.std.proofs.lemmas.Option.{slice_get-get_or}
 use Rattle.rtl_bits.specs.declared.memory.Memory.{Memory}
 use Rattle.rtl_ir.specs.declared.module.Design.{Design}
 use Rattle.rtl_ir.specs.declared.module.Module.{Module}
-use Rattle.rtl_write.specs.Readable.{IsReadable}
+use Rattle.rtl_readable.specs.Readable.{IsReadable}
 use Rattle.script_core.specs.declared.key.Key.{Key}
 use Rattle.script_core.specs.declared.outcome.Outcome.{Outcome}
 use Rattle.script_core.specs.declared.outcome.Outcome.TheVariants.{Done, Over}

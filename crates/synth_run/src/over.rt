@@ -2,15 +2,15 @@
 
 ghost use Rattle.std.specs.Prelude.{◌≡◌, ◌≤◌, ◌++◌, IfOk, OnOk, length, map};
 ghost use Rattle.std.specs.Fmt.{decimal};
-ghost use Rattle.rtl_write.specs.Readable.{IsReadable};
+ghost use Rattle.rtl_readable.specs.Readable.{IsReadable};
 ghost use Rattle.synth_run.specs.Cold.{first_over, key_count, key_texts};
 ghost use Rattle.synth_run.specs.Replies.{over_words, word_name};
 
 use crate::cold::module_count;
 use rtl_bits::{Copied, Memory, Text};
 use rtl_check::Checked;
-use rtl_ir::Module;
-use script_core::{Outcome, Script, Word, key_of};
+use rtl_ir::{DesignPorts, Module};
+use script_core::{Outcome, Script, Word, key_by};
 use std::alloc::Global;
 use std::collections::HashSet;
 
@@ -43,10 +43,11 @@ fn key_texts(alloc: Global, design: &Checked, script: &Script) -> Result<Vec<Vec
     requires readable { IsReadable design.now.design }
     ensures value { IfOk result (λ texts. map (λ text. text.items) texts.items ≡ key_texts script.now design.now.design.modules) }
 {
+    let table = DesignPorts::of(alloc, design.design())?;
     let mut texts = Vec::new(alloc);
     for at in 0..module_count(design) {
-        let key = key_of(alloc, design, at, script)?;
-        texts.push(key.text(alloc)?.into_vec())?;
+        let key = key_by(alloc, design, &table, at, script)?;
+        texts.push(key.text(alloc)?.into_vec()?)?;
     }
     Ok(texts)
 }

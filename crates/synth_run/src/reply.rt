@@ -3,7 +3,7 @@
 ghost use Rattle.std.specs.Prelude.{◌≡◌, ◌≢◌, ◌⊎◌, [], IfOk, codes, false, length, string_bytes};
 ghost use Rattle.rtl_lex.specs.Place.{place_text};
 ghost use Rattle.rtl_ir.specs.Faults.{check_faults};
-ghost use Rattle.rtl_write.specs.Readable.{IsReadable};
+ghost use Rattle.rtl_readable.specs.Readable.{IsReadable};
 ghost use Rattle.rtl_check.specs.Words.{fault_number, fault_words};
 ghost use Rattle.rtl_write.specs.Text.{text_of};
 ghost use Rattle.synth_run.specs.Builds.{CountsBuilds, RisesUpTo};

@@ -6,7 +6,7 @@ use Rattle.cell_types.specs.declared.pin_name.PinName.TheVariants.{Q, Y}
 use Rattle.cell_types.specs.declared.shape.Shape.{Shape}
 use Rattle.cell_types.specs.declared.word.ArithKind.TheVariants.{Add, Sub, Mul}
 use Rattle.cell_types.specs.declared.word.UnaryKind.TheVariants.{Not, Pos, Neg}
-use Rattle.cell_types.specs.declared.word.WordKind.TheVariants.{Unary, Fold, Bitwise, Logic, Equal, Order, Arith, Division, Shift, Mux, Pmux, Slice, Concat}
+use Rattle.cell_types.specs.declared.word.WordKind.TheVariants.{Unary, Fold, Bitwise, Logic, Equal, Order, Arith, Division, Shift, Mux, Pmux, Slice, Concat, Buf, Bwmux, Bmux, Demux}
 use Rattle.rtl_bits.specs.declared.bit.Bit.{Bit}
 use Rattle.rtl_sig.specs.declared.sig.SigBit.{SigBit}
 use Rattle.rtl_ir.specs.Build.{Building}
@@ -105,6 +105,10 @@ mapped (Word Mux) e c b whole = by_gates (Word Mux) c b whole refl
 mapped (Word Pmux) e c b whole = by_gates (Word Pmux) c b whole refl
 mapped (Word Slice) e c b whole = by_gates (Word Slice) c b whole refl
 mapped (Word Concat) e c b whole = by_gates (Word Concat) c b whole refl
+mapped (Word Buf) e c b whole = by_gates (Word Buf) c b whole refl
+mapped (Word Bwmux) e c b whole = by_gates (Word Bwmux) c b whole refl
+mapped (Word Bmux) e c b whole = by_gates (Word Bmux) c b whole refl
+mapped (Word Demux) e c b whole = by_gates (Word Demux) c b whole refl
 mapped (Storage kind) e c b whole = by_flops (Storage kind) c b whole refl
 mapped kind e c b whole = absurd (cc)
 

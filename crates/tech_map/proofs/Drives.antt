@@ -1,6 +1,6 @@
 -- Gates and connections drive what their cells drive and the fresh wires, in another order. This serves the check, which
 -- counts bits, and the flat netlist, which has places.
-use Rattle.std.proofs.Common.{◌≡◌, ℕ, ◌+◌, true, false, List, [], ◌∷◌, ◌++◌, length, Option, Some, None, inl, inr, refl, sym, ◌∙◌, ap, append_assoc, arith}
+use Rattle.std.proofs.Common.{◌≡◌, ℕ, true, false, List, [], ◌∷◌, ◌++◌, length, Option, Some, None, inl, inr, refl, sym, ◌∙◌, ap}
 use Rattle.std.specs.Prelude.{flat_map, map, IsPermutation}
 use Rattle.std.proofs.lemmas.Grind.{flat_map-append}
 use Rattle.std.proofs.lemmas.List.{append-nil}
@@ -11,7 +11,6 @@ use Rattle.rtl_sig.specs.declared.sig.WireBit.{WireBit}
 use Rattle.rtl_ir.specs.Build.{Building}
 use Rattle.rtl_ir.specs.Faults.Cells.{is_memory_kind}
 use Rattle.rtl_ir.specs.Flat.Cell.{cell_kind}
-use Rattle.rtl_ir.specs.Signals.{bits_of_wire}
 use Rattle.rtl_ir.specs.declared.cell.Cell.{Cell}
 use Rattle.rtl_ir.specs.declared.module.Link.{Link}
 use Rattle.rtl_ir.specs.declared.wire.Wire.{Wire}
@@ -19,18 +18,11 @@ use Rattle.net_model.proofs.Members.{map-append}
 use Rattle.net_model.specs.Gates.{is_gate}
 use Rattle.net_model.specs.Within.{Each}
 use Rattle.map_laws.specs.Expansion.{Expands, IsWhole, IsWholeCell, IsWholeGate, IsWholeLink, bits_from, cell_bits, driven_by, link_bits, links_added, wires_added}
+use Rattle.map_laws.proofs.Expanding.{bits_further}
 use Rattle.map_laws.proofs.Reordering.{joined, to_permutation}
 use Rattle.tech_map.specs.Techmap.{stand_in, stand_ins, taken_kind, with_gates}
 use Rattle.tech_map.proofs.Growing.{AreWhole, all_added, next_wires, one_added, whole_next}
 use Rattle.tech_map.proofs.ByKind.{mapped, no_memory, taken_is}
-
--- the bits of wires and of those behind them
-pub bits_further : (first : ℕ) (ws vs : List Wire) → bits_from first (ws ++ vs) ≡ bits_from first ws ++ bits_from (first + length ws) vs
-bits_further first [] vs = ap (λ n. bits_from n vs) (omega arith)
-bits_further first (w ∷ ws) vs =
-    let place : (first + 1) + length ws ≡ first + length (w ∷ ws) = omega arith in
-    ap (λ z. bits_of_wire first w.width ++ z) (bits_further (first + 1) ws vs ∙ ap (λ n. bits_from (first + 1) ws ++ bits_from n vs) place)
-    ∙ sym (append_assoc (bits_of_wire first w.width) (bits_from (first + 1) ws) (bits_from (first + length (w ∷ ws)) vs))
 
 pub gate_plain : (kind : CellKind) → is_gate (Some kind) ≡ true → is_memory_kind kind ≡ false
 gate_plain (Word kind) e = refl

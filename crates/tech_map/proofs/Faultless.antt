@@ -1,5 +1,5 @@
 -- A module without faults stays one with gates in the places of cells, whatever part of designs is taken.
-use Rattle.std.proofs.Common.{◌≡◌, ◌≤◌, Bool, true, false, List, [], ◌∷◌, ◌++◌, Option, Some, None, inl, inr, ⊎_elim, refl, sym, ◌∙◌, ap, subst}
+use Rattle.std.proofs.Common.{◌≡◌, ◌≤◌, Bool, true, false, List, [], ◌∷◌, ◌++◌, Option, Some, None, inl, inr, refl, sym, ◌∙◌, ap, subst}
 use Rattle.std.specs.Prelude.{flat_map, not, ◌&&◌}
 use Rattle.std.specs.Option.{option_and_then, option_map_or}
 use Rattle.cell_types.specs.declared.kind.CellKind.TheVariants as Cells
@@ -12,19 +12,18 @@ use Rattle.rtl_ir.specs.Faults.Cells.{cell_faults, faults_by_type, is_memory_kin
 use Rattle.rtl_ir.specs.Faults.MemoryCells.{is_bad_in, is_bad_memory_cell, store_named}
 use Rattle.rtl_ir.specs.Faults.Processes.{process_faults}
 use Rattle.rtl_ir.specs.Faults.Stores.{is_bad_store, store_faults}
-use Rattle.rtl_ir.specs.Flat.Cell.{cell_kind}
 use Rattle.rtl_ir.specs.Parameters.{memory_name}
 use Rattle.rtl_ir.specs.Scope.{Scope, without_processes}
 use Rattle.rtl_ir.specs.Types.{CellType, Instance, Library, Ports, Unknown, Unsupported, cell_type}
 use Rattle.rtl_ir.specs.declared.cell.Cell.{Cell}
 use Rattle.rtl_ir.specs.declared.module.Module.{Module}
 use Rattle.rtl_ir.specs.declared.store.Store.{Store}
-use Rattle.net_model.proofs.Members.{In-cases, In-left, In-right}
+use Rattle.net_model.proofs.Members.{In-left, In-right}
 use Rattle.net_model.proofs.Ranges.{each_both, each_more}
 use Rattle.net_model.specs.Within.{Each}
 use Rattle.pass_laws.proofs.Accesses.{accesses_outside, cells_sound, none_there}
 use Rattle.pass_laws.proofs.Alone.{IsSound, is_false, others_by, outside_type, sound_by}
-use Rattle.pass_laws.proofs.Faultless.{HasNoFaults, library_faults, no_faults, none_left, none_right, plain}
+use Rattle.pass_laws.proofs.Faultless.{HasNoFaults, library_faults, no_faults, none_left, none_right}
 use Rattle.pass_laws.proofs.Forming.{all_none}
 use Rattle.pass_laws.specs.Ready.{IsReady}
 use Rattle.pass_laws.specs.Replaces.{IsOutside}

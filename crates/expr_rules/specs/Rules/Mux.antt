@@ -1,15 +1,16 @@
 -- Rules for multiplexers.
-use Rattle.std.specs.Prelude.{◌&&◌, List, [], ◌∷◌, Option, Some, None}
+use Rattle.std.specs.Prelude.{ℕ, ◌&&◌, if◌then◌else◌, List, [], ◌∷◌, map, slice_index_or, Option, Some, None}
 use Rattle.std.specs.Option.{option_map}
-use Rattle.std.specs.List.{list_all}
-use Rattle.rtl_bits.specs.declared.bit.Bit.TheVariants.{S0, S1}
+use Rattle.std.specs.List.{list_all, range_with_len}
+use Rattle.rtl_bits.specs.declared.bit.Bit.TheVariants.{S0, S1, X}
 use Rattle.rtl_sig.specs.declared.sig.SigBit.{SigBit}
 use Rattle.rtl_sig.specs.declared.sig.SigBit.TheVariants.{Fixed}
 use Rattle.cell_types.specs.declared.kind.CellKind.{CellKind}
+use Rattle.cell_types.specs.declared.shape.Shape.{Shape}
 use Rattle.cell_types.specs.declared.word.WordKind.{WordKind}
 use Rattle.cell_types.specs.declared.word.WordKind.TheVariants as Word
 use Rattle.expr_rules.specs.Change.{chooser, first_some, inverter, when}
-use Rattle.expr_rules.specs.Signals.{first_bit, is_bit, is_unknown_constant, same_word}
+use Rattle.expr_rules.specs.Signals.{first_bit, is_bit, is_known_constant, is_one, is_unknown_constant, same_word}
 use Rattle.expr_rules.specs.declared.change.Change.{Change}
 use Rattle.expr_rules.specs.declared.change.Change.TheVariants.{Gives}
 use Rattle.expr_rules.specs.declared.operands.Operands.{Operands}
@@ -50,3 +51,19 @@ select_inverse kind own o = None
 abbrev pub inverted_select : WordKind → CellKind → Operands → Option Change
 inverted_select Word.Mux own o = option_map (λ s. chooser own o.b o.a (s ∷ [])) o.inverted
 inverted_select kind own o = None
+
+-- the bit of the arm that a bit of S chooses
+abbrev pub arm_bit : Operands → ℕ → SigBit
+arm_bit o at =
+    if is_one (slice_index_or o.s at (Fixed X)) then slice_index_or o.b at (Fixed X) else slice_index_or o.a at (Fixed X)
+
+-- `$bwmux`, all bits of S known: gives per bit the arm's bit
+abbrev pub known_selects : WordKind → Shape → Operands → Option Change
+known_selects Word.Bwmux shape o =
+    when (list_all is_known_constant o.s) (Gives (map (arm_bit o) (range_with_len 0 shape.widths.y)))
+known_selects kind shape o = None
+
+-- `$bwmux`, A equals B: gives A
+abbrev pub equal_words : WordKind → Operands → Option Change
+equal_words Word.Bwmux o = when (same_word o.a o.b) (Gives o.a)
+equal_words kind o = None

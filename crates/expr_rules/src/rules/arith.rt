@@ -103,9 +103,9 @@ pub(crate) fn mul_by_bit(
 fn moved_up(alloc: Global, places: usize, word: &SigSpec) -> Result<Change, Memory>
     ensures value { IfOk result (λ change. change ≡ Gives (moved_up places word.now)) }
 {
-    let mut bits = filled(alloc, places, Bit::S0)?.into_vec();
+    let mut bits = filled(alloc, places, Bit::S0)?.into_vec()?;
     bits.extend_from_slice(word.as_slice())?;
-    Ok(Change::Gives(SigSpec::from_vec(bits)))
+    Ok(Change::Gives(SigSpec::from_vec(bits)?))
 }
 
 /// `$mul` by a power of two: gives the other moved up.

@@ -1,12 +1,13 @@
 //! Rules for multiplexers.
 
-ghost use Rattle.std.specs.Prelude.{◌≡◌, IfOk};
-ghost use Rattle.expr_rules.specs.Rules.Mux.{arm_of, equal_arms, inverted_select, known_select, select_inverse, select_itself, unknown_arm};
+ghost use Rattle.std.specs.Prelude.{◌≡◌, IfOk, map};
+ghost use Rattle.std.specs.List.{range_with_len};
+ghost use Rattle.expr_rules.specs.Rules.Mux.{arm_bit, arm_of, equal_arms, equal_words, inverted_select, known_select, known_selects, select_inverse, select_itself, unknown_arm};
 
 use crate::change::{Change, chooser, inverter};
 use crate::operands::Operands;
-use crate::signals::{are_unknown, first_bit, is_bit, same_word};
-use cell_types::{CellKind, WordKind};
+use crate::signals::{are_known, are_unknown, bit_at, first_bit, is_bit, is_one, same_word};
+use cell_types::{CellKind, Shape, WordKind};
 use rtl_bits::{Bit, Copied, Memory};
 use rtl_sig::{SigBit, SigSpec};
 use std::alloc::Global;
@@ -97,6 +98,58 @@ pub(crate) fn inverted_select(
         (WordKind::Mux, Some(s)) => {
             let s = SigSpec::from_slice(alloc, &[s])?;
             Ok(Some(chooser(own, o.b.copy()?, o.a.copy()?, s)))
+        }
+        _ => Ok(None),
+    }
+}
+
+/// The bit of the arm that a bit of S chooses.
+fn arm_bit(o: &Operands, at: usize) -> SigBit
+    ensures value { result ≡ arm_bit o.now at }
+{
+    if is_one(bit_at(o.s.as_slice(), at)) {
+        bit_at(o.b.as_slice(), at)
+    } else {
+        bit_at(o.a.as_slice(), at)
+    }
+}
+
+/// The bits of the arms that the bits of S choose.
+#[tactic(auto, using(crate::proofs::Distances::signals_more))]
+fn arm_bits(alloc: Global, o: &Operands, width: u32) -> Result<SigSpec, Memory>
+    ensures value { IfOk result (λ bits. bits ≡ map (arm_bit o.now) (range_with_len 0 width)) }
+{
+    let mut bits = SigSpec::make(alloc);
+    for at in 0..width {
+        bits.push(arm_bit(o, at as usize))?;
+    }
+    Ok(bits)
+}
+
+/// `$bwmux`, all bits of S known: gives per bit the arm's bit.
+pub(crate) fn known_selects(
+    alloc: Global,
+    kind: WordKind,
+    shape: &Shape,
+    o: &Operands,
+) -> Result<Option<Change>, Memory>
+    ensures value { IfOk result (λ change. change ≡ known_selects kind shape.now o.now) }
+{
+    match kind {
+        WordKind::Bwmux if are_known(o.s.as_slice()) => {
+            Ok(Some(Change::Gives(arm_bits(alloc, o, shape.widths.y)?)))
+        }
+        _ => Ok(None),
+    }
+}
+
+/// `$bwmux`, A equals B: gives A.
+pub(crate) fn equal_words(kind: WordKind, o: &Operands) -> Result<Option<Change>, Memory>
+    ensures value { IfOk result (λ change. change ≡ equal_words kind o.now) }
+{
+    match kind {
+        WordKind::Bwmux if same_word(o.a.as_slice(), o.b.as_slice()) => {
+            Ok(Some(Change::Gives(o.a.copy()?)))
         }
         _ => Ok(None),
     }

@@ -10,12 +10,13 @@ use cell_types::{Shape, UnaryKind, WordKind};
 use rtl_bits::{Copied, Memory};
 use std::alloc::Global;
 
-/// `$pos`, `$_BUF_`: gives the extended A.
+/// `$pos`, `$buf`, `$_BUF_`: gives the extended A; of `$buf` that is A itself.
 pub(crate) fn buffer(kind: WordKind, o: &Operands) -> Result<Option<Change>, Memory>
     ensures value { IfOk result (λ change. change ≡ buffer kind o.now) }
 {
     match kind {
         WordKind::Unary(UnaryKind::Pos) => Ok(Some(Change::Gives(o.left.copy()?))),
+        WordKind::Buf => Ok(Some(Change::Gives(o.a.copy()?))),
         _ => Ok(None),
     }
 }
@@ -31,7 +32,7 @@ pub(crate) fn wiring(
 {
     match kind {
         WordKind::Slice => {
-            let part = part(alloc, o.a.as_slice(), shape.offset, shape.widths.y)?;
+            let part = part(alloc, o.a.as_slice(), shape.offset as usize, shape.widths.y)?;
             Ok(Some(Change::Gives(part)))
         }
         WordKind::Concat => Ok(Some(Change::Gives(joined(&o.a, &o.b)?))),

@@ -4,12 +4,11 @@ use Rattle.std.specs.Prelude.{filter, not}
 use Rattle.std.specs.Option.{is_some}
 use Rattle.rtl_ir.specs.Follow.{source_at}
 use Rattle.rtl_ir.specs.declared.follow.Join.{Join}
-use Rattle.flat_net.specs.Lines.{join_of}
 use Rattle.flat_net.specs.Rules.{AreSources}
 use Rattle.flat_net.proofs.rules.others_of.Given as goal
 
 abbrev pub invariant-loop-line : goal.invariant-loop-line
 invariant-loop-line l =
     (js : List Join) → AreSources l.sources js
-    → map join_of l.others.items ++ filter (λ (j : Join). not (is_some (source_at js j.bit))) (map join_of (drop l.line-index l.lines))
-    ≡ filter (λ (j : Join). not (is_some (source_at js j.bit))) (map join_of l.lines)
+    → l.others.items ++ filter (λ (j : Join). not (is_some (source_at js j.bit))) (drop l.line-index l.lines)
+    ≡ filter (λ (j : Join). not (is_some (source_at js j.bit))) l.lines

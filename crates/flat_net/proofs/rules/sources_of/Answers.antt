@@ -1,5 +1,4 @@
 use Rattle.std.proofs.Common.{◌≡◌, drop, map, arith, subst}
-use Rattle.flat_net.specs.Lines.{join_of}
 use Rattle.flat_net.specs.Rules.{AreSources}
 use Rattle.flat_net.proofs.rules.sources_of.Goals as goal
 
@@ -7,5 +6,5 @@ pub returns : goal.returns
 returns c = record {
   value =
       let first : c.loop-at.at ≡ 0 = omega arith in
-      subst (λ n. AreSources c.loop-at.sources (map join_of (drop n c.args.lines.now))) first c.loop-at.invariant;
+      subst (λ n. AreSources c.loop-at.sources (drop n c.args.lines.now)) first c.loop-at.invariant;
 }

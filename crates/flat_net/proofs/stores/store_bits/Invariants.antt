@@ -7,4 +7,4 @@ use Rattle.flat_net.specs.Starts.{IsStart}
 use Rattle.flat_net.proofs.stores.store_bits.Given as goal
 
 abbrev pub invariant-loop-at : goal.invariant-loop-at
-invariant-loop-at l = (start : SigBit → Bit) → IsStart l.starts start → PutsStores start l.reads 0 [] l.bits.items (take l.at l.signal) (take l.at l.points)
+invariant-loop-at l = (start : SigBit → Bit) → IsStart l.scope.starts.now start → PutsStores start l.reads 0 [] l.bits.items (take l.at l.signal) (take l.at l.points)

@@ -12,5 +12,5 @@ use Rattle.fsm_find.proofs.readers.cells_read_well.Given as goal
 
 abbrev pub invariant-loop-at : goal.invariant-loop-at
 invariant-loop-at l =
-    (ports : Ports) (m : Module) (places : List ℕ) (bits : List WireBit) → IsView l.view ports m → AreTypes l.types ports → ArePlaces places l.machine.forks.items → AreMarks l.outputs bits → AreMarks l.state (wire_bits l.view.state)
-    → cells_read_well ports m places l.machine.flop l.view.state bits 0 l.cells ≡ cells_read_well ports m places l.machine.flop l.view.state bits l.at (drop l.at l.cells)
+    (ports : Ports) (m : Module) (places : List ℕ) (bits : List WireBit) → IsView l.readers.view.now ports m → AreTypes l.readers.types.now ports → ArePlaces places l.readers.machine.now.forks.items → AreMarks l.outputs bits → AreMarks l.state (wire_bits l.readers.view.now.state)
+    → cells_read_well ports m places l.readers.machine.now.flop l.readers.view.now.state bits 0 l.cells ≡ cells_read_well ports m places l.readers.machine.now.flop l.readers.view.now.state bits l.at (drop l.at l.cells)

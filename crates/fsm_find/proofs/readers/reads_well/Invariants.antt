@@ -12,5 +12,5 @@ use Rattle.fsm_find.proofs.readers.reads_well.Given as goal
 
 abbrev pub invariant-loop-pin : goal.invariant-loop-pin
 invariant-loop-pin l =
-    (ports : Ports) (m : Module) (places : List ℕ) (bits : List WireBit) → IsView l.view ports m → AreTypes l.types ports → ArePlaces places l.machine.forks.items → AreMarks l.table bits
-    → reads_well ports m places l.machine.flop bits l.at l.cell ≡ list_all (pin_reads_well ports m places l.machine.flop bits l.at l.cell) (drop l.pin-index l.cell.pins)
+    (ports : Ports) (m : Module) (places : List ℕ) (bits : List WireBit) → IsView l.readers.view.now ports m → AreTypes l.readers.types.now ports → ArePlaces places l.readers.machine.now.forks.items → AreMarks l.table bits
+    → reads_well ports m places l.readers.machine.now.flop bits l.at l.cell ≡ list_all (pin_reads_well ports m places l.readers.machine.now.flop bits l.at l.cell) (drop l.pin-index l.cell.pins)

@@ -3,4 +3,4 @@ use Rattle.net_index.proofs.builder_items.whole.Goals as goal
 
 pub loop-at-preserved : goal.loop-at-preserved
 loop-at-preserved c =
-    whole_step c.loop-at.bits.items c.push.new.self.items _ c.args.wire c.loop-at.at c.args.width c.in_ok-push.ensures.items c.loop-at-test.true c.loop-at.invariant
+    whole_step c.loop-at.bits c.push.new.self _ c.args.wire c.loop-at.at c.args.width c.in_ok-push.ensures.ok c.loop-at-test.true c.loop-at.invariant

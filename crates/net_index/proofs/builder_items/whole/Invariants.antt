@@ -7,4 +7,4 @@ use Rattle.net_index.proofs.builder_items.whole.Given as goal
 
 abbrev pub invariant-loop-at : goal.invariant-loop-at
 invariant-loop-at l =
-    l.bits.items ++ map OnWire (map (λ at. record { wire = l.wire; at = at }) (range_with_len l.at (l.width - l.at))) ≡ whole l.wire l.width
+    l.bits ++ map OnWire (map (λ at. record { wire = l.wire; at = at }) (range_with_len l.at (l.width - l.at))) ≡ whole l.wire l.width

@@ -9,4 +9,4 @@ use Rattle.opt_clean.proofs.followed.followed_signal.Given as goal
 abbrev pub invariant-loop-bit : goal.invariant-loop-bit
 invariant-loop-bit l =
     (ports : Ports) (m : Module) → IsIndex l.index ports m
-    → l.found.items ++ map (follow m.links) (drop l.bit-index l.signal) ≡ map (follow m.links) l.signal
+    → l.found ++ map (follow m.links) (drop l.bit-index l.signal) ≡ map (follow m.links) l.signal

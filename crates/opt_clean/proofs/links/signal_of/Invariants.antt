@@ -5,4 +5,4 @@ use Rattle.opt_clean.proofs.links.signal_of.Given as goal
 
 abbrev pub invariant-loop-bit : goal.invariant-loop-bit
 invariant-loop-bit l =
-    l.signal.items ++ map OnWire (drop l.bit-index l.bits) ≡ map OnWire l.bits
+    l.signal ++ map OnWire (drop l.bit-index l.bits) ≡ map OnWire l.bits

@@ -7,6 +7,6 @@ use Rattle.opt_expr.proofs.inputs.followed_signal.Given as goal
 
 abbrev pub invariant-loop-bit : goal.invariant-loop-bit
 invariant-loop-bit l = record {
-  bits : (links : List Link) → IsAliases l.fn.aliases links → l.after.items ++ map (follow links) (drop l.bit-index l.signal) ≡ map (follow links) l.signal;
+  bits : (links : List Link) → IsAliases l.fn.aliases links → l.after ++ map (follow links) (drop l.bit-index l.signal) ≡ map (follow links) l.signal;
   keeps : (links : List Link) → IsAliases l.fn.aliases links → IsAliases l.aliases links;
 }

@@ -9,9 +9,9 @@ use Rattle.proc_reset.proofs.process.by_leaves.Goals as goal
 pub returns : goal.returns
 returns c = record {
   value = λ ports active is bits active_is leaves.
-      let p = c.args.process.now in
-      let m = c.args.outer.now.«module».now in
-      let others = c.args.others.now.before.now ++ c.args.others.now.after.now in
+      let p = c.args.setting.now.process.now in
+      let m = c.args.setting.now.outer.now.«module».now in
+      let others = c.args.setting.now.others.now.before.now ++ c.args.setting.now.others.now.after.now in
       let reset = edge_as c.args.reset in
       let lines = c.args.lines.now in
       let rule = reset_rule (leaves_at active c.args.bits.now) reset lines in

@@ -8,17 +8,17 @@ use Rattle.proc_reset.proofs.process.reset_by.Goals as goal
 pub returns-in-Some : goal.returns-in-Some
 returns-in-Some c = record {
   value = λ ports is.
-      let m = c.args.outer.now.«module».now in
-      let others = c.args.others.now.before.now ++ c.args.others.now.after.now in
+      let m = c.args.setting.now.outer.now.«module».now in
+      let others = c.args.setting.now.others.now.before.now ++ c.args.setting.now.others.now.after.now in
       let edge = sym (ap (option_map edge_as) c.in-Some.is) ∙ c.edge_bit.ensures.value in
-      answer_is c.by_second.result _ _ (λ i. reset_by ports m others c.args.process.now c.args.first.now.updates (edge i) (edge_bit c.args.second.now.event)) (c.by_second.ensures.value ports is);
+      answer_is c.by_second.result _ _ (λ i. reset_by ports m others c.args.setting.now.process.now c.args.first.now.updates (edge i) (edge_bit c.args.second.now.event)) (c.by_second.ensures.value ports is);
 }
 
 pub returns-in-None : goal.returns-in-None
 returns-in-None c = record {
   value = λ ports is.
-      let m = c.args.outer.now.«module».now in
-      let others = c.args.others.now.before.now ++ c.args.others.now.after.now in
+      let m = c.args.setting.now.outer.now.«module».now in
+      let others = c.args.setting.now.others.now.before.now ++ c.args.setting.now.others.now.after.now in
       let edge = sym (ap (option_map edge_as) c.in-None.is) ∙ c.edge_bit.ensures.value in
-      answer_is c.copy.result _ _ (λ i. reset_by ports m others c.args.process.now c.args.first.now.updates (edge i) (edge_bit c.args.second.now.event)) c.copy.ensures.value;
+      answer_is c.copy.result _ _ (λ i. reset_by ports m others c.args.setting.now.process.now c.args.first.now.updates (edge i) (edge_bit c.args.second.now.event)) c.copy.ensures.value;
 }

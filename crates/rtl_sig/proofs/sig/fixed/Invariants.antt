@@ -4,4 +4,4 @@ use Rattle.rtl_sig.specs.declared.sig.SigBit.TheVariants.{Fixed}
 use Rattle.rtl_sig.proofs.sig.fixed.Given as goal
 
 abbrev pub invariant-loop-bit : goal.invariant-loop-bit
-invariant-loop-bit l = l.sig.items ++ map Fixed (drop l.bit-index l.bits) ≡ map Fixed l.bits
+invariant-loop-bit l = l.sig ++ map Fixed (drop l.bit-index l.bits) ≡ map Fixed l.bits

@@ -15,6 +15,6 @@ use Rattle.flat_net.proofs.builder.Builder.add_cells.Given as goal
 abbrev pub invariant-loop-cell : goal.invariant-loop-cell
 invariant-loop-cell l = record {
   grows : Extends l.fn.self.places l.self.places;
-  rows : (p : Path) → slice_get l.fn.self.places.paths l.path ≡ Some p → (d : Design) → IsTable l.table d.modules → (start : SigBit → Bit) → IsStart l.starts start
-      → Leads l.fn.self l.self (cells_rows start (design_ports d) p l.wires l.cells) (cells_rows start (design_ports d) p l.wires (drop l.cell-index l.cells));
+  rows : (p : Path) → slice_get l.fn.self.places.paths l.scope.path ≡ Some p → (d : Design) → IsTable l.table d.modules → (start : SigBit → Bit) → IsStart l.scope.starts.now start
+      → Leads l.fn.self l.self (cells_rows start (design_ports d) p l.scope.wires.now l.cells) (cells_rows start (design_ports d) p l.scope.wires.now (drop l.cell-index l.cells));
 }

@@ -1,5 +1,4 @@
 use Rattle.std.proofs.Common.{map}
-use Rattle.flat_net.specs.Lines.{join_of}
 use Rattle.flat_net.specs.Registers.{trigger_of}
 use Rattle.flat_net.proofs.Kept.{within-Keeps}
 use Rattle.flat_net.proofs.Moduling.{Adds-behind}
@@ -12,9 +11,9 @@ add_registers-requires c = record { in_range = within-Keeps _ _ _ c.in_ok-clock.
 pub returns-clause-rows : goal.returns-clause-rows
 returns-clause-rows c = λ p path start is.
     let e = c.in_ok-clock.ensures.grows in
-    let wires = c.args.wires.now in
+    let wires = c.args.scope.now.wires.now in
     let t = trigger_of c.args.edge in
-    let js = map join_of c.args.lines.now in
+    let js = c.args.lines.now in
     let control = c.in_ok-clock.ensures.value p path in
     let made = c.edge_register-register.ensures.value in
     Adds-behind c.args.self.now c.add_registers.new.self c.control.new.self _ _ e (edge_rows p wires start c.control.new.self.places _ c.in_ok-clock.clock t made control js) c.add_registers.result

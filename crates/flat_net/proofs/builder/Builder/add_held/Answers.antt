@@ -11,7 +11,7 @@ held_bits-requires c = record { in_range = within-Keeps _ _ _ c.in_ok-tree.ensur
 
 pub returns-clause-rows : goal.returns-clause-rows
 returns-clause-rows c = λ p path start is may.
-    let wires = c.args.wires.now in
+    let wires = c.args.scope.now.wires.now in
     let bits = c.args.rooted.now.bits in
     let root = c.args.rooted.now.root in
     let e = Extends-then _ _ _ c.in_ok-tree.ensures.grows c.in_ok-bits.ensures.grows in

@@ -20,5 +20,5 @@ returns-clause-rows c = λ p path d table.
     let id = c.as_slice-id.ensures.value in
     let ports = ap (λ ws. map line_of (all_now ws)) c.as_slice-ports.ensures.value ∙ found_ports c.in-Some.entry.now d.modules c.as_slice-id.result.now (c.in-Some.ensures.value d.modules table) ∙ ap (λ i. ports_or_none (named d.modules i)) id in
     Adds-behind c.args.self.now c.add_ports.new.self c.enter.new.self _ _ c.in_ok-inner.ensures.grows
-    (λ i. instance_rows p c.args.wires.now (c.as_slice-2.ensures.value i) (frame (c.as_slice.ensures.value i) (id i)) (ports i)) c.add_ports.result
+    (λ i. instance_rows p c.args.scope.now.wires.now (c.as_slice-2.ensures.value i) (frame (c.as_slice.ensures.value i) (id i)) (ports i)) c.add_ports.result
     (c.add_ports.ensures.rows p (c.in_ok-inner.ensures.grows.paths _ _ path) (frame c.as_slice.result.now c.as_slice-id.result.now) (c.in_ok-inner.ensures.value p path))

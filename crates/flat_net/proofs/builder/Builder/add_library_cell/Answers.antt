@@ -12,11 +12,11 @@ add_store-requires-in-StorageGate c = record { in_range = within-Keeps _ _ _ c.i
 pub returns-in_ok-reads-in-Storage-clause-rows : goal.returns-in_ok-reads-in-Storage-clause-rows
 returns-in_ok-reads-in-Storage-clause-rows c = λ p path start is.
     Adds-behind c.args.self.now c.add_store.new.self c.word_reads.new.self _ _ c.in_ok-reads-in-Storage.ensures.grows
-    (word_rows start p c.args.wires.now c.args.cell.now c.as_slice-pins.result.now c.args.kind c.as_slice-pins.ensures.value c.in-Storage.field-0 c.in-Storage.is) c.add_store.result
-    (c.add_store.ensures.rows p (c.in_ok-reads-in-Storage.ensures.grows.paths _ _ path) start is (word_store p c.args.wires.now c.as_slice-pins.result.now) (c.in_ok-reads-in-Storage.ensures.value p path))
+    (word_rows start p c.args.scope.now.wires.now c.args.cell.now c.as_slice-pins.result.now c.args.kind c.as_slice-pins.ensures.value c.in-Storage.field-0 c.in-Storage.is) c.add_store.result
+    (c.add_store.ensures.rows p (c.in_ok-reads-in-Storage.ensures.grows.paths _ _ path) start is (word_store p c.args.scope.now.wires.now c.as_slice-pins.result.now) (c.in_ok-reads-in-Storage.ensures.value p path))
 
 pub returns-in_ok-reads-in-StorageGate-clause-rows : goal.returns-in_ok-reads-in-StorageGate-clause-rows
 returns-in_ok-reads-in-StorageGate-clause-rows c = λ p path start is.
     Adds-behind c.args.self.now c.add_store-in-StorageGate.new.self c.gate_reads.new.self _ _ c.in_ok-reads-in-StorageGate.ensures.grows
-    (gate_rows start p c.args.wires.now c.args.cell.now c.as_slice-pins.result.now c.args.kind c.as_slice-pins.ensures.value c.in-StorageGate.field-0 c.in-StorageGate.is) c.add_store-in-StorageGate.result
-    (c.add_store-in-StorageGate.ensures.rows p (c.in_ok-reads-in-StorageGate.ensures.grows.paths _ _ path) start is (gate_store p c.args.wires.now c.as_slice-pins.result.now) (c.in_ok-reads-in-StorageGate.ensures.value p path))
+    (gate_rows start p c.args.scope.now.wires.now c.args.cell.now c.as_slice-pins.result.now c.args.kind c.as_slice-pins.ensures.value c.in-StorageGate.field-0 c.in-StorageGate.is) c.add_store-in-StorageGate.result
+    (c.add_store-in-StorageGate.ensures.rows p (c.in_ok-reads-in-StorageGate.ensures.grows.paths _ _ path) start is (gate_store p c.args.scope.now.wires.now c.as_slice-pins.result.now) (c.in_ok-reads-in-StorageGate.ensures.value p path))

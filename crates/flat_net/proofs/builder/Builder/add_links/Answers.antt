@@ -14,12 +14,12 @@ pub loop-link-preserved : goal.loop-link-preserved
 loop-link-preserved c = record {
   grows = Extends-then _ _ _ c.loop-link.invariant.grows c.in_ok-add_link.ensures.grows;
   rows = λ p path.
-      let here = λ (l : Link). joins (points p c.args.wires.now l.left) (points p c.args.wires.now l.right) in
-      Leads-item (link_rows p c.args.wires.now) here (λ l ls. refl) refl c.args.links.now _ _ _ _ _ c.link-item.result c.loop-link-test.true c.link-item.is
+      let here = λ (l : Link). joins (points p c.args.scope.now.wires.now l.left) (points p c.args.scope.now.wires.now l.right) in
+      Leads-item (link_rows p c.args.scope.now.wires.now) here (λ l ls. refl) refl c.args.links.now _ _ _ _ _ c.link-item.result c.loop-link-test.true c.link-item.is
       (c.loop-link.invariant.rows p path) (c.in_ok-add_link.ensures.rows p (c.loop-link.invariant.grows.paths _ _ path));
 }
 
 pub returns-clause-rows : goal.returns-clause-rows
 returns-clause-rows c = λ p path.
-    let here = λ (l : Link). joins (points p c.args.wires.now l.left) (points p c.args.wires.now l.right) in
-    Leads-last (link_rows p c.args.wires.now) here (λ l ls. refl) refl c.args.links.now _ _ _ c.loop-link.link-index c.loop-link-test.false (c.loop-link.invariant.rows p path)
+    let here = λ (l : Link). joins (points p c.args.scope.now.wires.now l.left) (points p c.args.scope.now.wires.now l.right) in
+    Leads-last (link_rows p c.args.scope.now.wires.now) here (λ l ls. refl) refl c.args.links.now _ _ _ c.loop-link.link-index c.loop-link-test.false (c.loop-link.invariant.rows p path)

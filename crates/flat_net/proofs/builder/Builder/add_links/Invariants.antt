@@ -9,5 +9,5 @@ use Rattle.flat_net.proofs.builder.Builder.add_links.Given as goal
 abbrev pub invariant-loop-link : goal.invariant-loop-link
 invariant-loop-link l = record {
   grows : Extends l.fn.self.places l.self.places;
-  rows : (p : Path) → slice_get l.fn.self.places.paths l.path ≡ Some p → Leads l.fn.self l.self (link_rows p l.wires l.links) (link_rows p l.wires (drop l.link-index l.links));
+  rows : (p : Path) → slice_get l.fn.self.places.paths l.scope.path ≡ Some p → Leads l.fn.self l.self (link_rows p l.scope.wires.now l.links) (link_rows p l.scope.wires.now (drop l.link-index l.links));
 }

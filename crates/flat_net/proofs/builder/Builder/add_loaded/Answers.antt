@@ -3,7 +3,6 @@ use Rattle.rtl_ir.specs.Flat.Process.{level_row, loaded_row}
 use Rattle.rtl_ir.specs.Follow.{source_at}
 use Rattle.rtl_ir.specs.declared.follow.Join.{Join}
 use Rattle.flat_net.specs.Adds.{Adds}
-use Rattle.flat_net.specs.Lines.{join_of}
 use Rattle.flat_net.specs.Registers.{trigger_of}
 use Rattle.flat_net.proofs.Adding.{Adds-numbers, Adds-then}
 use Rattle.flat_net.proofs.Kept.{within-Keeps}
@@ -30,20 +29,20 @@ returns-clause-grows c =
 
 pub returns-clause-rows : goal.returns-clause-rows
 returns-clause-rows c = λ p path start is.
-    let wires = c.args.wires.now in
+    let wires = c.args.scope.now.wires.now in
     let e = trigger_of c.args.edge in
     let l = trigger_of c.args.level in
     let first = c.in_ok-clock.ensures.grows in
     let second = c.in_ok-load.ensures.grows in
     let both = Extends-then _ _ _ first second in
     let third = c.in_ok-add_loads.ensures.grows in
-    let edges = map join_of c.args.edges.now in
-    let levels = map join_of c.args.levels.now in
+    let edges = c.args.edges.now in
+    let levels = c.args.levels.now in
     let clock = IsControl-kept _ _ second.places p wires c.in_ok-clock.clock e (c.in_ok-clock.ensures.value p path) in
     let load = c.in_ok-load.ensures.value p (first.paths _ _ path) in
     let row = λ (j : Join). loaded_row start p wires e l (source_at levels j.bit) j in
     let loads = c.in_ok-add_loads.ensures.rows p (both.paths _ _ path) start is e l clock load levels c.in_ok-loads.ensures.value in
     let begun = Adds-then c.args.self.now (record { places = c.control-2.new.self; parts = c.args.self.now.parts }) c.add_loads.new.self _ (map row edges) (Adds-numbers c.args.self.now _ both refl) loads in
-    let others = ap (map join_of) c.as_slice.ensures.value ∙ c.in_ok-others.ensures.value edges c.in_ok-sources_of.ensures.value in
+    let others = c.as_slice.ensures.value ∙ c.in_ok-others.ensures.value edges c.in_ok-sources_of.ensures.value in
     if_ok c.add_level.result (c.add_level.ensures.rows p ((Extends-then _ _ _ both third).paths _ _ path) start is)
     (λ _ added. Adds-then c.args.self.now c.add_loads.new.self c.add_level.new.self (map row edges) _ begun (subst (λ js. Adds c.add_loads.new.self c.add_level.new.self (map (level_row start p wires l) js)) others added))

@@ -4,9 +4,7 @@ use Rattle.rtl_sig.specs.declared.sig.SigBit.TheVariants.{Fixed}
 use Rattle.rtl_ir.specs.Flat.Process.{loaded_row}
 use Rattle.rtl_ir.specs.Follow.{source_at}
 use Rattle.rtl_ir.specs.declared.follow.Join.{Join}
-use Rattle.flat_net.specs.declared.lines.Line.{Line}
 use Rattle.flat_net.specs.Adds.{Adds}
-use Rattle.flat_net.specs.Lines.{join_of}
 use Rattle.flat_net.proofs.Adding.{Leads-last, Leads-none, Leads-read}
 use Rattle.flat_net.proofs.Kept.{within-Keeps}
 use Rattle.flat_net.proofs.Reading.{Extends-refl, Extends-then}
@@ -24,17 +22,17 @@ loop-line-preserved c = record {
   grows = Extends-then _ _ _ c.loop-line.invariant.grows c.in_ok-add_load.ensures.grows;
   rows = λ p path start is e t clock load levels are.
       let g = c.loop-line.invariant.grows in
-      let wires = c.args.wires.now in
+      let wires = c.args.scope.now.wires.now in
       let row = λ (j : Join). loaded_row start p wires e t (source_at levels j.bit) j in
       let added = c.in_ok-add_load.ensures.rows p (g.paths _ _ path) start is e t (IsControl-kept _ _ g.places p wires c.args.clock e clock) (IsControl-kept _ _ g.places p wires c.args.load t load) in
-      let none : Line = record { bit = record { wire = 0; at = 0 }; source = Fixed S0 } in
-      let read = subst (λ o. Adds c.loop-line.self c.add_load.new.self (loaded_row start p wires e t o (join_of (get_or c.args.lines.now c.loop-line.line-index none)) ∷ [])) (c.source_of-from.ensures.value levels are) added in
-      Leads-read (λ (ls : List Line). map row (map join_of ls)) (λ l. row (join_of l) ∷ []) (λ l ls. refl) refl c.args.lines.now c.args.self.now _ c.loop-line.self c.add_load.new.self c.loop-line.line-index none
+      let none : Join = record { bit = record { wire = 0; at = 0 }; source = Fixed S0 } in
+      let read = subst (λ o. Adds c.loop-line.self c.add_load.new.self (loaded_row start p wires e t o (get_or c.args.lines.now c.loop-line.line-index none) ∷ [])) (c.source_of-from.ensures.value levels are) added in
+      Leads-read (λ (ls : List Join). map row ls) (λ l. row l ∷ []) (λ l ls. refl) refl c.args.lines.now c.args.self.now _ c.loop-line.self c.add_load.new.self c.loop-line.line-index none
       c.loop-line-test.true (c.loop-line.invariant.rows p path start is e t clock load levels are) read;
 }
 
 pub returns-clause-rows : goal.returns-clause-rows
 returns-clause-rows c = λ p path start is e t clock load levels are.
-    let row = λ (j : Join). loaded_row start p c.args.wires.now e t (source_at levels j.bit) j in
-    Leads-last (λ (ls : List Line). map row (map join_of ls)) (λ l. row (join_of l) ∷ []) (λ l ls. refl) refl c.args.lines.now c.args.self.now _ _ c.loop-line.line-index c.loop-line-test.false
+    let row = λ (j : Join). loaded_row start p c.args.scope.now.wires.now e t (source_at levels j.bit) j in
+    Leads-last (λ (ls : List Join). map row ls) (λ l. row l ∷ []) (λ l ls. refl) refl c.args.lines.now c.args.self.now _ _ c.loop-line.line-index c.loop-line-test.false
     (c.loop-line.invariant.rows p path start is e t clock load levels are)

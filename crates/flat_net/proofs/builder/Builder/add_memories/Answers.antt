@@ -17,10 +17,11 @@ loop-at-preserved c = record {
   grows = Extends-then _ _ _ c.loop-at.invariant.grows c.in_ok-add_memory.ensures.grows;
   rows = λ p path.
       let m = c.args.body.now in
+      let wires = c.args.scope.now.wires.now in
       let at = c.loop-at.at in
       let within : at < length m.memories = omega (arith, ap length c.as_slice-at-end.ensures.value) in
       let found = at_least m.memories at within in
-      Leads-item (memories_rows p m.wires m.cells m.processes) (memory_rows p m.wires m.cells m.processes) (λ s ss. refl) refl m.memories c.args.self.now _ c.loop-at.self c.add_memory.new.self at found.0 within
+      Leads-item (memories_rows p wires m.cells m.processes) (memory_rows p wires m.cells m.processes) (λ s ss. refl) refl m.memories c.args.self.now _ c.loop-at.self c.add_memory.new.self at found.0 within
       (sym (get_or_from_slice_get m.memories at found.0 found.0 found.1)) (c.loop-at.invariant.rows p path)
       (c.in_ok-add_memory.ensures.rows p (c.loop-at.invariant.grows.paths _ _ path) found.0 found.1);
 }
@@ -28,5 +29,6 @@ loop-at-preserved c = record {
 pub returns-clause-rows : goal.returns-clause-rows
 returns-clause-rows c = λ p path.
     let m = c.args.body.now in
+    let wires = c.args.scope.now.wires.now in
     let end : length m.memories ≤ c.loop-at.at = omega (arith, ap length c.as_slice-at-end.ensures.value) in
-    Leads-last (memories_rows p m.wires m.cells m.processes) (memory_rows p m.wires m.cells m.processes) (λ s ss. refl) refl m.memories c.args.self.now _ c.loop-at.self c.loop-at.at end (c.loop-at.invariant.rows p path)
+    Leads-last (memories_rows p wires m.cells m.processes) (memory_rows p wires m.cells m.processes) (λ s ss. refl) refl m.memories c.args.self.now _ c.loop-at.self c.loop-at.at end (c.loop-at.invariant.rows p path)

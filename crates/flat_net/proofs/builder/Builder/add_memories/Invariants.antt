@@ -9,6 +9,6 @@ use Rattle.flat_net.proofs.builder.Builder.add_memories.Given as goal
 abbrev pub invariant-loop-at : goal.invariant-loop-at
 invariant-loop-at l = record {
   grows : Extends l.fn.self.places l.self.places;
-  rows : (p : Path) → slice_get l.fn.self.places.paths l.path ≡ Some p
-      → Leads l.fn.self l.self (memories_rows p l.body.wires l.body.cells l.body.processes l.body.memories) (memories_rows p l.body.wires l.body.cells l.body.processes (drop l.at l.body.memories));
+  rows : (p : Path) → slice_get l.fn.self.places.paths l.scope.path ≡ Some p
+      → Leads l.fn.self l.self (memories_rows p l.scope.wires.now l.body.cells l.body.processes l.body.memories) (memories_rows p l.scope.wires.now l.body.cells l.body.processes (drop l.at l.body.memories));
 }

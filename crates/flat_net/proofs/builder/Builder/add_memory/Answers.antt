@@ -21,6 +21,7 @@ add_reads-requires c = record { in_range = within-Keeps _ _ _ c.in_ok-add_words.
 pub returns : goal.returns
 returns c =
     let m = c.args.body.now in
+    let wires = c.args.scope.now.wires.now in
     let at = c.args.at in
     let store = c.index-as_slice-at.result in
     let plan = c.in_ok-plan.plan in
@@ -33,8 +34,8 @@ returns c =
           let exact : plan ≡ gathered m at s = cc in
           let place : at ≡ plan.store = sym (ap (λ (x : MemPlan). x.store) exact) in
           let planned : plan ≡ gathered m plan.store store = exact ∙ (λ i. gathered m (place i) (sym here i)) in
-          let words = subst (λ (z : Store). Adds c.args.self.now c.add_words.new.self (word_rows p m.wires z (accesses_of z.name m.cells m.processes) (init_cells z.name m.cells))) here (c.in_ok-add_words.ensures.rows p path planned) in
-          let reads = c.as_slice-3.ensures.value ∙ ap (λ (x : MemPlan). x.reads) exact in
-          let same = (λ i. read_rows p (c.as_slice-2.ensures.value i) (here i) (reads i)) ∙ reads_same p m.wires s 0 m.cells in
+          let words = subst (λ (z : Store). Adds c.args.self.now c.add_words.new.self (word_rows p wires z (accesses_of z.name m.cells m.processes) (init_cells z.name m.cells))) here (c.in_ok-add_words.ensures.rows p path planned) in
+          let reads = c.as_slice-2.ensures.value ∙ ap (λ (x : MemPlan). x.reads) exact in
+          let same = (λ i. read_rows p wires (here i) (reads i)) ∙ reads_same p wires s 0 m.cells in
           if_ok c.add_reads.result (c.add_reads.ensures.rows p (grows.paths _ _ path)) (λ _ added. Adds-then _ _ _ _ _ words (subst (Adds c.add_words.new.self c.add_reads.new.self) same added));
     }

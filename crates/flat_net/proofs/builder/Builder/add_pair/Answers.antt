@@ -5,7 +5,6 @@ use Rattle.rtl_ir.specs.Faults.TwoEdges.{edge_bit}
 use Rattle.rtl_ir.specs.Follow.{all_joins}
 use Rattle.flat_net.specs.declared.rules.Paired.TheVariants.{First, Second, Edges}
 use Rattle.flat_net.specs.Adds.{Adds}
-use Rattle.flat_net.specs.Lines.{join_of}
 use Rattle.flat_net.specs.Registers.{trigger_of}
 use Rattle.flat_net.proofs.Pairing.{as_paired}
 use Rattle.flat_net.proofs.Results.{if_ok}
@@ -13,12 +12,12 @@ use Rattle.flat_net.proofs.builder.Builder.add_pair.Goals as goal
 
 pub returns-in-First-clause-rows : goal.returns-in-First-clause-rows
 returns-in-First-clause-rows c = λ p path start is knows.
-    let wires = c.args.wires.now in
-    let m = c.args.tests.body.now in
-    let root = c.args.rooted.now.root in
-    let bits = reverse c.args.rooted.now.bits in
-    let of_a = ap (map join_of) c.as_slice-of_a.ensures.value ∙ c.in_ok-of_a.ensures.value ∙ ap all_joins c.as_slice.ensures.value in
-    let of_b = ap (map join_of) c.as_slice-of_b.ensures.value ∙ c.in_ok-of_b.ensures.value ∙ ap all_joins c.as_slice-2.ensures.value in
+    let wires = c.args.scope.now.wires.now in
+    let m = c.args.tree.tests.body.now in
+    let root = c.args.tree.rooted.now.root in
+    let bits = reverse c.args.tree.rooted.now.bits in
+    let of_a = c.as_slice-of_a.ensures.value ∙ c.in_ok-of_a.ensures.value ∙ ap all_joins c.as_slice.ensures.value in
+    let of_b = c.as_slice-of_b.ensures.value ∙ c.in_ok-of_b.ensures.value ∙ ap all_joins c.as_slice-2.ensures.value in
     let whole =
     as_paired start p wires m root bits c.args.a.now c.args.b.now (First c.in-First.edge c.in-First.level) _ _ _ _ (sym c.in-First.is ∙ c.pairing.ensures.value) c.edge_trigger-edge_a.ensures.value c.edge_trigger-edge_b.ensures.value c.level_trigger-level_a.ensures.value
     c.level_trigger-level_b.ensures.value in
@@ -27,12 +26,12 @@ returns-in-First-clause-rows c = λ p path start is knows.
 
 pub returns-in-Second-clause-rows : goal.returns-in-Second-clause-rows
 returns-in-Second-clause-rows c = λ p path start is knows.
-    let wires = c.args.wires.now in
-    let m = c.args.tests.body.now in
-    let root = c.args.rooted.now.root in
-    let bits = reverse c.args.rooted.now.bits in
-    let of_a = ap (map join_of) c.as_slice-of_a.ensures.value ∙ c.in_ok-of_a.ensures.value ∙ ap all_joins c.as_slice.ensures.value in
-    let of_b = ap (map join_of) c.as_slice-of_b.ensures.value ∙ c.in_ok-of_b.ensures.value ∙ ap all_joins c.as_slice-2.ensures.value in
+    let wires = c.args.scope.now.wires.now in
+    let m = c.args.tree.tests.body.now in
+    let root = c.args.tree.rooted.now.root in
+    let bits = reverse c.args.tree.rooted.now.bits in
+    let of_a = c.as_slice-of_a.ensures.value ∙ c.in_ok-of_a.ensures.value ∙ ap all_joins c.as_slice.ensures.value in
+    let of_b = c.as_slice-of_b.ensures.value ∙ c.in_ok-of_b.ensures.value ∙ ap all_joins c.as_slice-2.ensures.value in
     let whole =
     as_paired start p wires m root bits c.args.a.now c.args.b.now (Second c.in-Second.edge c.in-Second.level) _ _ _ _ (sym c.in-Second.is ∙ c.pairing.ensures.value) c.edge_trigger-edge_a.ensures.value c.edge_trigger-edge_b.ensures.value c.level_trigger-level_a.ensures.value
     c.level_trigger-level_b.ensures.value in
@@ -41,12 +40,12 @@ returns-in-Second-clause-rows c = λ p path start is knows.
 
 pub returns-clause-rows : goal.returns-clause-rows
 returns-clause-rows c = λ p path start is knows.
-    let wires = c.args.wires.now in
-    let m = c.args.tests.body.now in
-    let root = c.args.rooted.now.root in
-    let bits = reverse c.args.rooted.now.bits in
-    let of_a = ap (map join_of) c.as_slice-of_a.ensures.value ∙ c.in_ok-of_a.ensures.value ∙ ap all_joins c.as_slice.ensures.value in
-    let of_b = ap (map join_of) c.as_slice-of_b.ensures.value ∙ c.in_ok-of_b.ensures.value ∙ ap all_joins c.as_slice-2.ensures.value in
+    let wires = c.args.scope.now.wires.now in
+    let m = c.args.tree.tests.body.now in
+    let root = c.args.tree.rooted.now.root in
+    let bits = reverse c.args.tree.rooted.now.bits in
+    let of_a = c.as_slice-of_a.ensures.value ∙ c.in_ok-of_a.ensures.value ∙ ap all_joins c.as_slice.ensures.value in
+    let of_b = c.as_slice-of_b.ensures.value ∙ c.in_ok-of_b.ensures.value ∙ ap all_joins c.as_slice-2.ensures.value in
     let whole =
     as_paired start p wires m root bits c.args.a.now c.args.b.now Edges _ _ _ _ (sym c.in-Edges.is ∙ c.pairing.ensures.value) c.edge_trigger-edge_a.ensures.value c.edge_trigger-edge_b.ensures.value c.level_trigger-level_a.ensures.value
     c.level_trigger-level_b.ensures.value in

@@ -13,7 +13,7 @@ wire_points-requires c = record { in_range = within-Keeps _ _ _ c.in_ok-outside.
 pub returns-clause-rows : goal.returns-clause-rows
 returns-clause-rows c = λ p path q there.
     let signal = c.signal_at.ensures.value ∙ ap (signal_at c.args.pins.now) c.as_slice-name.ensures.value in
-    let outside = subst (λ s. ArePoints c.points.new.self.places c.in_ok-outside.outside (points p c.args.wires.now s)) signal (c.in_ok-outside.ensures.value p path) in
+    let outside = subst (λ s. ArePoints c.points.new.self.places c.in_ok-outside.outside (points p c.args.scope.now.wires.now s)) signal (c.in_ok-outside.ensures.value p path) in
     let inside = subst (λ n. ArePoints c.wire_points.new.self.places c.in_ok-inside.inside (wire_points q n 0 c.args.port.now.width)) c.as_slice-name.ensures.value
     (c.in_ok-inside.ensures.value q (c.in_ok-outside.ensures.grows.paths _ _ there)) in
     joined (port_joins c.args.port.now.role) c.args.self.now c.join_port.new.self c.points.new.self c.wire_points.new.self _ _ _ _ _ _ c.in_ok-outside.ensures.grows c.in_ok-inside.ensures.grows outside inside

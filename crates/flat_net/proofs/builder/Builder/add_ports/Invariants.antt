@@ -11,6 +11,6 @@ use Rattle.flat_net.proofs.builder.Builder.add_ports.Given as goal
 abbrev pub invariant-loop-port : goal.invariant-loop-port
 invariant-loop-port l = record {
   grows : Extends l.fn.self.places l.self.places;
-  rows : (p : Path) → slice_get l.fn.self.places.paths l.path ≡ Some p → (f : Frame) → slice_get l.fn.self.places.paths l.inner ≡ Some (f ∷ p)
-      → Leads l.fn.self l.self (instance_rows p l.wires l.pins f (map line_of (all_now l.ports))) (instance_rows p l.wires l.pins f (map line_of (all_now (drop l.port-index l.ports))));
+  rows : (p : Path) → slice_get l.fn.self.places.paths l.scope.path ≡ Some p → (f : Frame) → slice_get l.fn.self.places.paths l.inner ≡ Some (f ∷ p)
+      → Leads l.fn.self l.self (instance_rows p l.scope.wires.now l.pins f (map line_of (all_now l.ports))) (instance_rows p l.scope.wires.now l.pins f (map line_of (all_now (drop l.port-index l.ports))));
 }

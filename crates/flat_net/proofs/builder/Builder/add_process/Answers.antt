@@ -18,10 +18,10 @@ pub returns-clause-rows : goal.returns-clause-rows
 returns-clause-rows c = λ p path start is knows.
     let m = c.args.tests.body.now in
     let e = c.in_ok-add_decisions.ensures.grows in
-    let wires = c.as_slice-wires.ensures.value in
+    let wires = c.args.scope.now.wires.now in
     let root = c.in_ok-rooted.ensures.root in
     let bits = c.in_ok-rooted.ensures.bits in
-    let rules = c.as_slice-rules.ensures.value in
-    let first = subst (Adds c.args.self.now c.add_decisions.new.self) (λ i. tree_bit_rows start p (wires i) (root i) (bits i)) (c.in_ok-add_decisions.ensures.rows p path start) in
+    let rules = c.as_slice.ensures.value in
+    let first = subst (Adds c.args.self.now c.add_decisions.new.self) (λ i. tree_bit_rows start p wires (root i) (bits i)) (c.in_ok-add_decisions.ensures.rows p path start) in
     if_ok c.add_rules.result (c.add_rules.ensures.rows p (e.paths _ _ path) start is knows)
-    (λ _ added. Adds-then _ _ _ _ _ first (subst (Adds c.add_decisions.new.self c.add_rules.new.self) (λ i. rules_rows start p (wires i) m (root i) (bits i) (acting_rules (rules i))) added))
+    (λ _ added. Adds-then _ _ _ _ _ first (subst (Adds c.add_decisions.new.self c.add_rules.new.self) (λ i. rules_rows start p wires m (root i) (bits i) (acting_rules (rules i))) added))

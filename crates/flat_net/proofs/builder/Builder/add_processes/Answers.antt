@@ -14,7 +14,8 @@ loop-process-preserved c = record {
   grows = Extends-then _ _ _ c.loop-process.invariant.grows c.in_ok-add_process.ensures.grows;
   rows = λ p path start is.
       let m = c.args.body.now in
-      Leads-item (processes_rows start p m.wires m) (process_rows start p m.wires m) (λ q qs. refl) refl c.as_slice-processes.result.now c.args.self.now _ c.loop-process.self c.add_process.new.self c.loop-process.process-index
+      let wires = c.args.scope.now.wires.now in
+      Leads-item (processes_rows start p wires m) (process_rows start p wires m) (λ q qs. refl) refl c.as_slice-processes.result.now c.args.self.now _ c.loop-process.self c.add_process.new.self c.loop-process.process-index
       c.process-item.result c.loop-process-test.true c.process-item.is (c.loop-process.invariant.rows p path start is)
       (c.in_ok-add_process.ensures.rows p (c.loop-process.invariant.grows.paths _ _ path) start is c.in_ok-table.ensures.value);
 }
@@ -22,7 +23,8 @@ loop-process-preserved c = record {
 pub returns-clause-rows : goal.returns-clause-rows
 returns-clause-rows c = λ p path start is.
     let m = c.args.body.now in
+    let wires = c.args.scope.now.wires.now in
     let whole =
-    Leads-last (processes_rows start p m.wires m) (process_rows start p m.wires m) (λ q qs. refl) refl c.as_slice-processes.result.now c.args.self.now _ _ c.loop-process.process-index c.loop-process-test.false
+    Leads-last (processes_rows start p wires m) (process_rows start p wires m) (λ q qs. refl) refl c.as_slice-processes.result.now c.args.self.now _ _ c.loop-process.process-index c.loop-process-test.false
     (c.loop-process.invariant.rows p path start is) in
-    subst (λ ps. Adds c.args.self.now c.loop-process.self (processes_rows start p m.wires m ps)) c.as_slice-processes.ensures.value whole
+    subst (λ ps. Adds c.args.self.now c.loop-process.self (processes_rows start p wires m ps)) c.as_slice-processes.ensures.value whole

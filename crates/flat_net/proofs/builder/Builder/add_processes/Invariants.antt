@@ -12,6 +12,6 @@ use Rattle.flat_net.proofs.builder.Builder.add_processes.Given as goal
 abbrev pub invariant-loop-process : goal.invariant-loop-process
 invariant-loop-process l = record {
   grows : Extends l.fn.self.places l.self.places;
-  rows : (p : Path) → slice_get l.fn.self.places.paths l.path ≡ Some p → (start : SigBit → Bit) → IsStart l.starts start
-      → Leads l.fn.self l.self (processes_rows start p l.body.wires l.body l.processes) (processes_rows start p l.body.wires l.body (drop l.process-index l.processes));
+  rows : (p : Path) → slice_get l.fn.self.places.paths l.scope.path ≡ Some p → (start : SigBit → Bit) → IsStart l.scope.starts.now start
+      → Leads l.fn.self l.self (processes_rows start p l.scope.wires.now l.body l.processes) (processes_rows start p l.scope.wires.now l.body (drop l.process-index l.processes));
 }

@@ -21,7 +21,8 @@ returns-clause-rows c = λ p path is.
     let number = c.in_ok-number.ensures.value ∙ ap next_of c.as_slice.ensures.value in
     let made = c.in_ok-lines.ensures.value ∙ (λ i. map write_port (rule_accesses (name i) (number i) (rules_of (processes i)))) in
     let first = c.first_event-event.ensures.value ∙ (λ i. event_of (name i) (rules_of (processes i))) in
-    let same = (λ i. planned_rows p (c.as_slice-wires.ensures.value i) s plan (c.as_slice-2.ensures.value i) event) ∙ planned_same p m s plan lines event is made first in
+    let wires = c.args.scope.now.wires.now in
+    let same = (λ i. planned_rows p wires s plan (c.as_slice-2.ensures.value i) event) ∙ planned_same p wires m s plan lines event is made first in
     let words = subst (AreRemembered c.remembered.new.self.places c.in_ok-words.words) same (c.in_ok-words.ensures.value p path) in
     let part = remembered_part _ c.in_ok-new.field-0 _ _ c.in_ok-new.ensures.ok words in
     Adds-part _ _ _ _ c.in_ok-words.ensures.grows c.in_ok-push.ensures.items part.0 part.1

@@ -19,7 +19,7 @@ branch-loop-switch-init t c =
     record {
       grows = Extends-refl _;
       inside = within-Keeps _ _ _ e.paths c.requires.in_range;
-      made = λ p path test is_test. subst (λ cs. AreChoices c.assigns.new.self.places test p c.args.wires.now c.args.bits.now cs []) (sym c.in_ok-choices.ensures.items) (AreChoices-none test p c.args.wires.now c.args.bits.now c.assigns.new.self.places);
+      made = λ p path test is_test. subst (λ cs. AreChoices c.assigns.new.self.places test p c.args.scope.now.wires.now c.args.bits.now cs []) (sym c.in_ok-choices.ensures.items) (AreChoices-none test p c.args.scope.now.wires.now c.args.bits.now c.assigns.new.self.places);
     }
 
 pub branch-loop-switch-preserved : goal.branch-loop-switch-preserved
@@ -30,7 +30,7 @@ branch-loop-switch-preserved t c =
       grows = Extends-then _ _ _ c.loop-switch.invariant.grows c.in_ok-choice.ensures.grows;
       inside = within-Keeps _ _ _ c.in_ok-choice.ensures.grows.paths c.loop-switch.invariant.inside;
       made = λ p path test is_test.
-          let wires = c.args.wires.now in
+          let wires = c.args.scope.now.wires.now in
           let bits = c.args.bits.now in
           let items = c.deref-switch-items.result.now in
           let is = subst (λ (s : SwitchView). IsChoice c.choice.new.self.places test p wires bits c.in_ok-choice.field-0 s) c.switch-item.is (c.in_ok-choice.ensures.value p (e.paths _ _ path) test is_test) in
@@ -44,7 +44,7 @@ branch-returns-clause-value t c = λ p path test is_test.
     let g = c.in_ok-assigns.ensures.grows in
     let h = c.loop-switch.invariant.grows in
     let to_end = Extends-then _ _ _ g h in
-    let wires = c.args.wires.now in
+    let wires = c.args.scope.now.wires.now in
     let bits = c.args.bits.now in
     let items = c.deref-switch-items.result.now in
     let all = subst (AreChoices c.loop-switch.self.places test p wires bits c.loop-switch.choices.items) (take_all _ items c.loop-switch-test.false) (c.loop-switch.invariant.made p path test is_test) in
@@ -57,7 +57,7 @@ pub choice-loop-case-init : goal.choice-loop-case-init
 choice-loop-case-init t c = record {
   grows = Extends-refl _;
   inside = within-Keeps _ _ _ c.in_ok-signal.ensures.grows.paths c.requires.in_range;
-  made = λ p path test is_test. subst (λ bs. AreBranches c.points.new.self.places test p c.args.wires.now c.args.bits.now bs []) (sym c.in_ok-branches.ensures.items) (AreBranches-none test p c.args.wires.now c.args.bits.now c.points.new.self.places);
+  made = λ p path test is_test. subst (λ bs. AreBranches c.points.new.self.places test p c.args.scope.now.wires.now c.args.bits.now bs []) (sym c.in_ok-branches.ensures.items) (AreBranches-none test p c.args.scope.now.wires.now c.args.bits.now c.points.new.self.places);
 }
 
 pub choice-loop-case-preserved : goal.choice-loop-case-preserved
@@ -67,7 +67,7 @@ choice-loop-case-preserved t c =
       grows = Extends-then _ _ _ c.loop-case.invariant.grows c.in_ok-branch.ensures.grows;
       inside = within-Keeps _ _ _ c.in_ok-branch.ensures.grows.paths c.loop-case.invariant.inside;
       made = λ p path test is_test.
-          let wires = c.args.wires.now in
+          let wires = c.args.scope.now.wires.now in
           let bits = c.args.bits.now in
           let items = c.deref-case-items.result.now in
           let patterns = c.as_slice-patterns.ensures.value ∙ ap (λ (x : CaseView). x.patterns) c.case.view_is in
@@ -79,7 +79,7 @@ choice-loop-case-preserved t c =
 
 pub choice-returns-clause-value : goal.choice-returns-clause-value
 choice-returns-clause-value t c = λ p path test is_test.
-    let wires = c.args.wires.now in
+    let wires = c.args.scope.now.wires.now in
     let bits = c.args.bits.now in
     let items = c.deref-case-items.result.now in
     let signal = c.as_slice.ensures.value ∙ ap (λ (x : SwitchView). x.signal) c.switch.view_is in

@@ -21,11 +21,11 @@ loop-line-preserved c = record {
       let left : c.as_slice-left.result.now ≡ line.left = c.as_slice-left.ensures.value ∙ ap (λ (l : Link). l.left) c.line-item.is in
       let right : c.as_slice.result.now ≡ line.right = c.as_slice.ensures.value ∙ ap (λ (l : Link). l.right) c.line-item.is in
       let more = c.in_ok-put_line.ensures.value p (c.loop-line.invariant.grows.paths _ _ path) test (all_joins (take at lines)) (c.loop-line.invariant.made p path test) in
-      subst (AreAssigns c.put_line.new.self.places test p c.args.wires.now c.args.bits.now c.put_line.new.assigns.items)
+      subst (AreAssigns c.put_line.new.self.places test p c.args.scope.now.wires.now c.args.bits.now c.put_line.new.assigns.items)
       ((λ i. all_joins (take at lines) ++ joins (left i) (right i)) ∙ sym (lines-next lines at c.line-item.result c.loop-line-test.true)) more;
 }
 
 pub returns-clause-value : goal.returns-clause-value
 returns-clause-value c = λ p path test.
     rw c.from_vec.ensures.value
-    (subst (λ ls. AreAssigns c.loop-line.self.places test p c.args.wires.now c.args.bits.now c.loop-line.assigns.items (all_joins ls)) (take_all _ c.args.lines.now c.loop-line-test.false) (c.loop-line.invariant.made p path test))
+    (subst (λ ls. AreAssigns c.loop-line.self.places test p c.args.scope.now.wires.now c.args.bits.now c.loop-line.assigns.items (all_joins ls)) (take_all _ c.args.lines.now c.loop-line-test.false) (c.loop-line.invariant.made p path test))

@@ -10,5 +10,5 @@ use Rattle.flat_net.proofs.places.Places.assigns.Given as goal
 abbrev pub invariant-loop-line : goal.invariant-loop-line
 invariant-loop-line l = record {
   grows : Extends l.fn.self l.self;
-  made : (p : Path) → slice_get l.fn.self.paths l.path ≡ Some p → (test : SwitchTest) → AreAssigns l.self.places test p l.wires l.bits l.assigns.items (all_joins (take l.line-index l.lines));
+  made : (p : Path) → slice_get l.fn.self.paths l.scope.path ≡ Some p → (test : SwitchTest) → AreAssigns l.self.places test p l.scope.wires.now l.bits l.assigns.items (all_joins (take l.line-index l.lines));
 }

@@ -10,5 +10,5 @@ use Rattle.flat_net.proofs.places.Places.column.Given as goal
 abbrev pub invariant-loop-word : goal.invariant-loop-word
 invariant-loop-word l = record {
   grows : Extends l.fn.self l.self;
-  made : (p : Path) → slice_get l.fn.self.paths l.path ≡ Some p → AreNumbers l.self.places l.numbers.items (map (λ address. word_place p l.store.name address l.at) (range_with_len (nat_abs l.store.offset) l.word));
+  made : (p : Path) → slice_get l.fn.self.paths l.scope.path ≡ Some p → AreNumbers l.self.places l.numbers.items (map (λ address. word_place p l.store.name address l.at) (range_with_len (nat_abs l.store.offset) l.word));
 }

@@ -8,5 +8,5 @@ use Rattle.flat_net.proofs.places.Places.columns.Given as goal
 abbrev pub invariant-loop-at : goal.invariant-loop-at
 invariant-loop-at l = record {
   grows : Extends l.fn.self l.self;
-  made : (p : Path) → slice_get l.fn.self.paths l.path ≡ Some p → AreColumns l.self.places p l.store l.columns.items l.at;
+  made : (p : Path) → slice_get l.fn.self.paths l.scope.path ≡ Some p → AreColumns l.self.places p l.store l.columns.items l.at;
 }

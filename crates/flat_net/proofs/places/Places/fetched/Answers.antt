@@ -13,6 +13,6 @@ pub returns-clause-value : goal.returns-clause-value
 returns-clause-value c = λ p path.
     let s = c.args.store.now in
     let qs = c.columns.new.self.places in
-    let ports = AreReadPorts-kept _ qs c.in_ok-columns.ensures.grows.places p c.args.wires.now _ _ (c.in_ok-ports.ensures.value p path) in
+    let ports = AreReadPorts-kept _ qs c.in_ok-columns.ensures.grows.places p c.args.scope.now.wires.now _ _ (c.in_ok-ports.ensures.value p path) in
     let columns = c.in_ok-columns.ensures.value p (c.in_ok-ports.ensures.grows.paths _ _ path) in
-    fetched_is qs p c.args.wires.now s _ c.widest.result c.first_address.ensures.value columns c.args.reads.now c.widest.ensures.wide ports
+    fetched_is qs p c.args.scope.now.wires.now s _ c.widest.result c.first_address.ensures.value columns c.args.reads.now c.widest.ensures.wide ports

@@ -1,4 +1,3 @@
-use Rattle.flat_net.specs.Lines.{join_of}
 use Rattle.flat_net.proofs.Kept.{within-Keeps}
 use Rattle.flat_net.proofs.Reading.{IsSource-kept}
 use Rattle.flat_net.proofs.places.Places.held_bit.Goals as goal
@@ -10,5 +9,5 @@ pub returns-clause-value : goal.returns-clause-value
 returns-clause-value c = λ p path start is. record {
   number = c.in_ok-bit.ensures.value p (c.in_ok-source.ensures.grows.paths _ _ path);
   begins = c.at.ensures.value start is;
-  source = IsSource-kept _ _ c.in_ok-bit.ensures.grows.places p c.args.wires.now c.args.bits.now c.in_ok-source.source (join_of c.args.line).source (c.in_ok-source.ensures.value p path);
+  source = IsSource-kept _ _ c.in_ok-bit.ensures.grows.places p c.args.scope.now.wires.now c.args.bits.now c.in_ok-source.source c.args.line.source (c.in_ok-source.ensures.value p path);
 }

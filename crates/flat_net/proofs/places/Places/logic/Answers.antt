@@ -35,4 +35,4 @@ returns-clause-value c = λ p path.
     let b = ArePoints-kept _ _ f2.places _ _ (c.in_ok-b.ensures.value p (e1.paths _ _ path)) in
     let s = ArePoints-kept _ _ f3.places _ _ (c.in_ok-s.ensures.value p (e2.paths _ _ path)) in
     let y = c.in_ok-y.ensures.value p (e3.paths _ _ path) in
-    logic_is p c.args.wires.now _ c.args.cell.now.pins _ _ _ _ _ _ _ _ c.as_slice-pins.ensures.value c.in_ok-shape.ensures.value c.a.view_is a c.b.view_is b c.s.view_is s c.as_slice.ensures.value y c.in_ok-outputs.ensures.value
+    logic_is p c.args.scope.now.wires.now _ c.args.cell.now.pins _ _ _ _ _ _ _ _ c.as_slice-pins.ensures.value c.in_ok-fitting_shape.ensures.value c.a.view_is a c.b.view_is b c.s.view_is s c.as_slice.ensures.value y c.in_ok-outputs.ensures.value

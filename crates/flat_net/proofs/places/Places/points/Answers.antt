@@ -19,4 +19,4 @@ loop-bit-preserved c = record {
 
 pub returns-clause-value : goal.returns-clause-value
 returns-clause-value c = λ p path.
-    rw c.from_vec.ensures.value (subst (λ signal. ArePoints c.loop-bit.self.places c.loop-bit.points.items (points p c.args.wires.now signal)) (take_all _ _ c.loop-bit-test.false) (c.loop-bit.invariant.they p path))
+    rw c.from_vec.ensures.value (subst (λ signal. ArePoints c.loop-bit.self.places c.loop-bit.points.items (points p c.args.scope.now.wires.now signal)) (take_all _ _ c.loop-bit-test.false) (c.loop-bit.invariant.they p path))

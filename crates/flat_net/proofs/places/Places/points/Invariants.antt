@@ -9,5 +9,5 @@ use Rattle.flat_net.proofs.places.Places.points.Given as goal
 abbrev pub invariant-loop-bit : goal.invariant-loop-bit
 invariant-loop-bit l = record {
   grows : Extends l.fn.self l.self;
-  they : (p : Path) → slice_get l.fn.self.paths l.path ≡ Some p → ArePoints l.self.places l.points.items (points p l.wires (take l.bit-index l.signal));
+  they : (p : Path) → slice_get l.fn.self.paths l.scope.path ≡ Some p → ArePoints l.self.places l.points.items (points p l.scope.wires.now (take l.bit-index l.signal));
 }

@@ -18,9 +18,9 @@ loop-at-preserved c = record {
       let at = c.loop-at.at in
       let next = joins-next left right at _ _ (omega arith) (omega arith) in
       let more = c.in_ok-put_assign.ensures.value p (c.loop-at.invariant.grows.paths _ _ path) test (js ++ joins (take at left) (take at right)) (c.loop-at.invariant.made p path test js before) in
-      subst (AreAssigns c.put_assign.new.self.places test p c.args.wires.now c.args.bits.now c.put_assign.new.assigns.items) (append_assoc js (joins (take at left) (take at right)) _ ∙ ap (λ rest. js ++ rest) (sym next)) more;
+      subst (AreAssigns c.put_assign.new.self.places test p c.args.scope.now.wires.now c.args.bits.now c.put_assign.new.assigns.items) (append_assoc js (joins (take at left) (take at right)) _ ∙ ap (λ rest. js ++ rest) (sym next)) more;
 }
 
 pub returns-clause-value : goal.returns-clause-value
 returns-clause-value c = λ p path test js before.
-    subst (λ rest. AreAssigns c.loop-at.self.places test p c.args.wires.now c.args.bits.now c.loop-at.assigns.items (js ++ rest)) (joins-all c.loop-at.at c.args.left.now c.args.right.now (omega arith)) (c.loop-at.invariant.made p path test js before)
+    subst (λ rest. AreAssigns c.loop-at.self.places test p c.args.scope.now.wires.now c.args.bits.now c.loop-at.assigns.items (js ++ rest)) (joins-all c.loop-at.at c.args.left.now c.args.right.now (omega arith)) (c.loop-at.invariant.made p path test js before)

@@ -11,6 +11,6 @@ use Rattle.flat_net.proofs.places.Places.put_line.Given as goal
 abbrev pub invariant-loop-at : goal.invariant-loop-at
 invariant-loop-at l = record {
   grows : Extends l.fn.self l.self;
-  made : (p : Path) → slice_get l.fn.self.paths l.path ≡ Some p → (test : SwitchTest) (js : List Join) → AreAssigns l.fn.self.places test p l.wires l.bits l.fn.assigns.items js
-      → AreAssigns l.self.places test p l.wires l.bits l.assigns.items (js ++ joins (take l.at l.left) (take l.at l.right));
+  made : (p : Path) → slice_get l.fn.self.paths l.scope.path ≡ Some p → (test : SwitchTest) (js : List Join) → AreAssigns l.fn.self.places test p l.scope.wires.now l.bits l.fn.assigns.items js
+      → AreAssigns l.self.places test p l.scope.wires.now l.bits l.assigns.items (js ++ joins (take l.at l.left) (take l.at l.right));
 }

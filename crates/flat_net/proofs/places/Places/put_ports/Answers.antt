@@ -13,10 +13,10 @@ pub loop-write-preserved : goal.loop-write-preserved
 loop-write-preserved c = record {
   grows = Extends-then _ _ _ c.loop-write.invariant.grows c.in_ok-port.ensures.grows;
   made = λ p path they h.
-      ports_next _ _ p c.args.wires.now c.args.writes.now c.loop-write.write-index c.write-item.result _ _ they _ c.in_ok-port.ensures.grows.places c.loop-write-test.true c.write-item.is
+      ports_next _ _ p c.args.scope.now.wires.now c.args.writes.now c.loop-write.write-index c.write-item.result _ _ they _ c.in_ok-port.ensures.grows.places c.loop-write-test.true c.write-item.is
       (c.loop-write.invariant.made p path they h) (c.in_ok-port.ensures.value p (c.loop-write.invariant.grows.paths _ _ path)) c.in_ok-push.ensures.items;
 }
 
 pub returns-clause-value : goal.returns-clause-value
 returns-clause-value c = λ p path they h.
-    subst (λ writes. ArePorts c.loop-write.self.places c.loop-write.ports.items (they ++ map (port_in p c.args.wires.now) writes)) (take_all _ c.args.writes.now c.loop-write-test.false) (c.loop-write.invariant.made p path they h)
+    subst (λ writes. ArePorts c.loop-write.self.places c.loop-write.ports.items (they ++ map (port_in p c.args.scope.now.wires.now) writes)) (take_all _ c.args.writes.now c.loop-write-test.false) (c.loop-write.invariant.made p path they h)

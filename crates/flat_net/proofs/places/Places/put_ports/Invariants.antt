@@ -9,5 +9,5 @@ use Rattle.flat_net.proofs.places.Places.put_ports.Given as goal
 abbrev pub invariant-loop-write : goal.invariant-loop-write
 invariant-loop-write l = record {
   grows : Extends l.fn.self l.self;
-  made : (p : Path) → slice_get l.fn.self.paths l.path ≡ Some p → (they : List Ported) → ArePorts l.fn.self.places l.fn.ports.items they → ArePorts l.self.places l.ports.items (they ++ map (port_in p l.wires) (take l.write-index l.writes));
+  made : (p : Path) → slice_get l.fn.self.paths l.scope.path ≡ Some p → (they : List Ported) → ArePorts l.fn.self.places l.fn.ports.items they → ArePorts l.self.places l.ports.items (they ++ map (port_in p l.scope.wires.now) (take l.write-index l.writes));
 }

@@ -8,5 +8,5 @@ use Rattle.flat_net.proofs.places.Places.put_word.Given as goal
 abbrev pub invariant-loop-at : goal.invariant-loop-at
 invariant-loop-at l = record {
   grows : Extends l.fn.self l.self;
-  made : (p : Path) → slice_get l.fn.self.paths l.path ≡ Some p → (they : List Begins) → AreBegins l.fn.self.places l.fn.bits.items they → AreBegins l.self.places l.bits.items (they ++ word_begins p l.name l.address 0 (take l.at l.word));
+  made : (p : Path) → slice_get l.fn.self.paths l.scope.path ≡ Some p → (they : List Begins) → AreBegins l.fn.self.places l.fn.bits.items they → AreBegins l.self.places l.bits.items (they ++ word_begins p l.name l.address 0 (take l.at l.word));
 }

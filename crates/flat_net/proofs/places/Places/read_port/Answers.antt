@@ -14,7 +14,7 @@ returns-clause-grows c = Extends-then _ _ _ c.in_ok-address.ensures.grows c.in_o
 
 pub returns-clause-value : goal.returns-clause-value
 returns-clause-value c = λ p path.
-    let wires = c.args.wires.now in
+    let wires = c.args.scope.now.wires.now in
     let qs = c.points-2.new.self.places in
     let address = ArePoints-kept _ qs c.in_ok-points.ensures.grows.places _ _ (c.in_ok-address.ensures.value p path) in
     let read = c.in_ok-points.ensures.value p (c.in_ok-address.ensures.grows.paths _ _ path) in

@@ -8,5 +8,5 @@ use Rattle.flat_net.proofs.places.Places.read_ports.Given as goal
 abbrev pub invariant-loop-read : goal.invariant-loop-read
 invariant-loop-read l = record {
   grows : Extends l.fn.self l.self;
-  made : (p : Path) → slice_get l.fn.self.paths l.path ≡ Some p → AreReadPorts l.self.places p l.wires l.ports.items (take l.read-index l.reads);
+  made : (p : Path) → slice_get l.fn.self.paths l.scope.path ≡ Some p → AreReadPorts l.self.places p l.scope.wires.now l.ports.items (take l.read-index l.reads);
 }

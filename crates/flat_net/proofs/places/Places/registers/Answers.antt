@@ -1,6 +1,5 @@
 use Rattle.std.proofs.Common.{[], map, subst, sym}
 use Rattle.std.proofs.lemmas.List.{take_all}
-use Rattle.flat_net.specs.Lines.{join_of}
 use Rattle.flat_net.specs.Registers.{AreRegisters}
 use Rattle.flat_net.proofs.Kept.{within-Keeps}
 use Rattle.flat_net.proofs.Reading.{Extends-refl, Extends-then}
@@ -11,7 +10,7 @@ pub loop-line-init : goal.loop-line-init
 loop-line-init c = record {
   grows = Extends-refl _;
   made = λ p path start is they pins.
-      subst (λ bs. AreRegisters c.args.self.now.places start p c.args.wires.now c.args.register.now they bs []) (sym c.in_ok-bits.ensures.items) (AreRegisters-none start p c.args.wires.now c.args.register.now they c.args.self.now.places);
+      subst (λ bs. AreRegisters c.args.self.now.places start p c.args.scope.now.wires.now c.args.register.now they bs []) (sym c.in_ok-bits.ensures.items) (AreRegisters-none start p c.args.scope.now.wires.now c.args.register.now they c.args.self.now.places);
 }
 
 pub register-requires : goal.register-requires
@@ -23,12 +22,12 @@ loop-line-preserved c = record {
   made = λ p path start is they pins.
       let before = c.loop-line.invariant.grows in
       let one = c.in_ok-register.ensures.value p (before.paths _ _ path) start is they (ArePins-kept _ _ c.args.register.now they before.places pins) in
-      AreRegisters-next start p c.args.wires.now c.args.register.now they c.loop-line.self.places c.register.new.self.places _ _ c.in_ok-register.field-0 c.args.lines.now c.loop-line.line-index _
+      AreRegisters-next start p c.args.scope.now.wires.now c.args.register.now they c.loop-line.self.places c.register.new.self.places _ _ c.in_ok-register.field-0 c.args.lines.now c.loop-line.line-index _
       c.in_ok-register.ensures.grows.places c.loop-line-test.true (c.loop-line.invariant.made p path start is they pins) one c.in_ok-push.ensures.items;
 }
 
 pub returns-clause-value : goal.returns-clause-value
 returns-clause-value c = λ p path start is they pins.
     rw c.from_vec.ensures.value
-    (subst (λ ls. AreRegisters c.loop-line.self.places start p c.args.wires.now c.args.register.now they c.loop-line.bits.items (map join_of ls)) (take_all _ c.args.lines.now c.loop-line-test.false)
+    (subst (λ ls. AreRegisters c.loop-line.self.places start p c.args.scope.now.wires.now c.args.register.now they c.loop-line.bits.items ls) (take_all _ c.args.lines.now c.loop-line-test.false)
     (c.loop-line.invariant.made p path start is they pins))

@@ -5,7 +5,6 @@ use Rattle.rtl_sig.specs.declared.sig.SigBit.{SigBit}
 use Rattle.rtl_ir.specs.Flat.Driver.{StorePoints}
 use Rattle.rtl_ir.specs.Flat.Place.{Path}
 use Rattle.flat_net.specs.Known.{Extends}
-use Rattle.flat_net.specs.Lines.{join_of}
 use Rattle.flat_net.specs.Reads.{ArePins}
 use Rattle.flat_net.specs.Registers.{AreRegisters}
 use Rattle.flat_net.specs.Starts.{IsStart}
@@ -14,6 +13,6 @@ use Rattle.flat_net.proofs.places.Places.registers.Given as goal
 abbrev pub invariant-loop-line : goal.invariant-loop-line
 invariant-loop-line l = record {
   grows : Extends l.fn.self l.self;
-  made : (p : Path) → slice_get l.fn.self.paths l.path ≡ Some p → (start : SigBit → Bit) → IsStart l.starts start → (they : StorePoints) → ArePins l.fn.self.places l.register.pins they
-      → AreRegisters l.self.places start p l.wires l.register they l.bits.items (map join_of (take l.line-index l.lines));
+  made : (p : Path) → slice_get l.fn.self.paths l.scope.path ≡ Some p → (start : SigBit → Bit) → IsStart l.scope.starts.now start → (they : StorePoints) → ArePins l.fn.self.places l.register.pins they
+      → AreRegisters l.self.places start p l.scope.wires.now l.register they l.bits.items (take l.line-index l.lines);
 }

@@ -23,7 +23,7 @@ returns-clause-grows c =
 
 pub returns-clause-value : goal.returns-clause-value
 returns-clause-value c = λ p path.
-    let wires = c.args.wires.now in
+    let wires = c.args.scope.now.wires.now in
     let plan = c.args.plan.now in
     let one = c.in_ok-put_ports.ensures.grows in
     let two = Extends-then _ _ _ one c.in_ok-put_ports-2.ensures.grows in
@@ -40,5 +40,5 @@ returns-clause-value c = λ p path.
     let ports = ArePorts-kept _ qs (Extends-then _ _ _ c.in_ok-clock.ensures.grows last).places _ _ lines in
     let whole = subst (ArePorts qs c.put_ports-2.new.ports.items) (sym (map-append (port_in p wires) plan.writes c.args.lines.now)) ports in
     let boxed = subst (λ ws. ArePorts qs ws (map (port_in p wires) (plan.writes ++ c.args.lines.now))) (sym c.from_vec.ensures.value) whole in
-    let begins = subst (AreBegins qs c.in_ok-bits.bits) (λ i. words_begins p (c.as_slice-2.ensures.value i) (c.first_address-first.ensures.value i) (c.as_slice-3.ensures.value i)) bits in
+    let begins = subst (AreBegins qs c.in_ok-bits.bits) (λ i. words_begins p (c.as_slice-name.ensures.value i) (c.first_address-first.ensures.value i) (c.as_slice-2.ensures.value i)) bits in
     remembered_is qs p wires _ _ _ _ point.is point.within control.level boxed begins

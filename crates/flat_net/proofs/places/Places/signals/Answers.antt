@@ -13,7 +13,7 @@ pub loop-signal-preserved : goal.loop-signal-preserved
 loop-signal-preserved c = record {
   grows = Extends-then _ _ _ c.loop-signal.invariant.grows c.in_ok-points.ensures.grows;
   made = λ p path.
-      let wires = c.args.wires.now in
+      let wires = c.args.scope.now.wires.now in
       let word = c.in_ok-points.field-0 in
       let read = subst (λ s. ArePoints c.points.new.self.places word (points p wires s)) (c.as_slice.ensures.value ∙ c.signal-item.is) (c.in_ok-points.ensures.value p (c.loop-signal.invariant.grows.paths _ _ path)) in
       AreSignals-next c.loop-signal.self.places c.points.new.self.places p wires c.loop-signal.words.items _ c.args.signals.now c.loop-signal.signal-index c.signal-item.result word c.in_ok-points.ensures.grows.places c.loop-signal-test.true

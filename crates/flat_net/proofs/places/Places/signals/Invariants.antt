@@ -8,5 +8,5 @@ use Rattle.flat_net.proofs.places.Places.signals.Given as goal
 abbrev pub invariant-loop-signal : goal.invariant-loop-signal
 invariant-loop-signal l = record {
   grows : Extends l.fn.self l.self;
-  made : (p : Path) → slice_get l.fn.self.paths l.path ≡ Some p → AreSignals l.self.places p l.wires l.words.items (take l.signal-index l.signals);
+  made : (p : Path) → slice_get l.fn.self.paths l.scope.path ≡ Some p → AreSignals l.self.places p l.scope.wires.now l.words.items (take l.signal-index l.signals);
 }

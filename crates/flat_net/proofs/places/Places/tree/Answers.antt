@@ -10,7 +10,7 @@ tree_outputs-requires c = record { in_range = within-Keeps _ _ _ c.in_ok-tree.en
 
 pub returns-clause-value : goal.returns-clause-value
 returns-clause-value c = λ p path start.
-    let wires = c.args.wires.now in
+    let wires = c.args.scope.now.wires.now in
     let bits = c.args.rooted.now.bits in
     let root = c.in_ok-tree.ensures.value p path no_test refl in
     let outputs = c.in_ok-tree_outputs.ensures.value p (c.in_ok-tree.ensures.grows.paths _ _ path) in

@@ -9,5 +9,5 @@ use Rattle.flat_net.proofs.places.Places.tree_outputs.Given as goal
 abbrev pub invariant-loop-at : goal.invariant-loop-at
 invariant-loop-at l = record {
   grows : Extends l.fn.self l.self;
-  made : (p : Path) → slice_get l.fn.self.paths l.path ≡ Some p → AreOutputs l.self.places p l.wires l.bits l.outputs.items (reverse (drop l.at l.bits));
+  made : (p : Path) → slice_get l.fn.self.paths l.scope.path ≡ Some p → AreOutputs l.self.places p l.scope.wires.now l.bits l.outputs.items (reverse (drop l.at l.bits));
 }

@@ -17,7 +17,7 @@ returns-clause-grows c = Extends-then _ _ _ (Extends-then _ _ _ c.in_ok-address.
 
 pub returns-clause-value : goal.returns-clause-value
 returns-clause-value c = λ p path.
-    let wires = c.args.wires.now in
+    let wires = c.args.scope.now.wires.now in
     let first = c.in_ok-address.ensures.grows in
     let second = Extends-then _ _ _ first c.in_ok-enable.ensures.grows in
     let qs = c.points-3.new.self.places in

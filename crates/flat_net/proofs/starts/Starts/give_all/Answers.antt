@@ -1,6 +1,5 @@
 use Rattle.std.proofs.Common.{map, subst}
 use Rattle.std.proofs.lemmas.List.{take_all}
-use Rattle.flat_net.specs.Lines.{join_of}
 use Rattle.flat_net.specs.Starts.{Gains, starts_by}
 use Rattle.flat_net.proofs.Beginning.{gains_line, gains_none}
 use Rattle.flat_net.proofs.starts.Starts.give_all.Goals as goal
@@ -16,5 +15,5 @@ loop-line-preserved c = λ root bits are.
 pub returns : goal.returns
 returns c = record {
   gains = λ root bits are.
-      subst (λ ls. Gains c.args.self.now c.loop-line.self (starts_by root bits (map join_of ls))) (take_all _ c.args.lines.now c.loop-line-test.false) (c.loop-line.invariant root bits are);
+      subst (λ ls. Gains c.args.self.now c.loop-line.self (starts_by root bits ls)) (take_all _ c.args.lines.now c.loop-line-test.false) (c.loop-line.invariant root bits are);
 }

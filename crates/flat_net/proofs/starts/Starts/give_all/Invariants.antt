@@ -3,9 +3,8 @@ use Rattle.std.proofs.Common.{List, map, take}
 use Rattle.rtl_sig.specs.declared.sig.WireBit.{WireBit}
 use Rattle.rtl_ir.specs.Tree.{CaseView}
 use Rattle.process_trees.specs.Rounds.{AreLeaves}
-use Rattle.flat_net.specs.Lines.{join_of}
 use Rattle.flat_net.specs.Starts.{Gains, starts_by}
 use Rattle.flat_net.proofs.starts.Starts.give_all.Given as goal
 
 abbrev pub invariant-loop-line : goal.invariant-loop-line
-invariant-loop-line l = (root : CaseView) (bits : List WireBit) → AreLeaves l.leaves root bits → Gains l.fn.self l.self (starts_by root bits (map join_of (take l.line-index l.lines)))
+invariant-loop-line l = (root : CaseView) (bits : List WireBit) → AreLeaves l.leaves root bits → Gains l.fn.self l.self (starts_by root bits (take l.line-index l.lines))

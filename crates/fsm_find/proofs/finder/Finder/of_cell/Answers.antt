@@ -8,10 +8,10 @@ returns-in_ok-machine-in-Some c = record {
   exact = λ ports is view start cell.
       let found = some_case _ _ _ _ c.in-Some.is (c.in_ok-reach.ensures.value ports view) in
       c.in_ok-machine-in-Some.ensures.exact ports found.0 is view start found.2
-      ∙ with_tree ports c.args.self.now.body.now c.args.place c.args.view.now.state c.args.flop c.args.cell.now cell found.0 found.1;
+      ∙ with_tree ports c.args.self.now.body.now c.args.candidate.now.place c.args.candidate.now.view.state c.args.candidate.now.flop c.args.cell.now cell found.0 found.1;
 }
 
 pub returns-in-None : goal.returns-in-None
 returns-in-None c = record {
-  exact = λ ports is view start cell. no_tree ports c.args.self.now.body.now c.args.place c.args.view.now.state c.args.flop c.args.cell.now cell (none_case _ _ _ c.in-None.is (c.in_ok-reach.ensures.value ports view));
+  exact = λ ports is view start cell. no_tree ports c.args.self.now.body.now c.args.candidate.now.place c.args.candidate.now.view.state c.args.candidate.now.flop c.args.cell.now cell (none_case _ _ _ c.in-None.is (c.in_ok-reach.ensures.value ports view));
 }

@@ -10,7 +10,7 @@ loop-link-preserved c = λ marks are.
     let right = c.in_ok-signal-2.ensures.value marks are ∙ ap (map (moved_bit marks)) c.as_slice-in-loop-link.ensures.value in
     let link : Link = record { left = c.in_ok-signal.field-0; right = c.in_ok-signal-2.field-0 } in
     let is : link ≡ moved_link marks c.link-item.result = λ i. record { left = left i; right = right i } in
-    map_next (moved_link marks) c.args.links.now c.loop-link.link-index c.link-item.result link c.loop-link.moved.items c.push.new.self.items c.loop-link-test.true c.link-item.is is c.in_ok-push.ensures.items (c.loop-link.invariant marks are)
+    map_next (moved_link marks) c.args.links.now c.loop-link.link-index c.link-item.result link c.loop-link.moved.items c.push-in-loop-link.new.self.items c.loop-link-test.true c.link-item.is is c.in_ok-push.ensures.items (c.loop-link.invariant marks are)
 
 pub returns : goal.returns
 returns c = record {

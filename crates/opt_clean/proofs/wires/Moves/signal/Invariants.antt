@@ -7,4 +7,4 @@ use Rattle.opt_clean.proofs.wires.Moves.signal.Given as goal
 abbrev pub invariant-loop-bit : goal.invariant-loop-bit
 invariant-loop-bit l =
     (marks : List Bool) → AreMoves l.self marks
-    → l.moved.items ++ map (moved_bit marks) (drop l.bit-index l.signal) ≡ map (moved_bit marks) l.signal
+    → l.moved ++ map (moved_bit marks) (drop l.bit-index l.signal) ≡ map (moved_bit marks) l.signal

@@ -19,23 +19,23 @@ use Rattle.proc_latch.proofs.chains.Chains.+chain.Goals as goal
 
 pub case_chain-returns-in_err-start-clause-over : goal.case_chain-returns-in_err-start-clause-over
 case_chain-returns-in_err-start-clause-over t c e =
-    start_over (reads c.args.read.now c.args.depth) c.args.given.now (reads_add c.args.read.now c.args.depth) c.args.node c.args.signal.now c.args.case.now.patterns c.args.case.now.switches c.args.prior c.args.acc (seen c.args.self.now)
-    c.value_at.result c.value_at.ensures.value (search (rules, c.start.ensures.over, e, c.from_residual.ensures))
+    start_over (reads c.args.way.now.read.now c.args.way.now.depth) c.args.way.now.given.now (reads_add c.args.way.now.read.now c.args.way.now.depth) c.args.arm.now.node c.args.arm.now.signal.now c.args.arm.now.case.now.patterns c.args.arm.now.case.now.switches c.args.prior c.args.acc (seen c.args.self.now)
+    c.value_at-given.result c.value_at-given.ensures.value (search (rules, c.start.ensures.over, e, c.from_residual.ensures))
 
 pub case_chain-overflow_add-node : goal.case_chain-overflow_add-node
 case_chain-overflow_add-node t c =
-    let nodes = c.args.read.now.tables.now.nodes in
-    omega (arith, slice_get_within nodes.items c.args.node _ c.requires.behind, nodes.ok, nodes.small)
+    let nodes = c.args.way.now.read.now.tables.now.nodes in
+    omega (arith, slice_get_within nodes.items c.args.arm.now.node _ c.requires.behind, nodes.ok, nodes.small)
 
 pub case_chain-returns-in_err-body-clause-over : goal.case_chain-returns-in_err-body-clause-over
 case_chain-returns-in_err-body-clause-over t c e =
-    let inner : switches_of c.as_slice-switches.result.now ≡ c.args.case.now.switches = ap switches_of c.as_slice-switches.ensures.value ∙ ap (λ (x : CaseView). x.switches) c.case.view_is in
-    body_over (reads c.args.read.now c.args.depth) c.args.given.now (reads_add c.args.read.now c.args.depth) c.args.node c.args.signal.now c.args.case.now.patterns c.args.case.now.switches c.args.prior c.args.acc (seen c.args.self.now)
-    c.in_ok-start.start (seen c.start.new.self) c.value_at.result c.value_at.ensures.value c.in_ok-start.ensures.exact _ inner (search (rules, c.switches_chain.ensures.over, e, c.from_residual-in_err-body.ensures))
+    let inner : switches_of c.as_slice-switches.result.now ≡ c.args.arm.now.case.now.switches = ap switches_of c.as_slice-switches.ensures.value ∙ ap (λ (x : CaseView). x.switches) c.case.view_is in
+    body_over (reads c.args.way.now.read.now c.args.way.now.depth) c.args.way.now.given.now (reads_add c.args.way.now.read.now c.args.way.now.depth) c.args.arm.now.node c.args.arm.now.signal.now c.args.arm.now.case.now.patterns c.args.arm.now.case.now.switches c.args.prior c.args.acc (seen c.args.self.now)
+    c.in_ok-start.start (seen c.start.new.self) c.value_at-given.result c.value_at-given.ensures.value c.in_ok-start.ensures.exact _ inner (search (rules, c.switches_chain.ensures.over, e, c.from_residual-in_err-body.ensures))
 
 pub cases_chain-loop-at-init : goal.cases_chain-loop-at-init
 cases_chain-loop-at-init t c = record {
-  all = cases_end (reads c.args.read.now c.args.depth) c.args.given.now (reads_add c.args.read.now c.args.depth) c.args.node c.args.signal.now c.args.prior (seen c.args.self.now) c.args.cases.now (length c.args.cases.now) (omega arith);
+  all = cases_end (reads c.args.way.now.read.now c.args.way.now.depth) c.args.way.now.given.now (reads_add c.args.way.now.read.now c.args.way.now.depth) c.args.node c.args.signal.now c.args.prior (seen c.args.self.now) c.args.cases.now (length c.args.cases.now) (omega arith);
   within = λ h. h;
 }
 
@@ -46,7 +46,7 @@ cases_chain-bounds-nodes-at t c =
 pub cases_chain-case_chain-requires : goal.cases_chain-case_chain-requires
 cases_chain-case_chain-requires t c =
     let h : c.loop-at.at - 1 < length c.args.cases.now = omega arith in
-    let both = case_table c.args.read.now.tables.now.nodes.items c.args.node c.args.cases.now (c.loop-at.at - 1) c.index-cases-at.result h c.index-cases-at.is c.as_slice-nodes.result.now 0 (c.as_slice-nodes.ensures.value ∙ c.in_ok-nodes.ensures.value) c.requires.table in
+    let both = case_table c.args.way.now.read.now.tables.now.nodes.items c.args.node c.args.cases.now (c.loop-at.at - 1) c.index-cases-at.result h c.index-cases-at.is c.as_slice-nodes.result.now 0 (c.as_slice-nodes.ensures.value ∙ c.in_ok-nodes.ensures.value) c.requires.table in
     let deep = case_deep c.args.cases.now (c.loop-at.at - 1) c.index-cases-at.result h c.index-cases-at.is in
     (omega (arith, deep, c.decreases), (c.requires.read, (c.requires.in_order, (both.0, both.1))))
 
@@ -55,7 +55,7 @@ cases_chain-returns-in_err-value-clause-over t c e =
     let h : c.loop-at.at - 1 < length c.args.cases.now = omega arith in
     let next : c.loop-at.at ≡ (c.loop-at.at - 1) + 1 = omega arith in
     let is = node_is c.args.node c.args.cases.now (c.loop-at.at - 1) 0 c.as_slice-nodes.result.now h (c.as_slice-nodes.ensures.value ∙ c.in_ok-nodes.ensures.value) in
-    case_over (reads c.args.read.now c.args.depth) c.args.given.now (reads_add c.args.read.now c.args.depth) c.args.node c.args.signal.now c.args.prior (seen c.args.self.now) c.args.cases.now (c.loop-at.at - 1) c.index-cases-at.result h c.index-cases-at.is
+    case_over (reads c.args.way.now.read.now c.args.way.now.depth) c.args.way.now.given.now (reads_add c.args.way.now.read.now c.args.way.now.depth) c.args.node c.args.signal.now c.args.prior (seen c.args.self.now) c.args.cases.now (c.loop-at.at - 1) c.index-cases-at.result h c.index-cases-at.is
     c.loop-at.at _ c.args.prior next is (λ i. c.args.prior) c.loop-at.value (seen c.loop-at.self) c.loop-at.invariant.all
     (search (rules, c.case_chain.ensures.over, e, c.from_residual-in_err-value.ensures))
 
@@ -66,7 +66,7 @@ cases_chain-loop-at-preserved t c =
     let is = node_is c.args.node c.args.cases.now (c.loop-at.at - 1) 0 c.as_slice-nodes.result.now h (c.as_slice-nodes.ensures.value ∙ c.in_ok-nodes.ensures.value) in
     record {
       all =
-          case_goes (reads c.args.read.now c.args.depth) c.args.given.now (reads_add c.args.read.now c.args.depth) c.args.node c.args.signal.now c.args.prior (seen c.args.self.now) c.args.cases.now (c.loop-at.at - 1) c.index-cases-at.result h c.index-cases-at.is
+          case_goes (reads c.args.way.now.read.now c.args.way.now.depth) c.args.way.now.given.now (reads_add c.args.way.now.read.now c.args.way.now.depth) c.args.node c.args.signal.now c.args.prior (seen c.args.self.now) c.args.cases.now (c.loop-at.at - 1) c.index-cases-at.result h c.index-cases-at.is
           c.loop-at.at _ c.args.prior next is (λ i. c.args.prior) c.loop-at.value (seen c.loop-at.self) c.loop-at.invariant.all _ c.in_ok-value.ensures.exact;
       within = λ few. c.in_ok-value.ensures.within (c.loop-at.invariant.within few);
     }
@@ -112,31 +112,31 @@ new_chain-returns-clause-exact t c =
 
 pub switches_chain-switch_chain-requires : goal.switches_chain-switch_chain-requires
 switches_chain-switch_chain-requires t c =
-    let has = has_switch (reads c.args.read.now c.args.depth) c.args.given.now (reads_add c.args.read.now c.args.depth) c.args.switches.now c.loop-switch.switch-index c.switch-item.result c.loop-switch-test.true c.switch-item.is c.args.read.now.tables.now.nodes.items c.loop-switch.node c.loop-switch.invariant.has in
+    let has = has_switch (reads c.args.way.now.read.now c.args.way.now.depth) c.args.way.now.given.now (reads_add c.args.way.now.read.now c.args.way.now.depth) c.args.switches.now c.loop-switch.switch-index c.switch-item.result c.loop-switch-test.true c.switch-item.is c.args.way.now.read.now.tables.now.nodes.items c.loop-switch.node c.loop-switch.invariant.has in
     let deep = switch_deep c.args.switches.now c.loop-switch.switch-index c.switch-item.result c.loop-switch-test.true c.switch-item.is in
     (omega (arith, deep, c.decreases), (c.requires.read, (c.requires.in_order, (has.0, has.1.0))))
 
 pub switches_chain-returns-in_err-value-clause-over : goal.switches_chain-returns-in_err-value-clause-over
 switches_chain-returns-in_err-value-clause-over t c e =
-    switch_over (reads c.args.read.now c.args.depth) c.args.given.now (reads_add c.args.read.now c.args.depth) c.args.switches.now c.loop-switch.switch-index c.switch-item.result c.loop-switch-test.true c.switch-item.is
+    switch_over (reads c.args.way.now.read.now c.args.way.now.depth) c.args.way.now.given.now (reads_add c.args.way.now.read.now c.args.way.now.depth) c.args.switches.now c.loop-switch.switch-index c.switch-item.result c.loop-switch-test.true c.switch-item.is
     c.loop-switch.node c.loop-switch.value (seen c.loop-switch.self) _ c.loop-switch.invariant.all
     (search (rules, c.switch_chain.ensures.over, e, c.from_residual.ensures))
 
 pub switches_chain-loop-switch-preserved : goal.switches_chain-loop-switch-preserved
 switches_chain-loop-switch-preserved t c =
-    let has = has_switch (reads c.args.read.now c.args.depth) c.args.given.now (reads_add c.args.read.now c.args.depth) c.args.switches.now c.loop-switch.switch-index c.switch-item.result c.loop-switch-test.true c.switch-item.is c.args.read.now.tables.now.nodes.items c.loop-switch.node c.loop-switch.invariant.has in
-    let is = entry_is c.args.read.now.tables.now.nodes.items c.loop-switch.node c.behind-node.result _ has.0 (c.behind-node.ensures.value ∙ ap (λ xs. unwrap_or (slice_get xs c.loop-switch.node) c.loop-switch.node) c.as_slice.ensures.value) in
+    let has = has_switch (reads c.args.way.now.read.now c.args.way.now.depth) c.args.way.now.given.now (reads_add c.args.way.now.read.now c.args.way.now.depth) c.args.switches.now c.loop-switch.switch-index c.switch-item.result c.loop-switch-test.true c.switch-item.is c.args.way.now.read.now.tables.now.nodes.items c.loop-switch.node c.loop-switch.invariant.has in
+    let is = entry_is c.args.way.now.read.now.tables.now.nodes.items c.loop-switch.node c.behind-node.result _ has.0 (c.behind-node.ensures.value ∙ ap (λ xs. unwrap_or (slice_get xs c.loop-switch.node) c.loop-switch.node) c.as_slice.ensures.value) in
     record {
       all =
-          switch_goes (reads c.args.read.now c.args.depth) c.args.given.now (reads_add c.args.read.now c.args.depth) c.args.switches.now c.loop-switch.switch-index c.switch-item.result c.loop-switch-test.true c.switch-item.is
+          switch_goes (reads c.args.way.now.read.now c.args.way.now.depth) c.args.way.now.given.now (reads_add c.args.way.now.read.now c.args.way.now.depth) c.args.switches.now c.loop-switch.switch-index c.switch-item.result c.loop-switch-test.true c.switch-item.is
           c.loop-switch.node c.behind-node.result c.loop-switch.value c.in_ok-value.value (seen c.loop-switch.self) (seen c.switch_chain.new.self) _ is c.in_ok-value.ensures.exact c.loop-switch.invariant.all;
-      has = subst (λ m. HasSwitches c.args.read.now.tables.now.nodes.items m (switches_of (drop (c.loop-switch.switch-index + 1) c.args.switches.now))) (sym is) has.1.1;
+      has = subst (λ m. HasSwitches c.args.way.now.read.now.tables.now.nodes.items m (switches_of (drop (c.loop-switch.switch-index + 1) c.args.switches.now))) (sym is) has.1.1;
       within = λ few. c.in_ok-value.ensures.within (c.loop-switch.invariant.within few);
     }
 
 pub switches_chain-returns-clause-exact : goal.switches_chain-returns-clause-exact
 switches_chain-returns-clause-exact t c =
-    switches_end (reads c.args.read.now c.args.depth) c.args.given.now (reads_add c.args.read.now c.args.depth) c.args.switches.now c.loop-switch.switch-index c.loop-switch.node (omega arith) c.loop-switch.value (seen c.loop-switch.self) _ c.loop-switch.invariant.all
+    switches_end (reads c.args.way.now.read.now c.args.way.now.depth) c.args.way.now.given.now (reads_add c.args.way.now.read.now c.args.way.now.depth) c.args.switches.now c.loop-switch.switch-index c.loop-switch.node (omega arith) c.loop-switch.value (seen c.loop-switch.self) _ c.loop-switch.invariant.all
 
 pub leaf-returns-then-eq-clause-exact : goal.leaf-returns-then-eq-clause-exact
 leaf-returns-then-eq-clause-exact t c =

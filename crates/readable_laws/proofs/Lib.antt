@@ -1,0 +1,4 @@
+pub mod Fresh
+pub mod Extending
+pub mod Parts
+pub mod Cells

@@ -1,0 +1,4 @@
+pub mod Grown
+pub mod Counting
+pub mod Signals
+pub mod Changing

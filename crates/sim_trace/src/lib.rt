@@ -1,0 +1,8 @@
+//! Simulations by texts: the stimulus that lines say, and the lines of the trace.
+#![tactic(auto)]
+
+mod stimulus;
+mod trace;
+
+pub use stimulus::{StimulusFault, stimulus_of};
+pub use trace::trace_text;
