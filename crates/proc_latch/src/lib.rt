@@ -55,12 +55,22 @@ fn latched_module(alloc: Global, module: &Module) -> Result<Module, PassFault>
     ensures over { result ≡ Err PassFault.Over → LatchPassesLimit «module».now }
     ensures within { OnOk result (IsInLimits (latched «module».now)) }
 {
-    check_limits(module)?;
-    let builder = Builder::of(alloc, module.copy()?)?;
-    let builder = latches_step(alloc, builder, module.processes.as_slice())?;
-    let processes = without_always(alloc, module.processes.as_slice())?;
+    apply_owned(alloc, module.copy()?)
+}
+
+/// As `apply`, of a module that is given away: of what it has only the processes are copied.
+pub fn apply_owned(alloc: Global, module: Module) -> Result<Module, PassFault>
+    ensures exact { IfOk result (λ after. after ≡ proc_latch_of «module») }
+    ensures over { result ≡ Err PassFault.Over → LatchPassesLimit «module» }
+    ensures within { OnOk result (IsInLimits (latched «module»)) }
+{
+    check_limits(&module)?;
+    let processes = module.processes.copy()?;
+    let builder = Builder::of(alloc, module)?;
+    let builder = latches_step(alloc, builder, processes.as_slice())?;
+    let left = without_always(alloc, processes.as_slice())?;
     Ok(Module {
-        processes: Seq::from_vec(processes),
+        processes: Seq::from_vec(left),
         ..builder.finish()
     })
 }

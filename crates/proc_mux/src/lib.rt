@@ -46,9 +46,19 @@ fn muxed_module(alloc: Global, module: &Module) -> Result<Module, PassFault>
     ensures over { result ≡ Err PassFault.Over → MuxPassesLimit «module».now }
     ensures within { OnOk result (IsInLimits (muxed «module».now)) }
 {
-    check_limits(module)?;
-    let builder = Builder::of(alloc, module.copy()?)?;
-    let builder = processes_step(alloc, builder, module.processes.as_slice())?;
+    apply_owned(alloc, module.copy()?)
+}
+
+/// As `apply`, of a module that is given away: of what it has only the processes are copied.
+pub fn apply_owned(alloc: Global, module: Module) -> Result<Module, PassFault>
+    ensures exact { IfOk result (λ after. after ≡ proc_mux_of «module») }
+    ensures over { result ≡ Err PassFault.Over → MuxPassesLimit «module» }
+    ensures within { OnOk result (IsInLimits (muxed «module»)) }
+{
+    check_limits(&module)?;
+    let processes = module.processes.copy()?;
+    let builder = Builder::of(alloc, module)?;
+    let builder = processes_step(alloc, builder, processes.as_slice())?;
     Ok(Module {
         processes: Seq::make(alloc),
         ..builder.finish()

@@ -47,16 +47,18 @@ fn reset_of(alloc: Global, module: &Module, ports: &PortTable) -> Result<Module,
     requires fit { DoCellsFit (table_ports ports.now.modules) «module».now }
     ensures exact { IfOk result (λ after. after ≡ proc_reset_of (table_ports ports.now.modules) «module».now) }
 {
-    let processes = processes_of(alloc, module, ports)?;
+    apply_owned(alloc, module.copy()?, ports)
+}
+
+/// As `apply`, of a module that is given away: nothing of it is copied but what stays of its processes.
+pub fn apply_owned(alloc: Global, module: Module, ports: &PortTable) -> Result<Module, Memory>
+    requires fit { DoCellsFit (table_ports ports.now.modules) «module» }
+    ensures exact { IfOk result (λ after. after ≡ proc_reset_of (table_ports ports.now.modules) «module») }
+{
+    let processes = processes_of(alloc, &module, ports)?;
     Ok(Module {
-        id: module.id.copy()?,
-        attributes: module.attributes.copy()?,
-        parameters: module.parameters.copy()?,
-        wires: module.wires.copy()?,
-        memories: module.memories.copy()?,
-        cells: module.cells.copy()?,
         processes: Seq::from_vec(processes),
-        links: module.links.copy()?,
+        ..module
     })
 }
 

@@ -15,10 +15,11 @@ use Rattle.net_model.specs.Proc.Start.{proc_tree_of}
 use Rattle.net_model.specs.Proc.Steps.{proc_of}
 use Rattle.net_model.specs.Proc.Sync.{proc_sync_of, sync_step}
 use Rattle.proc_laws.specs.Ready.{AreRuled, HaveNoStarts, IsReady}
-use Rattle.proc_laws.specs.Kinds.{HaveNoTwoEdges}
+use Rattle.proc_laws.specs.Kinds.{HaveNoAlways, HaveNoTwoEdges}
+use Rattle.latch_laws.proofs.Left as left
 use Rattle.proc_steps.specs.Limits.{is_within}
 use Rattle.proc_steps.specs.Steps.{Gives, MayBegin, clocked, clocking, latched, latching, leveled, muxing, proc_result}
-use Rattle.proc_steps.proofs.Giving.{clocked_ready, latched_edges, latched_ready, latched_starts, level, proc_gives, ruled_ready as tree_ready}
+use Rattle.proc_steps.proofs.Giving.{latched_edges, latched_ready, latched_starts, level, proc_gives, ruled_ready as tree_ready}
 use Rattle.proc_steps.proofs.Limits.{limits_passed, limits_within}
 
 module _ (table : PortTable) (m : Module) (h : MayBegin table m) where
@@ -33,9 +34,6 @@ module _ (table : PortTable) (m : Module) (h : MayBegin table m) where
       pub level_is : to ≡ leveled P m
       level_is = is_to ∙ ap (proc_reset_of P) is_ruled
 
-      pub level_ready : IsReady with_processes P to
-      level_ready = subst (IsReady with_processes P) (sym level_is) (level table m h).ready
-
       pub level_ruled : AreRuled to
       level_ruled = subst AreRuled (sym level_is) (level table m h).ruled
 
@@ -49,6 +47,12 @@ module _ (table : PortTable) (m : Module) (h : MayBegin table m) where
         pub next_ready : IsReady with_processes P next
         next_ready = subst (IsReady with_processes P) (sym next_is) (latched_ready table m h latching_inside.names)
 
+        pub next_ruled : AreRuled next
+        next_ruled = subst AreRuled (sym is_next) (left.ruled to level_ruled)
+
+        pub next_always : HaveNoAlways next
+        next_always = subst HaveNoAlways (sym is_next) (left.no_always to)
+
         pub next_starts : HaveNoStarts next
         next_starts = subst HaveNoStarts (sym next_is) (latched_starts table m h latching_inside.names)
 
@@ -61,9 +65,6 @@ module _ (table : PortTable) (m : Module) (h : MayBegin table m) where
 
           pub clocking_inside : IsInLimits (clocking P m)
           clocking_inside = subst (λ (n : Module). IsInLimits (sync_step n (building_of n))) next_is within
-
-          pub last_ready : IsReady with_processes P last
-          last_ready = subst (IsReady with_processes P) (sym last_is) (clocked_ready table m h latching_inside.names)
 
 -- ---- the limits
 module _ (P : Ports) (m : Module) where

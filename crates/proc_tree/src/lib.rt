@@ -40,17 +40,19 @@ pub fn apply(alloc: Global, module: &Module, ports: &PortTable) -> Result<Module
 fn tree_of(alloc: Global, module: &Module) -> Result<Module, Memory>
     ensures exact { IfOk result (λ after. after ≡ proc_tree_of «module».now) }
 {
+    apply_owned(alloc, module.copy()?)
+}
+
+/// As `apply`, of a module that is given away: its cells, memories and connections are moved.
+pub fn apply_owned(alloc: Global, module: Module) -> Result<Module, Memory>
+    ensures exact { IfOk result (λ after. after ≡ proc_tree_of «module») }
+{
     let mut starts = Starts::of(alloc, module.wires.as_slice())?;
     let processes = ruled_processes(alloc, module.processes.as_slice(), &mut starts)?;
     let wires = begun_wires(alloc, module.wires.as_slice(), &starts)?;
     Ok(Module {
-        id: module.id.copy()?,
-        attributes: module.attributes.copy()?,
-        parameters: module.parameters.copy()?,
         wires: Seq::from_vec(wires),
-        memories: module.memories.copy()?,
-        cells: module.cells.copy()?,
         processes: Seq::from_vec(processes),
-        links: module.links.copy()?,
+        ..module
     })
 }

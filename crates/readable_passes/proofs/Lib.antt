@@ -13,6 +13,7 @@ pub mod Latch
 pub mod Memory
 pub mod Limits
 pub mod Sync
+pub mod Writes
 pub mod Fsm
 pub mod Memories
 pub mod Machines

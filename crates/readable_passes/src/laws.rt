@@ -10,6 +10,7 @@ ghost use Rattle.net_model.specs.Proc.Latch.{latches_step, proc_latch_of};
 ghost use Rattle.net_model.specs.Proc.Mux.{proc_mux_of, processes_step};
 ghost use Rattle.net_model.specs.Proc.Reset.{proc_reset_of};
 ghost use Rattle.net_model.specs.Proc.Start.{proc_tree_of};
+ghost use Rattle.net_model.specs.Proc.Sync.{proc_sync_of, sync_step};
 ghost use Rattle.pass_laws.specs.OwnNames.{HaveOwnNames};
 ghost use Rattle.pass_laws.specs.Ready.{IsReady, IsReadyWithin};
 ghost use Rattle.rtl_readable.specs.Readable.{IsReadableModule};
@@ -20,6 +21,7 @@ ghost use Rattle.opt_clean.specs.Clean.{clean_of};
 ghost use Rattle.opt_expr.specs.Sweep.{expr_of};
 ghost use Rattle.opt_merge.specs.Merge.{merge_of};
 ghost use Rattle.opt_rounds.specs.Rounds.{opt_of};
+ghost use Rattle.readable_passes.specs.Named.{NamesMemories};
 
 use rtl_ir::{Module, PortTable};
 
@@ -43,6 +45,13 @@ pub fn steps_of_proc_are_readable()
         (latches_step m.processes (building_of m)).next ≤ 1000000000 → HasReadableItems (proc_latch_of m) }
     ensures chosen { (ports : Ports) (m : Module) → IsReadyWithin with_processes ports m → HasReadableItems m →
         (processes_step (building_of m) m.processes).next ≤ 1000000000 → HasReadableItems (proc_mux_of m) }
+{}
+
+/// The items of a module are such as a text can give after its rules became flip-flops, latches and write ports, where
+/// they were, its lines write memories whose names a constant may hold, and the fresh names have at most nine digits.
+pub fn modules_without_rules_are_readable()
+    ensures stored { (ports : Ports) (m : Module) → IsReadyWithin with_processes ports m → NamesMemories m →
+        HasReadableItems m → (sync_step m (building_of m)).next ≤ 1000000000 → HasReadableItems (proc_sync_of m) }
 {}
 
 /// The items of a module are such as a text can give after its machines got the code with one bit for each state, where

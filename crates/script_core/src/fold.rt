@@ -20,7 +20,7 @@ fn without_processes(alloc: Global, module: Module, ports: &PortTable) -> Result
     if module.processes.as_slice().is_empty() {
         return Ok(module);
     }
-    proc_steps::apply(alloc, &module, ports)
+    proc_steps::apply(alloc, module, ports)
 }
 
 /// The module with its cells mapped. `Over` where the gates would pass a limit.

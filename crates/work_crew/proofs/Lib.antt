@@ -1,0 +1,10 @@
+pub mod PairLists
+pub mod Counting
+pub mod Moves
+pub mod Passes
+pub mod OwnerLists
+pub mod Steps
+pub mod Setups
+pub mod Puts
+pub mod Outcomes
+pub mod Crews

@@ -1,0 +1,11 @@
+pub mod Times
+pub mod Pairs
+pub mod Hands
+pub mod Reach
+pub mod Settle
+pub mod Along
+pub mod Turns
+pub mod Seats
+pub mod Setup
+pub mod Gather
+pub mod Outcome
