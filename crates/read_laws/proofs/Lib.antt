@@ -1,2 +1,3 @@
 pub mod SignalBits
 pub mod Places
+pub mod ConstantBits

@@ -31,7 +31,7 @@ use Rattle.read_laws.specs.SignalBits.{Written, Plain, At, Slice, Braced, Parts,
 
 -- ---- what uses do one after another
 
-bind_on : {S T F : Type 0} (r : Result S F) (x : S) (f : S → Result T F) → r ≡ Ok x → (r >>= f) ≡ f x
+pub bind_on : {S T F : Type 0} (r : Result S F) (x : S) (f : S → Result T F) → r ≡ Ok x → (r >>= f) ≡ f x
 bind_on {S} {T} {F} r x f e = ap (λ (y : Result S F). y >>= f) e
 
 run_on : {S F : Type 0} (act : Action S F) (us vs : List Use) (x y : S) → run act x us ≡ Ok y → run act x (us ++ vs) ≡ run act y vs

@@ -1,1 +1,2 @@
 pub mod SignalBits
+pub mod ConstantBits

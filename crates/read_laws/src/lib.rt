@@ -3,4 +3,4 @@
 
 mod laws;
 
-pub use laws::signals_by_parts;
+pub use laws::{constants_agree, signals_by_parts};

@@ -1,18 +1,18 @@
 -- The filled keys of a shard after its calls.
-use Rattle.std.proofs.Common.{◌≡◌, ℕ, List, [], ◌∷◌, ◌++◌, Option, Some, None, Bool, true, false, ◌&&◌, ◌||◌, cond, true≢false, refl, sym, ap, ◌∙◌, subst, filter}
+use Rattle.std.proofs.Common.{◌≡◌, ℕ, List, [], ◌∷◌, ◌++◌, Some, None, Bool, true, false, ◌&&◌, ◌||◌, cond, true≢false, refl, sym, ap, ◌∙◌, filter}
 use Rattle.std.specs.Prelude.{◌≢◌}
 use Rattle.std.specs.Option.{is_some}
 use Rattle.std.specs.Str.{bytes_eq}
 use Rattle.rtl_sig.specs.Names.{has_name}
 use Rattle.result_cache.specs.declared.call.Act.{Act}
-use Rattle.result_cache.specs.declared.call.Act.TheVariants.{Hit, Busy, Yours, Fill, GiveBack}
+use Rattle.result_cache.specs.declared.call.Act.TheVariants.{Hit, Yours}
 use Rattle.result_cache.specs.declared.call.Call.{Call}
 use Rattle.result_cache.specs.declared.call.Kept.{Kept}
-use Rattle.result_cache.specs.Filled.{with_key, in_rising_order, filled_keys, HoldsNone}
-use Rattle.result_cache.specs.History.{Mode, free, held, filled, State, all_free, cache_step, mode_after, state_from, state_after, call}
+use Rattle.result_cache.specs.Filled.{with_key, filled_keys, HoldsNone}
+use Rattle.result_cache.specs.History.{free, held, State, all_free, cache_step, mode_after, state_from, state_after, call}
 use Rattle.result_cache.specs.Stored.{Contents, look_up, value_of, value_at, mode_at, KeepsValues, AddsCall}
 use Rattle.result_cache.proofs.Keys.{bytes_same, bytes_true}
-use Rattle.result_cache.proofs.Rising.{AreRising, rising_order, among_with, among_order, among_filtered, same_rising, with_known}
+use Rattle.result_cache.proofs.Rising.{rising_order, among_with, among_order, among_filtered, same_rising, with_known}
 
 -- a key with a value is among the keys
 valued_among : {V : Type 0} (keys : List (List ℕ)) (kept : List (Kept V)) (q : List ℕ) → is_some (look_up None value_of keys kept q) ≡ true → has_name keys q ≡ true

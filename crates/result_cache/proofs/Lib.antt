@@ -7,3 +7,11 @@ pub mod Holders
 pub mod Rising
 pub mod FilledKeys
 pub mod NewKeys
+pub mod Histories
+pub mod Steps
+pub mod Turns
+pub mod Opening
+pub mod Meeting
+pub mod Spending
+pub mod Dealing
+pub mod Idle

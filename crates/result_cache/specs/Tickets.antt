@@ -1,5 +1,5 @@
 -- Tickets and fillings, as a history has them.
-use Rattle.std.specs.Prelude.{ℕ, ◌+◌, List, [], ◌∷◌, Bool, true, false, if◌then◌else◌, ◌==◌}
+use Rattle.std.specs.Prelude.{◌≡◌, ℕ, ◌+◌, List, [], ◌∷◌, Bool, true, false, if◌then◌else◌, ◌==◌}
 use Rattle.std.specs.Str.{bytes_eq}
 use Rattle.result_cache.specs.declared.call.Act.{Act}
 use Rattle.result_cache.specs.declared.call.Act.TheVariants.{Hit, Busy, Yours, Fill, GiveBack}
@@ -65,3 +65,11 @@ fillings GiveBack = 0
 abbrev pub times_filled : List ℕ → List Call → ℕ
 times_filled key [] = 0
 times_filled key (c ∷ calls) = (if bytes_eq c.key key then fillings c.act else 0) + times_filled key calls
+
+-- a seat that made these calls has no ticket
+abbrev pub HoldsNoTicket : List Call → Type 0
+HoldsNoTicket calls = (key : List ℕ) → has_ticket calls key ≡ false
+
+-- a seat that made these calls has the ticket of this key, and no other
+abbrev pub HoldsOnly : List ℕ → List Call → Type 0
+HoldsOnly key calls = (q : List ℕ) → has_ticket calls q ≡ bytes_eq key q

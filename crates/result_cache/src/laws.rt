@@ -1,15 +1,17 @@
 //! Laws of legal histories, and what holds of every shard.
 
-ghost use Rattle.std.specs.Prelude.{◌≡◌, ◌↔◌, ◌≤◌, ◌+◌, ◌++◌, ℕ, List, Some, true, if◌then◌else◌, IfSome, IsSome};
+ghost use Rattle.std.specs.Prelude.{◌≡◌, ◌↔◌, ◌≤◌, ◌+◌, ◌++◌, ◌∷◌, [], ℕ, List, Some, true, if◌then◌else◌, IfSome, IsSome};
 ghost use Rattle.std.specs.Option.{is_some};
 ghost use Rattle.std.specs.Str.{bytes_eq};
 ghost use Rattle.rtl_sig.specs.Names.{AreDistinct, has_name};
 ghost use Rattle.result_cache.specs.History.{held, filled, state_after, IsFilled, IsLegal};
-ghost use Rattle.result_cache.specs.Tickets.{calls_by, has_ticket, times_filled, given, returned};
+ghost use Rattle.result_cache.specs.History.{call};
+ghost use Rattle.result_cache.specs.declared.call.Act.TheVariants.{Hit, Busy, Yours, Fill, GiveBack};
+ghost use Rattle.result_cache.specs.Tickets.{calls_by, has_ticket, ticket_after, times_filled, given, returned, HoldsNoTicket, HoldsOnly};
 ghost use Rattle.result_cache.specs.Stored.{Contents, KeepsValues, value_at, mode_at, kept_mode, held_keys};
 ghost use Rattle.result_cache.specs.Filled.{filled_keys, with_key};
 
-use crate::call::Call;
+use crate::call::{Act, Call};
 use crate::keyed::Keyed;
 use crate::shard::Shard;
 
@@ -26,6 +28,24 @@ pub fn keys_are_filled_once()
 pub fn keys_have_one_holder()
     ensures own { (calls : List Call) (seat : ℕ) (key : List ℕ) → IsLegal calls → (state_after calls key ≡ held seat) ↔ (has_ticket (calls_by seat calls) key ≡ true) }
     ensures one { (calls : List Call) (a b : ℕ) (key : List ℕ) → IsLegal calls → has_ticket (calls_by a calls) key ≡ true → has_ticket (calls_by b calls) key ≡ true → a ≡ b }
+{}
+
+/// What a call of a seat does to its tickets: a claim that is answered `Yours` gives it the key's
+/// ticket, filling and giving back take that from it, and all else leaves its tickets as they are.
+pub fn tickets_follow_calls()
+    ensures each { (calls : List Call) (seat : ℕ) (key q : List ℕ) (act : Act) →
+        has_ticket (calls ++ call seat key act ∷ []) q ≡
+        (if bytes_eq key q then ticket_after act (has_ticket calls q) else has_ticket calls q) }
+    ensures hit { (calls : List Call) (seat number : ℕ) (key : List ℕ) → HoldsNoTicket calls →
+        HoldsNoTicket (calls ++ call seat key (Hit number) ∷ []) }
+    ensures busy { (calls : List Call) (seat by : ℕ) (key : List ℕ) → HoldsNoTicket calls →
+        HoldsNoTicket (calls ++ call seat key (Busy by) ∷ []) }
+    ensures yours { (calls : List Call) (seat : ℕ) (key : List ℕ) → HoldsNoTicket calls →
+        HoldsOnly key (calls ++ call seat key Yours ∷ []) }
+    ensures filled { (calls : List Call) (seat number : ℕ) (key : List ℕ) → HoldsOnly key calls →
+        HoldsNoTicket (calls ++ call seat key (Fill number) ∷ []) }
+    ensures given_back { (calls : List Call) (seat : ℕ) (key : List ℕ) → HoldsOnly key calls →
+        HoldsNoTicket (calls ++ call seat key GiveBack ∷ []) }
 {}
 
 /// The history of a shard is legal, and replayed from the start it gives what is kept of each key,

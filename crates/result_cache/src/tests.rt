@@ -7,9 +7,9 @@ use std::test::*;
 
 /// A value that keeps the key that it stands for, and a number that tells it from others.
 #[derive(Drop)]
-struct Built {
-    key: Text,
-    number: u32,
+pub(crate) struct Built {
+    pub(crate) key: Text,
+    pub(crate) number: u32,
 }
 
 impl Keyed for Built {
@@ -26,7 +26,7 @@ impl Keyed for Built {
 
 /// The reply to a claim, without its ticket.
 #[derive(Clone, Copy, Debug, PartialEq)]
-enum Reply {
+pub(crate) enum Reply {
     Hit(u32),
     Yours,
     Busy(u32),

@@ -1,0 +1,186 @@
+-- Answers to commands that change the design or the script.
+use Rattle.std.proofs.Common.{◌≡◌, ◌≢◌, inl, inr, ℕ, zero, suc, ◌≤◌, List, [], ◌++◌, Bool, true, false, cond, true≢false, Option, Some, None, Result, Ok, Err, length, slice_get, refl, sym, ap, subst, ◌∙◌}
+use Rattle.std.specs.Prelude.{IfOk, codes, replicate}
+use Rattle.rtl_bits.specs.declared.memory.Memory.{Memory}
+use Rattle.rtl_ir.specs.declared.module.Design.{Design}
+use Rattle.rtl_ir.specs.declared.module.Module.{Module}
+use Rattle.rtl_ir.specs.Fault.{Fault}
+use Rattle.rtl_ir.specs.Faults.{check_faults}
+use Rattle.rtl_check.specs.declared.fault.CheckFault.{CheckFault}
+use Rattle.rtl_check.specs.declared.fault.CheckFault.TheVariants as check
+use Rattle.rtl_check.specs.Finds.{IsFirst, first_answer}
+use Rattle.rtl_read.specs.declared.read_fault.ReadFault.{ReadFault}
+use Rattle.rtl_read.specs.declared.read_fault.ReadFault.TheVariants as faults
+use Rattle.rtl_read.specs.Reads.{Reads, IsFirstFault, OnFault}
+use Rattle.std.specs.Fmt.{decimal}
+use Rattle.rtl_readable.specs.Readable.{IsReadable}
+use Rattle.script_core.specs.declared.built.Built.{Built}
+use Rattle.script_core.specs.declared.word.Word.{Word}
+use Rattle.script_core.specs.Words.{script_of}
+use Rattle.result_cache.specs.Filled.{HoldsNone}
+use Rattle.reply_lines.specs.declared.reply.Reply.{Reply}
+use Rattle.reply_lines.specs.Lines.{check_words, counted, error_reply, ok_line, ok_reply, read_words}
+use Rattle.design_edit.specs.Modules.{PassesAt, with_modules, without_module}
+use Rattle.design_edit.specs.Places.{module_place}
+use Rattle.design_edit.proofs.Readings.{readable_edits}
+use Rattle.rtl_grammar.specs.Uses.{items_of}
+use Rattle.rtl_ir.specs.declared.limits.TheConstants.{MAX_MODULES}
+use Rattle.rtl_lex.specs.declared.place.Place.{Place}
+use Rattle.rtl_lex.specs.Items.{AreItems, Seen}
+use Rattle.rtl_lex.specs.Place.{place_text, start}
+use Rattle.rtl_write.proofs.Kept.{readable}
+use Rattle.design_edit.proofs.Naming.{has_none, has_one}
+use Rattle.rtl_ir.specs.Faults.Recursion.{place_named}
+use Rattle.std.proofs.lemmas.List.{length-replicate}
+use Rattle.std.specs.Option.{is_some}
+use Rattle.desk_core.specs.declared.results.Results.{Results}
+use Rattle.desk_core.specs.Answers.{IsEditAnswer, IsEdited, IsLoadAnswer, checked_answer, design_answer, refusal, remove_answer, script_answer, script_answer_by}
+use Rattle.desk_core.specs.Results.{AreSound}
+use Rattle.desk_core.specs.State.{State, answer}
+
+abbrev nones : ℕ → List (Option Built)
+nones n = replicate n None
+
+nothing_there : (n at : ℕ) (built : Built) → slice_get (nones n) at ≡ Some (Some built) → ⊥
+nothing_there zero at built h = absurd cc
+nothing_there (suc n) zero built h = absurd cc
+nothing_there (suc n) (suc at) built h = nothing_there n at built h
+
+length_none : (n : ℕ) → length (nones n) ≡ n
+length_none n = length-replicate n None
+
+-- results beside no module are sound for any readable design and any script
+pub sound_fresh : (design : Design) (script : List Word) (new : Results) → HoldsNone new.shard → IsReadable design
+    → new.found.items ≡ replicate (length design.modules) None → AreSound design script new
+sound_fresh design script new idle readable found = record {
+  readable = readable;
+  idle = idle;
+  beside = ap length found ∙ length_none (length design.modules);
+  own = λ at built is. absurd (nothing_there (length design.modules) at built (ap (λ (l : List (Option Built)). slice_get l at) (sym found) ∙ is));
+}
+
+pub first_is : (fault : CheckFault) (all : List Fault) → IsFirst fault all → (fault ≡ check.Memory → ⊥) → first_answer all ≡ Some fault
+first_is (check.Width s) all first other = first
+first_is (check.UnknownCell s) all first other = first
+first_is (check.UnsupportedCell s) all first other = first
+first_is (check.BadParameterOrPort s) all first other = first
+first_is (check.TooWide s) all first other = first
+first_is (check.TwoDrivers s) all first other = first
+first_is (check.BadPort s) all first other = first
+first_is (check.BadProcess s) all first other = first
+first_is (check.BadMemory s) all first other = first
+first_is (check.Recursion id) all first other = first
+first_is check.Memory all first other = absurd (other refl)
+
+-- a fault of a text that is no want of memory is the first
+pub is_first : (text : List ℕ) (fault : ReadFault) → OnFault {X = Design} (Err fault) (IsFirstFault text) → (fault ≡ faults.Memory → ⊥) → IsFirstFault text fault
+is_first text (faults.Lex place) first other = first
+is_first text (faults.Syntax place) first other = first
+is_first text (faults.Int place) first other = first
+is_first text (faults.Duplicate place) first other = first
+is_first text (faults.UnknownName place) first other = first
+is_first text (faults.Range place) first other = first
+is_first text (faults.Limit place) first other = first
+is_first text faults.Memory first other = absurd (other refl)
+
+-- a design without faults becomes the present one
+pub taken_design : (s after : State) (modules : List Module) (reply : Reply) → check_faults modules ≡ [] → reply ≡ ok_reply (ok_line (counted (codes "modules") (length modules)))
+    → after ≡ record s { design = record { modules = modules } } → answer reply after ≡ design_answer s modules
+taken_design s after modules reply fine is state =
+    ap (λ (r : Reply). answer r after) is
+    ∙ ap (answer (ok_reply (ok_line (counted (codes "modules") (length modules))))) state
+    ∙ sym (ap (λ (fs : List Fault). checked_answer s modules (first_answer fs)) fine)
+
+-- the design that the check handed on is the one that it was given
+pub accepted_design : (s after : State) (checked design : Design) (r : Result Reply Memory) → checked ≡ design
+    → IfOk r (λ reply. answer reply after ≡ design_answer s checked.modules) → IfOk r (λ reply. answer reply after ≡ design_answer s design.modules)
+accepted_design s after checked design (Ok reply) same is = is ∙ ap (λ (d : Design). design_answer s d.modules) same
+accepted_design s after checked design (Err memory) same is = tt
+
+-- a design with a fault is refused
+pub refused_design : (s : State) (modules : List Module) (fault : CheckFault) (r : Result Reply Memory) → IsFirst fault (check_faults modules) → IfOk r (λ reply. fault ≢ check.Memory)
+    → IfOk r (λ reply. reply ≡ error_reply (check_words fault)) → IfOk r (λ reply. answer reply s ≡ design_answer s modules)
+refused_design s modules fault (Ok reply) first other is =
+    ap (λ (r : Reply). answer r s) is ∙ sym (ap (checked_answer s modules) (first_is fault (check_faults modules) first other))
+refused_design s modules fault (Err memory) first other is = tt
+
+-- the answer to the design of a text is one to the text
+pub loaded : (s after : State) (text : List ℕ) (design : Design) (r : Result Reply Memory) → Reads text design
+    → IfOk r (λ reply. answer reply after ≡ design_answer s design.modules) → IfOk r (λ reply. IsLoadAnswer s text (answer reply after))
+loaded s after text design (Ok reply) reads is = inl (design, reads, is)
+loaded s after text design (Err memory) reads is = tt
+
+pub edited : (s after : State) (text : List ℕ) (design : Design) (r : Result Reply Memory) → Reads text design
+    → IfOk r (λ reply. IsEdited s text design (answer reply after)) → IfOk r (λ reply. IsEditAnswer s text (answer reply after))
+edited s after text design (Ok reply) reads is = inl (design, reads, is)
+edited s after text design (Err memory) reads is = tt
+
+-- a text with a fault is refused
+pub refused_load : (s : State) (text : List ℕ) (fault : ReadFault) (r : Result Reply Memory) → OnFault {X = Design} (Err fault) (IsFirstFault text) → IfOk r (λ reply. fault ≢ faults.Memory)
+    → IfOk r (λ reply. reply ≡ error_reply (read_words fault)) → IfOk r (λ reply. IsLoadAnswer s text (answer reply s))
+refused_load s text fault (Ok reply) first other is = inr (fault, is_first text fault first other, ap (λ (r : Reply). answer r s) is)
+refused_load s text fault (Err memory) first other is = tt
+
+pub refused_edit : (s : State) (text : List ℕ) (fault : ReadFault) (r : Result Reply Memory) → OnFault {X = Design} (Err fault) (IsFirstFault text) → IfOk r (λ reply. fault ≢ faults.Memory)
+    → IfOk r (λ reply. reply ≡ error_reply (read_words fault)) → IfOk r (λ reply. IsEditAnswer s text (answer reply s))
+refused_edit s text fault (Ok reply) first other is = inr (fault, is_first text fault first other, ap (λ (r : Reply). answer r s) is)
+refused_edit s text fault (Err memory) first other is = tt
+
+-- a script becomes the present one
+pub taken_script : (s after : State) (words : List Word) (reply : Reply) → reply ≡ ok_reply (ok_line (counted (codes "script") (length words)))
+    → after ≡ record s { script = words } → answer reply after ≡ script_answer_by s (Ok words)
+taken_script s after words reply is state = ap (λ (r : Reply). answer r after) is ∙ ap (answer (ok_reply (ok_line (counted (codes "script") (length words))))) state
+
+pub read_script : (s after : State) (text : List ℕ) (words : List Word) (r : Result Reply Memory) → script_of text ≡ Ok words
+    → IfOk r (λ reply. answer reply after ≡ script_answer_by s (Ok words)) → IfOk r (λ reply. answer reply after ≡ script_answer s text)
+read_script s after text words (Ok reply) reads is = is ∙ ap (script_answer_by s) (sym reads)
+read_script s after text words (Err memory) reads is = tt
+
+pub refused_script : (s : State) (text : List ℕ) (number : ℕ) (r : Result Reply Memory) → script_of text ≡ Err number
+    → IfOk r (λ reply. reply ≡ error_reply (codes "19 " ++ decimal number)) → IfOk r (λ reply. answer reply s ≡ script_answer s text)
+refused_script s text number (Ok reply) bad is = ap (λ (r : Reply). answer r s) is ∙ ap (script_answer_by s) (sym bad)
+refused_script s text number (Err memory) bad is = tt
+
+-- a module that is there is taken away, and one that is not is an error
+pub removed : (s after : State) (name : List ℕ) (r : Result Reply Memory) (place : Option ℕ) → place ≡ place_named s.design.modules name → is_some place ≡ true
+    → IfOk r (λ reply. answer reply after ≡ design_answer s (without_module s.design.modules name)) → IfOk r (λ reply. answer reply after ≡ remove_answer s name)
+removed s after name (Err memory) place is there answered = tt
+removed s after name (Ok reply) None is there answered = absurd (true≢false (sym there))
+removed s after name (Ok reply) (Some at) is there answered =
+    answered ∙ sym (ap (λ (b : Bool). cond b (design_answer s (without_module s.design.modules name)) (refusal s (codes "18 " ++ name))) (has_one s.design.modules name at (sym is)))
+
+pub not_removed : (s : State) (name : List ℕ) (r : Result Reply Memory) (place : Option ℕ) → place ≡ place_named s.design.modules name → is_some place ≡ false
+    → IfOk r (λ reply. reply ≡ error_reply (codes "18 " ++ name)) → IfOk r (λ reply. answer reply s ≡ remove_answer s name)
+not_removed s name (Err memory) place is none answered = tt
+not_removed s name (Ok reply) (Some at) is none answered = absurd (true≢false none)
+not_removed s name (Ok reply) None is none answered =
+    ap (λ (r : Reply). answer r s) answered
+    ∙ sym (ap (λ (b : Bool). cond b (design_answer s (without_module s.design.modules name)) (refusal s (codes "18 " ++ name))) (has_none s.design.modules name (sym is)))
+
+-- edits that leave no more modules than a design may have
+pub taken_edits : (s after : State) (text : List ℕ) (edits : Design) (modules : List Module) (r : Result Reply Memory) → modules ≡ with_modules s.design.modules edits.modules → length modules ≤ MAX_MODULES
+    → IfOk r (λ reply. answer reply after ≡ design_answer s modules) → IfOk r (λ reply. IsEdited s text edits (answer reply after))
+taken_edits s after text edits modules (Err memory) are few answered = tt
+taken_edits s after text edits modules (Ok reply) are few answered =
+    inl (subst (λ (l : List Module). length l ≤ MAX_MODULES) are few, answered ∙ ap (design_answer s) are)
+
+-- edits that leave too many
+pub refused_edits : (s : State) (text : List ℕ) (edits : Design) (at : ℕ) (place : Place) (r : Result Reply Memory) → Reads text edits → PassesAt s.design.modules edits.modules at
+    → ((items : List Seen) → AreItems items text start false → place ≡ module_place items at)
+    → IfOk r (λ reply. reply ≡ error_reply (codes "17 " ++ place_text place)) → IfOk r (λ reply. IsEdited s text edits (answer reply s))
+refused_edits s text edits at place (Err memory) reads passes is answered = tt
+refused_edits s text edits at place (Ok reply) reads passes is answered =
+    inr (
+      at,
+      items_of reads.uses,
+      passes,
+      reads.tokens,
+      ap (λ (r : Reply). answer r s) answered ∙ ap (λ (p : Place). refusal s (codes "17 " ++ place_text p)) (is (items_of reads.uses) reads.tokens),
+    )
+
+-- the edited design is such as a text can give
+pub readable_edited : (text : List ℕ) (modules : List Module) (edits : Design) (all : List Module) → IsReadable (record { modules = modules }) → Reads text edits → all ≡ with_modules modules edits.modules → length all ≤ MAX_MODULES
+    → IsReadable (record { modules = all })
+readable_edited text modules edits all h reads are few =
+    subst (λ (l : List Module). IsReadable (record { modules = l })) (sym are)
+    (readable_edits modules edits.modules h (readable text edits reads) (subst (λ (l : List Module). length l ≤ MAX_MODULES) are few))

@@ -1,0 +1,12 @@
+pub mod Rises
+pub mod Lists
+pub mod Finding
+pub mod Outcomes
+pub mod Told
+pub mod Going
+pub mod Taking
+pub mod Changing
+pub mod Starting
+pub mod Showing
+pub mod Simulating
+pub mod Sending

@@ -1,0 +1,81 @@
+-- Results may go to another thread, and be looked at by several.
+use denote.Param.Send.{IsSend, IsSync, sendable}
+use denote.Param.SendFields.{declared_send, declared_sync, variants_send, variants_sync}
+use Rattle.std.proofs.Crossing.{crosses}
+use Rattle.rtl_bits.proofs.seq.Seq.TheSendSync as seqs
+use Rattle.rtl_bits.proofs.text.Text.TheSendSync as texts
+use Rattle.rtl_sig.proofs.sig.SigSpec.TheSendSync as signals
+use Rattle.rtl_ir.proofs.cell.Cell.TheSendSync as cells
+use Rattle.rtl_ir.proofs.module.Link.TheSendSync as links
+use Rattle.rtl_ir.proofs.module.Parameter.TheSendSync as parameters
+use Rattle.rtl_ir.proofs.process.Case.TheLaws.TheKnot as tree
+use Rattle.rtl_ir.proofs.process.SyncRule.TheSendSync as rules
+use Rattle.rtl_ir.proofs.store.Store.TheSendSync as stores
+use Rattle.rtl_ir.proofs.value.Attribute.TheSendSync as attributes
+use Rattle.rtl_ir.proofs.wire.Wire.TheSendSync as wires
+use Rattle.rtl_ir.specs.contracts.module.Module as modules
+use Rattle.rtl_ir.specs.contracts.process.Case as cases
+use Rattle.rtl_ir.specs.contracts.process.Process as processes
+use Rattle.script_core.proofs.key.Key.TheSendSync as keys
+use Rattle.script_core.proofs.word.Word.TheSendSync as words
+use Rattle.script_core.specs.contracts.built.Built as results
+use Rattle.script_core.specs.contracts.outcome.Outcome as outcomes
+use Rattle.desk_core.specs.contracts.kept.Kept as kept
+
+-- what a module is made of
+ruleset parts = (
+  texts.the_send,
+  texts.the_sync,
+  seqs.the_send,
+  seqs.the_sync,
+  signals.the_send,
+  signals.the_sync,
+  attributes.the_send,
+  attributes.the_sync,
+  links.the_send,
+  links.the_sync,
+  parameters.the_send,
+  parameters.the_sync,
+  wires.the_send,
+  wires.the_sync,
+  stores.the_send,
+  stores.the_sync,
+  cells.the_send,
+  cells.the_sync,
+  rules.the_send,
+  rules.the_sync,
+)
+
+case_send : IsSend cases.the_row
+case_send = search (sendable, crosses, parts, tree.crosses) depth 40
+
+case_sync : IsSync cases.the_row
+case_sync = search (sendable, crosses, parts, tree.crosses) depth 40
+
+process_send : IsSend processes.the_row
+process_send = search (sendable, crosses, parts, case_send) depth 40
+
+process_sync : IsSync processes.the_row
+process_sync = search (sendable, crosses, parts, case_sync) depth 40
+
+module_send : IsSend modules.the_row
+module_send = search (sendable, crosses, parts, process_send) depth 60
+
+module_sync : IsSync modules.the_row
+module_sync = search (sendable, crosses, parts, process_sync) depth 60
+
+outcome_send : IsSend outcomes.the_row
+outcome_send = variants_send outcomes.enum ((module_send, tt), ((words.the_send, tt), tt))
+
+outcome_sync : IsSync outcomes.the_row
+outcome_sync = variants_sync outcomes.enum ((module_sync, tt), ((words.the_sync, tt), tt))
+
+built_send : IsSend results.the_row
+built_send = declared_send results.the_type (keys.the_send, (outcome_send, tt))
+
+built_sync : IsSync results.the_row
+built_sync = declared_sync results.the_type (keys.the_sync, (outcome_sync, tt))
+
+-- a result that is shared by a counter
+pub kept_send : IsSend kept.the_row
+kept_send = search (sendable, crosses, built_send, built_sync) depth 40

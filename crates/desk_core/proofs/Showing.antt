@@ -1,0 +1,61 @@
+-- Answers by the module of a name.
+use Rattle.std.proofs.Common.{◌≡◌, ℕ, List, ◌++◌, Option, Some, None, Result, Ok, Err, get_or, sym, ap, ◌∙◌}
+use Rattle.std.specs.Prelude.{IfOk, codes}
+use Rattle.std.specs.Fmt.{decimal}
+use Rattle.std.specs.Option.{option_map_or}
+use Rattle.std.proofs.lemmas.Option.{slice_get-get_or}
+use Rattle.rtl_bits.specs.declared.bit.Bit.{Bit}
+use Rattle.rtl_bits.specs.declared.memory.Memory.{Memory}
+use Rattle.rtl_ir.specs.declared.module.Module.{Module}
+use Rattle.rtl_ir.specs.Faults.Recursion.{place_named}
+use Rattle.rtl_write.specs.Text.{module_text}
+use Rattle.design_edit.proofs.Naming.{named_at, place_within, unnamed}
+use Rattle.reply_lines.specs.declared.reply.Reply.{Reply}
+use Rattle.reply_lines.specs.Lines.{error_reply}
+use Rattle.sim_trace.specs.Stimulus.{stimulus_of}
+use Rattle.desk_core.specs.Answers.{by_module, by_stimulus, printed_reply, refusal, show_answer, source_answer, source_reply, unchanged}
+use Rattle.desk_core.specs.State.{Answer, State, answer}
+
+pub by_found : (s : State) (name : List ℕ) (at : ℕ) (m : Module) (f : Module → Answer) → Some at ≡ place_named s.design.modules name → m ≡ get_or s.design.modules at m → by_module s name f ≡ f m
+by_found s name at m f place is =
+    ap (λ (o : Option Module). option_map_or f o (refusal s (codes "18 " ++ name)))
+    (named_at s.design.modules name at m (sym place) ∙ slice_get-get_or s.design.modules at m (place_within s.design.modules name at m (sym place)) ∙ ap Some (sym is))
+
+pub by_none : (s : State) (name : List ℕ) (f : Module → Answer) → None ≡ place_named s.design.modules name → by_module s name f ≡ refusal s (codes "18 " ++ name)
+by_none s name f place = ap (λ (o : Option Module). option_map_or f o (refusal s (codes "18 " ++ name))) (unnamed s.design.modules name (sym place))
+
+-- a name that no module has
+pub unknown : (s : State) (name : List ℕ) (f : Module → Answer) (r : Result Reply Memory) → None ≡ place_named s.design.modules name
+    → IfOk r (λ reply. reply ≡ error_reply (codes "18 " ++ name)) → IfOk r (λ reply. answer reply s ≡ by_module s name f)
+unknown s name f (Err memory) place is = tt
+unknown s name f (Ok reply) place is = ap (λ (r : Reply). answer r s) is ∙ sym (by_none s name f place)
+
+-- the source of a module is shown
+pub shown : (s : State) (name : List ℕ) (at : ℕ) (m : Module) (r : Result Reply Memory) → Some at ≡ place_named s.design.modules name → m ≡ get_or s.design.modules at m
+    → IfOk r (λ reply. reply ≡ printed_reply (codes "") (module_text m)) → IfOk r (λ reply. answer reply s ≡ show_answer s name)
+shown s name at m (Err memory) place is told = tt
+shown s name at m (Ok reply) place is told = ap (λ (r : Reply). answer r s) told ∙ sym (by_found s name at m (λ n. unchanged s (printed_reply (codes "") (module_text n))) place is)
+
+-- the source of a module is run
+pub sourced : (s : State) (name text : List ℕ) (at : ℕ) (m : Module) (stimulus : List (List Bit)) (r : Result Reply Memory) → Some at ≡ place_named s.design.modules name → m ≡ get_or s.design.modules at m
+    → stimulus_of m text ≡ Ok stimulus → IfOk r (λ reply. reply ≡ source_reply s m stimulus) → IfOk r (λ reply. answer reply s ≡ source_answer s name text)
+sourced s name text at m stimulus (Err memory) place is reads told = tt
+sourced s name text at m stimulus (Ok reply) place is reads told =
+    ap (λ (r : Reply). answer r s) told
+    ∙ sym (by_found s name at m (λ n. by_stimulus s (stimulus_of n text) (λ stimulus. unchanged s (source_reply s n stimulus))) place is
+    ∙ ap (λ (o : Result (List (List Bit)) ℕ). by_stimulus s o (λ stimulus. unchanged s (source_reply s m stimulus))) reads)
+
+-- a line of the stimulus is bad
+pub bad_line : (s : State) (name text : List ℕ) (at : ℕ) (m : Module) (number : ℕ) (run : Module → List (List Bit) → Answer) (r : Result Reply Memory) → Some at ≡ place_named s.design.modules name → m ≡ get_or s.design.modules at m
+    → stimulus_of m text ≡ Err number → IfOk r (λ reply. reply ≡ error_reply (codes "23 " ++ decimal number))
+    → IfOk r (λ reply. answer reply s ≡ by_module s name (λ n. by_stimulus s (stimulus_of n text) (run n)))
+bad_line s name text at m number run (Err memory) place is bad told = tt
+bad_line s name text at m number run (Ok reply) place is bad told =
+    ap (λ (r : Reply). answer r s) told
+    ∙ sym (by_found s name at m (λ n. by_stimulus s (stimulus_of n text) (run n)) place is
+    ∙ ap (λ (o : Result (List (List Bit)) ℕ). by_stimulus s o (run m)) bad)
+
+-- a reply that is equal to another
+pub told_same : (r : Result Reply Memory) (a b : Reply) → a ≡ b → IfOk r (λ reply. reply ≡ a) → IfOk r (λ reply. reply ≡ b)
+told_same (Ok reply) a b same is = is ∙ same
+told_same (Err memory) a b same is = tt

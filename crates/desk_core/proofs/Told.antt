@@ -1,0 +1,95 @@
+-- Replies by what is told where the netlist is needed.
+use Rattle.std.proofs.Common.{◌≡◌, ℕ, ◌-◌, List, ◌++◌, Option, Some, None, Result, Ok, Err, length, refl, sym, ap, subst, ◌∙◌}
+use Rattle.std.specs.Prelude.{IfOk, OnErr, codes}
+use Rattle.rtl_bits.specs.declared.memory.Memory.{Memory}
+use Rattle.rtl_ir.specs.declared.module.Design.{Design}
+use Rattle.rtl_write.specs.Text.{text_of}
+use Rattle.result_cache.specs.Filled.{filled_keys, with_keys}
+use Rattle.result_cache.proofs.NewKeys.{still_among}
+use Rattle.rtl_sig.specs.Names.{has_name}
+use Rattle.script_core.specs.declared.outcome.Outcome.{Outcome}
+use Rattle.script_core.specs.declared.word.Word.{Word}
+use Rattle.script_core.specs.Cold.{cold}
+use Rattle.reply_lines.specs.declared.reply.Reply.{Reply}
+use Rattle.reply_lines.specs.Lines.{counted, error_reply, ok_line, ok_reply}
+use Rattle.desk_core.specs.declared.results.Results.{Results}
+use Rattle.desk_core.specs.declared.runs.Told.{Told}
+use Rattle.desk_core.specs.declared.runs.Told.TheVariants.{Built, Over}
+use Rattle.desk_core.specs.Answers.{print_answer, printed_reply, run_answer}
+use Rattle.desk_core.specs.Builds.{HasStill, KeepsAll}
+use Rattle.desk_core.specs.Netlist.{all_kept, built_count, built_words, done_modules, key_texts, netlist_answer, netlist_of, over_words, unless_over}
+use Rattle.desk_core.specs.Results.{AreFound, AreSound, over_of, state_of}
+use Rattle.desk_core.specs.State.{State, answer}
+use Rattle.desk_core.specs.Told.{told_by, told_of}
+use Rattle.desk_core.proofs.Outcomes.{over_cold}
+
+-- where it is told what was built, no module passes a limit
+pub reply_built : (s : State) (f : List ℕ → Reply) (words : List ℕ) (over : Option (List ℕ)) → Built words ≡ told_by (built_words s) over → f words ≡ unless_over s (f (built_words s)) over
+reply_built s f words None h = let e : words ≡ built_words s = cc in ap f e
+reply_built s f words (Some o) h = absurd cc
+
+pub none_over_built : (s : State) (words : List ℕ) (over : Option (List ℕ)) → Built words ≡ told_by (built_words s) over → over ≡ None
+none_over_built s words None h = refl
+none_over_built s words (Some o) h = absurd cc
+
+-- where the words of an error are told, the reply is that error
+pub reply_over : (s : State) (reply : Reply) (words : List ℕ) (over : Option (List ℕ)) → Over words ≡ told_by (built_words s) over → error_reply words ≡ unless_over s reply over
+reply_over s reply words None h = absurd cc
+reply_over s reply words (Some o) h = let e : words ≡ o ++ built_words s = cc in ap error_reply e
+
+-- what is told of results that are found
+pub told_is : (s : State) (words : List ℕ) (over : Option (List ℕ)) (built : ℕ) (r : Result Told Memory) → IfOk r (λ told. told ≡ told_by words over)
+    → words ≡ counted (codes "built") built ++ counted (codes "reused") (length s.design.modules - built) → built ≡ built_count s
+    → over ≡ over_words s.design.modules (cold s.script s.design) → IfOk r (λ told. told ≡ told_of s)
+told_is s words over built (Err memory) is are count first = tt
+told_is s words over built (Ok told) is are count first =
+    is ∙ ap (λ (w : List ℕ). told_by w over) (are ∙ ap (λ (b : ℕ). counted (codes "built") b ++ counted (codes "reused") (length s.design.modules - b)) count)
+    ∙ ap (told_by (built_words s)) first
+
+pub told_over : (design : Design) (script : List Word) (results : Results) (over : Option (List ℕ)) → AreSound design script results → AreFound results → over ≡ over_of design.modules results.found.items
+    → over ≡ over_words design.modules (cold script design)
+told_over design script results over sound found is = is ∙ over_cold design script results sound found
+
+-- a state in which all keys of the design are kept
+pub all_are_kept : (design : Design) (script : List Word) (old new : Results) → filled_keys new.shard ≡ with_keys (filled_keys old.shard) (key_texts script design.modules)
+    → state_of design script new ≡ all_kept (state_of design script old)
+all_are_kept design script old new is = ap (λ (kept : List (List ℕ)). record { design = design; script = script; kept = kept }) is
+
+-- the answers to `run`
+pub run_built : (s after : State) (words : List ℕ) (reply : Reply) → Built words ≡ told_of s → reply ≡ ok_reply (ok_line words) → after ≡ all_kept s → answer reply after ≡ run_answer s
+run_built s after words reply told is state =
+    ap (λ (r : Reply). answer r after) (is ∙ reply_built s (λ w. ok_reply (ok_line w)) words (over_words s.design.modules (cold s.script s.design)) told)
+    ∙ ap (answer (run_answer s).reply) state
+
+pub answer_over : (s after : State) (words : List ℕ) (other : Reply) (r : Result Reply Memory) → Over words ≡ told_of s → IfOk r (λ reply. reply ≡ error_reply words) → after ≡ all_kept s
+    → IfOk r (λ reply. answer reply after ≡ netlist_answer s other)
+answer_over s after words other (Err memory) told is state = tt
+answer_over s after words other (Ok reply) told is state =
+    ap (λ (r : Reply). answer r after) (is ∙ reply_over s other words (over_words s.design.modules (cold s.script s.design)) told)
+    ∙ ap (answer (netlist_answer s other).reply) state
+
+-- the answer to `print`
+pub print_built : (s after : State) (words : List ℕ) (outcomes : List Outcome) (r : Result Reply Memory) → Built words ≡ told_of s → outcomes ≡ cold s.script s.design
+    → IfOk r (λ reply. reply ≡ printed_reply words (text_of (record { modules = done_modules outcomes }))) → after ≡ all_kept s → IfOk r (λ reply. answer reply after ≡ print_answer s)
+print_built s after words outcomes (Err memory) told are is state = tt
+print_built s after words outcomes (Ok reply) told are is state =
+    ap (λ (r : Reply). answer r after)
+    (is ∙ ap (λ (os : List Outcome). printed_reply words (text_of (record { modules = done_modules os }))) are
+    ∙ reply_built s (λ w. printed_reply w (text_of (netlist_of s))) words (over_words s.design.modules (cold s.script s.design)) told)
+    ∙ ap (answer (print_answer s).reply) state
+
+-- what a command that finds no memory leaves
+pub keeps_all : (design : Design) (script : List Word) (old new : Results) → HasStill (filled_keys old.shard) (filled_keys new.shard) → KeepsAll (state_of design script old) (state_of design script new)
+keeps_all design script old new still = record { design = refl; script = refl; kept = still }
+
+pub keeps_same : (before after : State) → after ≡ before → KeepsAll before after
+keeps_same before after same = subst (KeepsAll before) (sym same) record { design = refl; script = refl; kept = λ text is. is }
+
+-- what is kept before the results are found is kept after it
+pub still_kept : (design : Design) (script : List Word) (old new : Results) → filled_keys new.shard ≡ with_keys (filled_keys old.shard) (key_texts script design.modules) → HasStill (filled_keys old.shard) (filled_keys new.shard)
+still_kept design script old new is = λ text known. ap (λ (l : List (List ℕ)). has_name l text) is ∙ still_among (filled_keys old.shard) (key_texts script design.modules) text known
+
+-- what holds anyhow holds after an error
+pub on_err : {T P : Type 0} (r : Result T Memory) → P → OnErr r P
+on_err (Ok value) p = tt
+on_err (Err memory) p = p

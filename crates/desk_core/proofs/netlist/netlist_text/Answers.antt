@@ -1,0 +1,8 @@
+use Rattle.std.proofs.Common.{◌≤◌, length, min, arith}
+use Rattle.desk_core.proofs.Outcomes.{texts_end}
+use Rattle.desk_core.proofs.netlist.netlist_text.Goals as goal
+
+pub returns : goal.returns
+returns c =
+    let past : min (length c.args.modules.now) (length c.args.found.now) ≤ c.loop-at.at = omega arith in
+    record { value = texts_end c.args.modules.now c.args.found.now c.loop-at.at c.loop-at.out _ past c.loop-at.invariant }

@@ -1,0 +1,19 @@
+-- Results and states as their parts: by their codes one is told from any other.
+use Rattle.std.specs.Prelude.{ℕ, List, refl}
+use Rattle.std.specs.Coded.{Coded, code_by, coded×, coded_list, coded_ℕ}
+use Rattle.rtl_ir.specs.declared.module.Design.{Design}
+use Rattle.rtl_ir.specs.contracts.module.Design as designs
+use Rattle.script_core.specs.declared.built.Built.{Built}
+use Rattle.script_core.specs.contracts.built.Built as results
+use Rattle.script_core.specs.declared.word.Word.{Word}
+use Rattle.script_core.specs.contracts.word.Word as words
+use Rattle.desk_core.specs.State.{State}
+
+abbrev pub result_code : Coded Built
+result_code = results.the_row.coded
+
+abbrev pub state_code : Coded State
+state_code =
+    code_by (Design × (List Word × List (List ℕ)))
+    (coded× designs.the_row.coded (coded× (coded_list words.the_row.coded) (coded_list (coded_list coded_ℕ))))
+    (λ s. (s.design, (s.script, s.kept))) (λ p. record { design = p.0; script = p.1.0; kept = p.1.1 }) (λ _. refl)

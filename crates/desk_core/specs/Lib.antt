@@ -1,0 +1,9 @@
+pub mod Standing
+pub mod State
+pub mod Codes
+pub mod Netlist
+pub mod Answers
+pub mod Step
+pub mod Builds
+pub mod Results
+pub mod Told

@@ -1,0 +1,23 @@
+-- The state of a desk: a machine of one thread, without a cache.
+use Rattle.std.specs.Prelude.{ℕ, List, []}
+use Rattle.rtl_ir.specs.declared.module.Design.{Design}
+use Rattle.reply_lines.specs.declared.reply.Reply.{Reply}
+use Rattle.script_core.specs.declared.word.Word.{Word}
+
+-- the present design, the script, and the texts of the kept keys in rising order, each once
+pub record State : Type 0 where
+  pub design : Design
+  pub script : List Word
+  pub kept : List (List ℕ)
+
+-- the state at the start: the empty design, and no key is kept
+abbrev pub first_state : List Word → State
+first_state script = record { design = record { modules = [] }; script = script; kept = [] }
+
+-- what a command gives: a reply, and the state after it
+pub record Answer : Type 0 where
+  pub reply : Reply
+  pub after : State
+
+abbrev pub answer : Reply → State → Answer
+answer reply after = record { reply = reply; after = after }

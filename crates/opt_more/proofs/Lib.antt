@@ -1,0 +1,14 @@
+pub mod FoldBits
+pub mod Seeing
+pub mod Gathering
+pub mod Changing
+pub mod Fitting
+pub mod OtherCells
+pub mod FoldCells
+pub mod FoldSteps
+pub mod Reducing
+pub mod Sweeping
+pub mod MuxBits
+pub mod MuxSteps
+pub mod Muxing
+pub mod MuxSweeping
