@@ -13,7 +13,7 @@ import tempfile
 from growth import FAMILIES, TOP
 
 PASSES = 'proc; opt; fsm -encoding one-hot; opt; memory; opt; techmap; opt'
-MEMBERS = [('switches', 64), ('switches', 256), ('switches', 512), ('coder', 1_024), ('memories', 64), ('adders', 600),
+MEMBERS = [('switches', 64), ('switches', 256), ('switches', 512), ('coder', 1_024), ('memories', 16), ('adders', 600),
            ('gates', 100_000), ('process_words', 500), ('modules', 400), ('modules', 4_096)]
 
 

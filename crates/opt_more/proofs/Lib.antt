@@ -9,6 +9,12 @@ pub mod FoldSteps
 pub mod Reducing
 pub mod Sweeping
 pub mod MuxBits
+pub mod RegisterBits
+pub mod RegisterSteps
+pub mod Registering
+pub mod Settling
+pub mod Enabling
 pub mod MuxSteps
 pub mod Muxing
 pub mod MuxSweeping
+pub mod DffSweeping

@@ -106,7 +106,7 @@ merge_right M x v h = tt
 merge_right Dash x v h = tt
 
 -- what two bits have in common is below each of them
-merge_first : (x y : Bit) → Below (merge_of x y) x
+pub merge_first : (x y : Bit) → Below (merge_of x y) x
 merge_first S0 S0 = refl
 merge_first S1 S1 = refl
 merge_first S0 S1 = tt
@@ -124,7 +124,7 @@ merge_first Z y = tt
 merge_first M y = tt
 merge_first Dash y = tt
 
-merge_second : (x y : Bit) → Below (merge_of x y) y
+pub merge_second : (x y : Bit) → Below (merge_of x y) y
 merge_second S0 S0 = refl
 merge_second S1 S1 = refl
 merge_second S0 S1 = tt
@@ -142,7 +142,7 @@ merge_second Z y = tt
 merge_second M y = tt
 merge_second Dash y = tt
 
-seen_first : (x : Bit) → Below (seen_of x) x
+pub seen_first : (x : Bit) → Below (seen_of x) x
 seen_first S0 = refl
 seen_first S1 = refl
 seen_first X = tt

@@ -4,4 +4,7 @@ pub mod Changed
 pub mod Reduce
 pub mod Gather
 pub mod Muxtree
+pub mod Starts
+pub mod Dff
+pub mod Registers
 pub mod Visits

@@ -1,19 +1,23 @@
-//! Further passes on folds and multiplexers: `reduce` and `muxtree`.
+//! Further passes on folds, multiplexers and registers: `reduce`, `muxtree` and `dff`.
 #![tactic(auto)]
 
 mod changed;
 mod folds;
 mod gather;
 mod inputs;
+mod kinds;
 mod muxes;
 mod others;
 mod places;
+mod registers;
+mod starts;
 mod sweep;
 
 ghost use Rattle.std.specs.Prelude.{◌≡◌, IfOk};
 ghost use Rattle.rtl_ir.specs.Types.{table_ports};
 ghost use Rattle.pass_laws.specs.Pass.{IsPass};
 ghost use Rattle.pass_laws.specs.Ready.{IsReady};
+ghost use Rattle.opt_more.specs.Dff.{dff_of};
 ghost use Rattle.opt_more.specs.Muxtree.{muxtree_of};
 ghost use Rattle.opt_more.specs.Reduce.{reduce_of};
 
@@ -43,5 +47,17 @@ pub fn muxtree(alloc: Global, module: &Module, ports: &PortTable) -> Result<Modu
     ensures pass { IfOk result (IsPass ports.now «module».now) }
 {
     let after = sweep(alloc, Pass::Muxtree, module.copy()?, ports)?;
+    Ok(after)
+}
+
+/// The module after one sweep over its registers that have a clock, an enable and a reset to a value at most: of those
+/// without a nonzero `\keep` each that always has one value goes, and one that is always enabled loses its enable. In
+/// the Yosys manual, the pass "opt_dff - perform DFF optimizations".
+pub fn dff(alloc: Global, module: &Module, ports: &PortTable) -> Result<Module, Memory>
+    requires ready { IsReady (table_ports ports.now.modules) «module».now }
+    ensures exact { IfOk result (λ after. after ≡ dff_of (table_ports ports.now.modules) «module».now) }
+    ensures pass { IfOk result (IsPass ports.now «module».now) }
+{
+    let after = sweep(alloc, Pass::Dff, module.copy()?, ports)?;
     Ok(after)
 }

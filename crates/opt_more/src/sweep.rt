@@ -4,19 +4,24 @@ ghost use Rattle.std.specs.Prelude.{◌≡◌, ◌++◌, [], List, IfOk, OnOk};
 ghost use Rattle.rtl_ir.specs.Types as rtl;
 ghost use Rattle.rtl_ir.specs.Types.{table_ports};
 ghost use Rattle.rtl_ir.specs.declared.cell.Cell.{Cell};
+ghost use Rattle.rtl_ir.specs.declared.wire.Wire.{Wire};
 ghost use Rattle.net_index.specs.Types.{AreTypes};
 ghost use Rattle.net_alias.specs.Aliases.{IsAliases};
 ghost use Rattle.opt_expr.specs.Places.{ArePlaces};
 ghost use Rattle.opt_expr.specs.Sweep.{standing};
 ghost use Rattle.opt_more.specs.Sweep.{swept_by, swept_of};
+ghost use Rattle.opt_more.specs.Registers.{visit_of};
+ghost use Rattle.opt_more.specs.Starts.{inits_of};
 ghost use Rattle.opt_more.specs.Visits.{visit_by};
 
 use crate::folds::reduced;
 use crate::muxes::muxed;
 use crate::places::{Places, places_of};
+use crate::registers::{Visited, registered};
+use crate::starts::inits;
 use net_alias::Aliases;
 use net_index::Types;
-use rtl_bits::{Memory, Seq};
+use rtl_bits::{Bits, Memory, Seq};
 use rtl_ir::{Cell, Link, Module, PortTable};
 use std::alloc::Global;
 use std::collections::VecDeque;
@@ -28,6 +33,8 @@ pub(crate) enum Pass {
     Reduce,
     /// Multiplexers pass those that choose by the same bit.
     Muxtree,
+    /// Registers that never change go, and those that are always enabled lose their enable.
+    Dff,
 }
 
 /// What a sweep leaves: the cells, each in its place unless it went, and the connections.
@@ -45,13 +52,15 @@ pub(crate) fn sweep(
     ports: &PortTable,
 ) -> Result<Module, Memory>
     ensures exact { IfOk result (λ after.
-        after ≡ swept_of (visit_by pass (table_ports ports.now.modules) «module».cells) «module») }
+        after ≡ swept_of (visit_by pass (table_ports ports.now.modules) «module».wires «module».cells) «module») }
 {
     let aliases = Aliases::of(alloc, &module)?;
+    let inits = inits(alloc, module.wires.as_slice())?;
     let swept = sweep_cells(
         alloc,
         pass,
         ports,
+        inits.as_slice(),
         aliases,
         module.cells.into_vec(),
         module.links,
@@ -69,14 +78,15 @@ fn sweep_cells(
     alloc: Global,
     pass: Pass,
     ports: &PortTable,
+    inits: &[Bits],
     aliases: Aliases,
     cells: Vec<Cell>,
     links: Seq<Link>,
 ) -> Result<Swept, Memory>
     requires aliases { IsAliases aliases links }
-    ensures swept { IfOk result (λ after.
+    ensures swept { IfOk result (λ after. (wires : List Wire) → inits.now ≡ inits_of wires →
         record { cells = after.slots.items; links = after.links } ≡
-        swept_by (visit_by pass (table_ports ports.now.modules) cells.items) [] cells.items links) }
+        swept_by (visit_by pass (table_ports ports.now.modules) wires cells.items) [] cells.items links) }
 {
     let types = Types::of_table(alloc, ports)?;
     let places = places_of(alloc, cells.as_slice())?;
@@ -88,6 +98,7 @@ fn sweep_cells(
         pass,
         &types,
         &places,
+        inits,
         &mut aliases,
         cells,
         &mut slots,
@@ -102,6 +113,7 @@ fn visit_all(
     pass: Pass,
     types: &Types,
     places: &Places,
+    inits: &[Bits],
     aliases: &mut Aliases,
     cells: Vec<Cell>,
     done: &mut Vec<Option<Cell>>,
@@ -110,9 +122,9 @@ fn visit_all(
     requires places { ArePlaces places.now cells.items }
     requires none { done.old.items ≡ [] }
     requires aliases { IsAliases aliases.old links.old }
-    ensures swept { OnOk result ((ports : rtl.Ports) → AreTypes types.now ports →
-        record { cells = done.new.items; links = links.new } ≡
-        swept_by (visit_by pass ports cells.items) [] cells.items links.old) }
+    ensures swept { OnOk result ((ports : rtl.Ports) (wires : List Wire) → AreTypes types.now ports →
+        inits.now ≡ inits_of wires → record { cells = done.new.items; links = links.new } ≡
+        swept_by (visit_by pass ports wires cells.items) [] cells.items links.old) }
 {
     let mut rest = VecDeque::from_vec(cells);
     while let Some(cell) = rest.pop_front() {
@@ -121,6 +133,7 @@ fn visit_all(
             pass,
             types,
             places,
+            inits,
             aliases,
             done.as_slice(),
             &rest,
@@ -139,18 +152,19 @@ fn visit(
     pass: Pass,
     types: &Types,
     places: &Places,
+    inits: &[Bits],
     aliases: &mut Aliases,
     done: &[Option<Cell>],
     rest: &VecDeque<Cell>,
     cell: Cell,
     links: &mut Seq<Link>,
 ) -> Result<Option<Cell>, Memory>
-    ensures cell { IfOk result (λ slot. (ports : rtl.Ports) (cells : List Cell) → AreTypes types.now ports →
-        ArePlaces places.now cells → IsAliases aliases.old links.old →
-        slot ≡ (visit_by pass ports cells done.now rest.now.items links.old cell).cell) }
-    ensures links { OnOk result ((ports : rtl.Ports) (cells : List Cell) → AreTypes types.now ports →
-        ArePlaces places.now cells → IsAliases aliases.old links.old →
-        links.new ≡ links.old ++ (visit_by pass ports cells done.now rest.now.items links.old cell).links) }
+    ensures cell { IfOk result (λ slot. (ports : rtl.Ports) (wires : List Wire) (cells : List Cell) → AreTypes types.now ports →
+        inits.now ≡ inits_of wires → ArePlaces places.now cells → IsAliases aliases.old links.old →
+        slot ≡ (visit_by pass ports wires cells done.now rest.now.items links.old cell).cell) }
+    ensures links { OnOk result ((ports : rtl.Ports) (wires : List Wire) (cells : List Cell) → AreTypes types.now ports →
+        inits.now ≡ inits_of wires → ArePlaces places.now cells → IsAliases aliases.old links.old →
+        links.new ≡ links.old ++ (visit_by pass ports wires cells done.now rest.now.items links.old cell).links) }
     ensures aliases { OnOk result (IsAliases aliases.old links.old → IsAliases aliases.new links.new) }
 {
     match pass {
@@ -161,6 +175,30 @@ fn visit(
         Pass::Muxtree => {
             let after = muxed(alloc, types, places, aliases, done, rest, cell)?;
             Ok(Some(after))
+        }
+        Pass::Dff => {
+            let visited = registered(alloc, types, inits, aliases, cell)?;
+            leave(visited, aliases, links)
+        }
+    }
+}
+
+/// What stays in the place of a cell. A connection that it leaves goes last.
+fn leave(
+    visited: Visited,
+    aliases: &mut Aliases,
+    links: &mut Seq<Link>,
+) -> Result<Option<Cell>, Memory>
+    ensures cell { IfOk result (λ slot. slot ≡ (visit_of visited).cell) }
+    ensures links { OnOk result (links.new ≡ links.old ++ (visit_of visited).links) }
+    ensures aliases { OnOk result (IsAliases aliases.old links.old → IsAliases aliases.new links.new) }
+{
+    match visited {
+        Visited::Stays(cell) => Ok(Some(cell)),
+        Visited::Goes(link) => {
+            aliases.connect(link.left.as_slice(), link.right.as_slice())?;
+            links.push(link)?;
+            Ok(None)
         }
     }
 }

@@ -40,10 +40,10 @@ use Rattle.read_laws.specs.ConstantBits.{is_constant, HasValue, takes_value, wit
 -- ---- the value
 
 -- the reader's value of the item
-abbrev value_read : Seen → Value → Type 0
+abbrev pub value_read : Seen → Value → Type 0
 value_read i v = reader.constant i.sort i ≡ Ok v
 
-is_read : (i : Seen) (v : Value) → HasValue i v → value_read i v
+pub is_read : (i : Seen) (v : Value) → HasValue i v → value_read i v
 is_read i (values.Bits bits signed) (sort, are, sign, fits) =
     ap (λ (s : Sort). reader.constant s i) sort
     ∙ ap (λ (b : Bool). if b then Err (faults.Limit i.place) else Ok (values.Bits (bits_of i.text) (is_signed i.text))) (le-ltb MAX_WIDTH (width_of i.text) fits)
@@ -57,7 +57,7 @@ is_read i (values.Chars text) (sort, are, fits) =
     (le-ltb MAX_WIDTH (8 * length (chars_of i.text)) (subst (λ (t : List ℕ). 8 * length t ≤ MAX_WIDTH) are fits))
     ∙ ap (λ (t : List ℕ). Ok (values.Chars t)) (sym are)
 
-has_constant : (i : Seen) (v : Value) → HasValue i v → is_constant i.sort ≡ true
+pub has_constant : (i : Seen) (v : Value) → HasValue i v → is_constant i.sort ≡ true
 has_constant i (values.Bits bits signed) h = ap is_constant h.0
 has_constant i (values.Int n) h = ap is_constant h.0
 has_constant i (values.Chars text) h = ap is_constant h.0

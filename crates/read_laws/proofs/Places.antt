@@ -12,7 +12,7 @@ use Rattle.read_laws.specs.SignalBits.{Written, Plain, At, Slice, Braced, Parts,
 
 -- ---- one list of places for the items
 
-same_uses : (us vs more other : List Use) (roles : List Expect) → Derives roles (roles_of (us ++ more)) → Derives roles (roles_of (vs ++ other)) → items_of us ≡ items_of vs → us ≡ vs
+pub same_uses : (us vs more other : List Use) (roles : List Expect) → Derives roles (roles_of (us ++ more)) → Derives roles (roles_of (vs ++ other)) → items_of us ≡ items_of vs → us ≡ vs
 same_uses [] [] more other roles d e same = refl
 same_uses [] (v ∷ vs) more other roles d e same = absurd cc
 same_uses (u ∷ us) [] more other roles d e same = absurd cc

@@ -42,7 +42,7 @@ run_on {S} {F} act (u ∷ us) vs x y e = first (act u.role u.item x) (λ n. run_
     first (Ok n) on e = on n e
     first (Err f) on e = absurd cc
 
-then_runs : {S F : Type 0} (act : Action S F) (us vs : List Use) (x y z : S) → run act x us ≡ Ok y → run act y vs ≡ Ok z → run act x (us ++ vs) ≡ Ok z
+pub then_runs : {S F : Type 0} (act : Action S F) (us vs : List Use) (x y z : S) → run act x us ≡ Ok y → run act y vs ≡ Ok z → run act x (us ++ vs) ≡ Ok z
 then_runs act us vs x y z e f = run_on act us vs x y e ∙ f
 
 -- ---- where a signal begins

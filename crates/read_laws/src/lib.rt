@@ -3,4 +3,6 @@
 
 mod laws;
 
-pub use laws::{constants_agree, signals_by_parts};
+pub use laws::{
+    constants_agree, processes_by_parts, rules_by_parts, signals_by_parts, trees_by_parts,
+};

@@ -1,5 +1,5 @@
 -- Gates in the places of the cells of a module are such as a text can give.
-use Rattle.std.proofs.Common.{◌≡◌, ◌≤◌, ℕ, ◌+◌, List, [], ◌∷◌, ◌++◌, length, Option, Some, None, sym, ◌∙◌, ap, subst, arith}
+use Rattle.std.proofs.Common.{◌≡◌, ◌≤◌, ℕ, ◌+◌, List, [], ◌∷◌, ◌++◌, length, length-append, Option, Some, None, sym, ◌∙◌, ap, subst, arith}
 use Rattle.std.specs.Prelude.{drop}
 use Rattle.std.specs.List.{All}
 use Rattle.std.proofs.Math.Seq.{drop-append_seam}
@@ -36,11 +36,12 @@ module _ (c : Cell) (b : Building) (is : IsCell b.body.wires c) where
   map_extends (Storage kind) shape = flops_extend c b is shape
   map_extends kind shape = bits_extend c b is shape
 
--- what stands in the places of cells: it comes with a step that adds, and has no further names
+-- what stands in the places of cells: it comes with a step that adds, and has no further names and no more cells
 record Stand (old new : Building) (cells stand : List Cell) : Type 0 where
   steps : Extends old new
   are : new.next ≤ 1000000000 → All (IsCell new.body.wires) stand
   few : (name : List ℕ) → times name (cell_names stand) + times name (cell_names old.body.cells) ≤ times name (cell_names cells) + times name (cell_names new.body.cells)
+  shortest : length stand + length old.body.cells ≤ length cells + length new.body.cells
 
 -- the names of cells in two parts
 names_both : (name : List ℕ) (xs ys : List Cell) → times name (cell_names (xs ++ ys)) ≡ times name (cell_names xs) + times name (cell_names ys)
@@ -51,6 +52,7 @@ one_stands c b is None = record {
   steps = extends_none b;
   are = λ short. All-cons (IsCell b.body.wires) c [] is (All-nil (IsCell b.body.wires));
   few = λ name. omega arith;
+  shortest = omega arith;
 }
 one_stands c b is (Some kind) =
     let new : Building = expand_by_kind kind c b in
@@ -64,6 +66,7 @@ one_stands c b is (Some kind) =
           let same : times name (cell_names (cells_added b new)) ≡ times name (cell_names steps.cells) = ap (λ z. times name (cell_names z)) added in
           let all : times name (cell_names new.body.cells) ≡ times name (cell_names b.body.cells) + times name (cell_names steps.cells) = ap (λ z. times name (cell_names z)) grown ∙ names_both name b.body.cells steps.cells in
           omega (arith, same, all);
+      shortest = omega (arith, ap (λ (z : List Cell). length z) added, ap (λ (z : List Cell). length z) grown, length-append b.body.cells steps.cells);
     }
 
 all_stand : (cs : List Cell) (b : Building) → All (IsCell b.body.wires) cs → Stand b (with_all_gates cs b) cs (stand_ins cs b)
@@ -71,6 +74,7 @@ all_stand [] b all = record {
   steps = extends_none b;
   are = λ short. All-nil (IsCell b.body.wires);
   few = λ name. omega arith;
+  shortest = omega arith;
 }
 all_stand (c ∷ cs) b all =
     let next : Building = with_gates (taken_kind c) c b in
@@ -86,6 +90,7 @@ all_stand (c ∷ cs) b all =
       few = λ name.
           let stand : times name (cell_names (stand_ins (c ∷ cs) b)) ≡ times name (cell_names here) + times name (cell_names (stand_ins cs next)) = names_both name here (stand_ins cs next) in
           omega (arith, stand, one.few name, rest.few name);
+      shortest = omega (arith, length-append here (stand_ins cs next), one.shortest, rest.shortest);
     }
 
 -- a module with gates in the places of its cells
@@ -106,3 +111,9 @@ techmap_reads m is short =
           (λ name. omega (arith, item_times name (techmap_of m), item_times name (beside m).body, stand.few name))
           all.distinct;
     }
+
+-- .. has no more cells than the module with them beside the cells that they replace
+pub techmap_fewer : (m : Module) → HasReadableItems m → length (techmap_of m).cells ≤ length (beside m).body.cells
+techmap_fewer m is =
+    let stand = all_stand m.cells (building_of m) is.cells in
+    omega (arith, stand.shortest)

@@ -6,18 +6,24 @@ use Rattle.synth_io.specs.declared.input.TheConstants.{LIMIT}
 use Rattle.rtl_ir.specs.declared.module.Design.{Design}
 use Rattle.rtl_ir.specs.Fault.{Fault}
 use Rattle.rtl_ir.specs.Faults.{check_faults}
+use Rattle.rtl_ir.specs.Faults.Recursion.{recursion_faults}
 use Rattle.rtl_check.specs.declared.fault.CheckFault.{CheckFault}
 use Rattle.rtl_check.specs.Finds.{first_answer}
 use Rattle.rtl_read.specs.declared.read_fault.ReadFault.{ReadFault}
 use Rattle.rtl_read.specs.declared.read_fault.ReadFault.TheVariants as faults
 use Rattle.rtl_read.specs.Reads.{Reads}
 use Rattle.rtl_write.proofs.Kept.{readable}
+use Rattle.rtl_write.proofs.Trip.{reads_design}
 use Rattle.rtl_write.specs.Text.{text_of}
 use Rattle.net_model.specs.Gates.{is_gate_netlist}
-use Rattle.net_model.specs.Refine.{Refines}
-use Rattle.script_core.specs.Cold.{cold, outcome_of}
+use Rattle.net_model.specs.Refine.{HasOneDriver, Refines}
+use Rattle.script_core.specs.Cold.{IsNetlist, cold, outcome_of}
 use Rattle.script_core.specs.Fold.{StartsWithProc}
 use Rattle.script_core.specs.Words.{default_script}
+use Rattle.readable_runs.specs.Short.{HasShortMemories}
+use Rattle.readable_runs.proofs.Cold.{cold_reads}
+use Rattle.readable_runs.proofs.Driven.{cold_driven}
+use Rattle.readable_runs.proofs.Recursion.{cold_unrecursive}
 use Rattle.script_core.proofs.Refining.{cold_gates, cold_refines}
 use Rattle.synth_run.specs.declared.over.Overrun.{Overrun}
 use Rattle.synth_run.specs.declared.program.Mode.{Mode}
@@ -34,7 +40,11 @@ record IsNetlistText (input text : List ℕ) : Type 0 where
   netlist : Design
   reads : Reads input design
   faultless : check_faults design.modules ≡ []
+  run : IsNetlist (cold default_script design) netlist
   whole : text ≡ text_of netlist
+  again : HasShortMemories design → Reads (text_of netlist) netlist
+  one_driver : HasOneDriver netlist
+  no_recursion : recursion_faults netlist.modules ≡ []
   refines : Refines design netlist
   gates : is_gate_netlist netlist ≡ true
 
@@ -65,14 +75,19 @@ of_cold input d reads fine = by (first_over d.modules (cold default_script d)) r
     by None e h =
         let n : Design = record { modules = done_modules (cold default_script d) } in
         let run = none_over (outcome_of default_script d.modules) d.modules e in
+        let is = readable input d reads in
         record {
           design = d;
           netlist = n;
           reads = reads;
           faultless = fine;
+          run = run;
           whole = refl;
-          refines = cold_refines d (readable input d reads) fine default_script stage n run;
-          gates = cold_gates d (readable input d reads) fine default_script stage refl n run;
+          again = λ short. reads_design n (cold_reads d is short fine default_script stage n run);
+          one_driver = cold_driven d is fine default_script stage n run;
+          no_recursion = cold_unrecursive d is fine default_script stage n run;
+          refines = cold_refines d is fine default_script stage n run;
+          gates = cold_gates d is fine default_script stage refl n run;
         }
     by (Some over) e h = absurd cc
 
@@ -110,7 +125,11 @@ refined_done mode (Some input) had has reply is written fine =
       netlist = n.netlist;
       reads = n.reads;
       faultless = n.faultless;
+      run = n.run;
       written = subst (Appends had has) n.whole written;
+      again = n.again;
+      one_driver = n.one_driver;
+      no_recursion = n.no_recursion;
       refines = n.refines;
       gates = n.gates;
     }

@@ -9,17 +9,19 @@ use Rattle.rtl_read.specs.declared.read_fault.ReadFault.{ReadFault}
 use Rattle.rtl_read.specs.declared.read_fault.ReadFault.TheVariants as faults
 use Rattle.rtl_read.specs.Reads.{Reads, IsFirstFault}
 use Rattle.rtl_ir.specs.Faults.{check_faults}
+use Rattle.rtl_ir.specs.Faults.Recursion.{recursion_faults}
 use Rattle.rtl_check.specs.declared.fault.CheckFault.{CheckFault}
 use Rattle.rtl_check.specs.Finds.{first_answer}
 use Rattle.rtl_check.specs.Words.{fault_number, fault_words}
 use Rattle.rtl_write.specs.Text.{text_of}
 use Rattle.net_model.specs.Gates.{is_gate_netlist}
-use Rattle.net_model.specs.Refine.{Refines}
+use Rattle.net_model.specs.Refine.{HasOneDriver, Refines}
 use Rattle.script_core.specs.declared.outcome.Outcome.{Outcome}
 use Rattle.script_core.specs.declared.word.Word.{Word}
 use Rattle.script_core.specs.declared.word.Word.TheVariants as scripts
-use Rattle.script_core.specs.Cold.{cold}
+use Rattle.script_core.specs.Cold.{IsNetlist, cold}
 use Rattle.script_core.specs.Words.{default_script}
+use Rattle.readable_runs.specs.Short.{HasShortMemories}
 use Rattle.synth_run.specs.declared.program.Mode.{Mode}
 use Rattle.synth_run.specs.declared.program.Mode.TheVariants.{Synth}
 use Rattle.synth_run.specs.declared.program.Status.{Status}
@@ -117,14 +119,20 @@ abbrev pub HasBegun : Mode → Option (List ℕ) → Option (List ℕ) → Optio
 HasBegun mode before had has =
     IfSome before (λ input. (said : Said) × IsReply mode input said × ((n : ℕ) × Appends had has (take n said.text)))
 
--- the netlist of the accepted design that an input is was written; it refines the design, and each of its cells is a gate or an
--- instance of one of its modules
+-- the netlist of the accepted design that an input is was written: it is what the default script makes of the design; no bit of
+-- it has two drivers, and no module stands in itself; it refines the design, and each of its cells is a gate or an instance of
+-- one of its modules; and it is what its text reads as, where no line of a process writes a memory of a longer name than a
+-- constant holds
 pub record IsRefinedBy (input : List ℕ) (had has : Option (List ℕ)) : Type 0 where
   pub design : Design
   pub netlist : Design
   pub reads : Reads input design
   pub faultless : check_faults design.modules ≡ []
+  pub run : IsNetlist (cold default_script design) netlist
   pub written : Appends had has (text_of netlist)
+  pub again : HasShortMemories design → Reads (text_of netlist) netlist
+  pub one_driver : HasOneDriver netlist
+  pub no_recursion : recursion_faults netlist.modules ≡ []
   pub refines : Refines design netlist
   pub gates : is_gate_netlist netlist ≡ true
 

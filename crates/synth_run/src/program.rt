@@ -144,8 +144,8 @@ pub fn run<S: Source, K: Sink, L: Send>(
         ((HasRisen (S.faults source.old) (S.faults source.new) → ⊥)
         → (HasRisen (K.faults sink.old) (K.faults sink.new) → ⊥) → IsCompleted result) }
 
-    // No known output bit of any module is lost in the netlist, whatever the stimulus, and the netlist is nothing but
-    // gates and instances.
+    // What is written is the text of the netlist that the default script makes of the design, and reads as it. No known
+    // output bit of any module is lost in it, whatever the stimulus, and it is nothing but gates and instances.
     ensures refines { result ≡ Status.Done → IfSome (S.left source.old) (λ input. IsRefinedBy input (K.held sink.old) (K.held sink.new)) }
     // The meter rises by at most one for each module of an accepted design, and for no other input.
     ensures builds { IfSome (S.left source.old) (λ input. CountsBuilds input meter.old meter.new) }

@@ -180,7 +180,7 @@ module _ {O T : Type 0} (does : ℕ → O → T → T → ℕ → Type 0) (fails
   finished output_fits count items gs ts us old now gone once fit put meter = record {
     len = len;
     fit = λ k o e. fits_in output_fits (all_done gs) k o fit (put_in (all_done gs) count k o (sym (ap (λ p. at p k) put) ∙ (at_some items k ∙ e)));
-    once = λ k. ap (times k) (concat_taken gs) ∙ exact k (below_or k count);
+    each_once = λ k. ap (times k) (concat_taken gs) ∙ exact k (below_or k count);
     ticks = all_ticks gs;
     went = all_went items gs ts us look (none_failed (all_failed gs) refl) gone;
     meter = meter;

@@ -39,17 +39,18 @@ AllWent does items (l ∷ ls) (t ∷ ts) (u ∷ us) n = (a : ℕ) × (b : ℕ) �
 AllWent does items ls ts us n = ⊥
 
 module _ {O T : Type 0} where
-  -- all jobs were done: the outputs by number, each of which fits; the lists of jobs hold each number below count once, and no other; each token is what the
-  -- jobs of its list make of it, and the meter rose by the sum of the ticks
+  -- all jobs were done: the outputs by number, each of which fits; the lists of jobs hold each number below count
+  -- once, and no other; each token is what the jobs of its list make of it, and the meter rose by the sum of the ticks
   pub record Finished (output_fits : ℕ → O → Type 0) (does : ℕ → O → T → T → ℕ → Type 0) (count : ℕ) (items : List O) (taken : List (List ℕ)) (ts us : List T) (old now : ℕ) : Type 0 where
     pub len : length items ≡ count
     pub fit : (k : ℕ) (o : O) → slice_get items k ≡ Some o → output_fits k o
-    pub once : (k : ℕ) → times k (concat taken) ≡ once_below k count
+    pub each_once : (k : ℕ) → times k (concat taken) ≡ once_below k count
     pub ticks : ℕ
     pub went : AllWent does items taken ts us ticks
     pub meter : now ≡ risen old ticks
 
-  -- it ended early: each token went through jobs and then at most one that failed, no number stands twice, and the meter rose by the sum of the ticks
+  -- it ended early: each token went through jobs and then at most one that failed, no number stands twice, and the
+  -- meter rose by the sum of the ticks
   pub record Stopped (does : ℕ → O → T → T → ℕ → Type 0) (fails : ℕ → T → T → ℕ → Type 0) (count : ℕ) (ts us : List T) (old now : ℕ) : Type 0 where
     pub ways : List (Way O)
     pub gone : AllGone does fails ways ts us

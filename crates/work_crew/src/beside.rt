@@ -25,11 +25,13 @@ pub fn work_beside<R: Threads + Wait + Sync, J: Job, G: Gate, L: Send>(
 )
     requires ready { AllReady (MayWork J.is_job J.token_fits jobs.now thieves.now) seats.old tokens.old }
     requires equal_lengths { length seats.old ≡ length tokens.old }
-    ensures { AllRan (HasWorked J.token_fits J.output_fits J.does J.fails jobs.now thieves.now) seats.old seats.new tokens.old tokens.new }
+    ensures { AllRan (HasWorked J.token_fits J.output_fits J.does J.fails jobs.now thieves.now)
+        seats.old seats.new tokens.old tokens.new }
 {
     let each = move |seat: &mut Seat<J::Output, L>, token: &mut J::Token|
         requires { MayWork J.is_job J.token_fits jobs.now thieves.now seat.now token.now }
-        ensures { HasWorked J.token_fits J.output_fits J.does J.fails jobs.entry.now thieves.entry.now seat.entry.now seat.exit.now token.entry.now token.exit.now }
+        ensures { HasWorked J.token_fits J.output_fits J.does J.fails jobs.entry.now thieves.entry.now
+            seat.entry.now seat.exit.now token.entry.now token.exit.now }
     { work(rt, jobs, gate, thieves, seat, token) };
     for_each_pair(rt, &each, seats, tokens);
 }
@@ -45,7 +47,8 @@ pub fn work_all<R: Threads + Wait + Sync, J: Job, G: Gate, L: Send>(
 )
     requires ready { AllReady (MayWork J.is_job J.token_fits jobs.now thieves.now) seats.old.items tokens.old }
     requires equal_lengths { length seats.old.items ≡ length tokens.old }
-    ensures { AllRan (HasWorked J.token_fits J.output_fits J.does J.fails jobs.now thieves.now) seats.old.items seats.new.items tokens.old tokens.new }
+    ensures { AllRan (HasWorked J.token_fits J.output_fits J.does J.fails jobs.now thieves.now)
+        seats.old.items seats.new.items tokens.old tokens.new }
 {
     work_beside(rt, jobs, gate, thieves, seats.as_mut_slice(), tokens);
 }

@@ -22,7 +22,7 @@ pub struct Outputs<J: Job> {
 }
 
 /// Does the jobs below `count`, by one worker for each token. The workers take the jobs from deques, steal from one
-/// another, and are joined before the call returns. A worker whose thread cannot be started works in the calling thread.
+/// another, and are joined before the call returns. One whose thread cannot be started works in the calling thread.
 ///
 /// `Memory` comes where a job was answered so, and where the crew itself got no memory.
 pub fn run_jobs<R: Threads + Wait + Sync, J: Job, G: Gate, L: Send>(
@@ -38,8 +38,10 @@ pub fn run_jobs<R: Threads + Wait + Sync, J: Job, G: Gate, L: Send>(
     requires tokens { All (J.token_fits jobs.now) tokens.old }
     requires limits { (0 < length tokens.old) × (length tokens.old ≤ 64) × (count ≤ 4096) }
     ensures tokens { All (J.token_fits jobs.now) tokens.new }
-    ensures ok { IfOk result (λ r. Finished (J.output_fits jobs.now) (J.does jobs.now) count r.items.items (map (λ v. v.items) r.taken.items) tokens.old tokens.new meter.old meter.new) }
-    ensures err { OnErr result (Stopped (J.does jobs.now) (J.fails jobs.now) count tokens.old tokens.new meter.old meter.new) }
+    ensures ok { IfOk result (λ r. Finished (J.output_fits jobs.now) (J.does jobs.now) count
+        r.items.items (map (λ v. v.items) r.taken.items) tokens.old tokens.new meter.old meter.new) }
+    ensures err { OnErr result (Stopped (J.does jobs.now) (J.fails jobs.now) count
+        tokens.old tokens.new meter.old meter.new) }
 {
     let room = room_for(alloc, tokens.len() as u32, count, meter)?;
     let Room {

@@ -106,7 +106,8 @@ pub fn put(owner: &mut Owner, job: u32) -> Result<(), Memory>
     requires port { worker_port owner.old ≡ 0 }
     requires unfixed { (worker_view owner.old).fixed ≡ false }
     ensures same { SameWorker owner.old owner.new }
-    ensures ok { IfOk result (λ r. worker_view owner.new ≡ hand false ((worker_view owner.old).put ++ job ∷ []) (worker_view owner.old).taken) }
+    ensures ok { IfOk result (λ r.
+        worker_view owner.new ≡ hand false ((worker_view owner.old).put ++ job ∷ []) (worker_view owner.old).taken) }
 {
     match owner.push_as::<Puts>(job) {
         Ok(()) => Ok(()),
@@ -118,7 +119,8 @@ pub fn put(owner: &mut Owner, job: u32) -> Result<(), Memory>
 pub fn take(owner: &mut Owner) -> Option<u32>
     requires { worker_flavor owner.old ≡ 0 }
     ensures same { SameWorker owner.old owner.new }
-    ensures rule { MatchOption result (worker_view owner.new ≡ worker_view owner.old) (λ x. Took (worker_view owner.old) (x ∷ []) (worker_view owner.new)) }
+    ensures rule { MatchOption result (worker_view owner.new ≡ worker_view owner.old)
+        (λ x. Took (worker_view owner.old) (x ∷ []) (worker_view owner.new)) }
 {
     owner.pop_as::<Takes>()
 }
@@ -127,7 +129,8 @@ pub fn take(owner: &mut Owner) -> Option<u32>
 pub fn steal(thief: &Thief, note: &mut Note) -> Steal<u32>
     requires { IsPassOf (stealer_deque thief.now) note.old }
     ensures same { IsPassOf (stealer_deque thief.now) note.new }
-    ensures rule { MatchSteal result (view note.new ≡ view note.old) (view note.new ≡ view note.old) (λ x. Took (view note.old) (x ∷ []) (view note.new)) }
+    ensures rule { MatchSteal result (view note.new ≡ view note.old) (view note.new ≡ view note.old)
+        (λ x. Took (view note.old) (x ∷ []) (view note.new)) }
 {
     thief.steal_as::<Takes>(note)
 }

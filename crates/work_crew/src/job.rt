@@ -35,8 +35,10 @@ pub trait Job: Sync {
         requires token { token_fits self.now token.old }
         ensures token { token_fits self.now token.new }
         ensures fits { IfOk result (λ o. output_fits self.now number o) }
-        ensures ok { IfOk result (λ o. (n : ℕ) × (meter.new ≡ risen meter.old n) × does self.now number o token.old token.new n) }
-        ensures err { OnErr result ((n : ℕ) × (meter.new ≡ risen meter.old n) × fails self.now number token.old token.new n) };
+        ensures ok { IfOk result (λ o. (n : ℕ) ×
+            (meter.new ≡ risen meter.old n) × does self.now number o token.old token.new n) }
+        ensures err { OnErr result ((n : ℕ) ×
+            (meter.new ≡ risen meter.old n) × fails self.now number token.old token.new n) };
 }
 
 /// What a worker calls before and after each job.

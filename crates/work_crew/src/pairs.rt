@@ -57,12 +57,16 @@ fn both_halves<R: Threads + Sync, S: Send, T: Send, F: Fn(&mut S, &mut T) + Sync
     ensures back { ChangesPairs F.Fn f.now back_slots.old back_slots.new back.old back.new }
 {
     let mut one = ||
-        requires { IsSync R.row × IsSync F.row × IsSend S.row × IsSend T.row × AcceptsPairs F.Fn f.now front_slots.now front.now }
-        ensures { ChangesPairs F.Fn f.entry.now front_slots.entry.now front_slots.exit.now front.entry.now front.exit.now }
+        requires { IsSync R.row × IsSync F.row × IsSend S.row × IsSend T.row ×
+            AcceptsPairs F.Fn f.now front_slots.now front.now }
+        ensures { ChangesPairs F.Fn f.entry.now
+            front_slots.entry.now front_slots.exit.now front.entry.now front.exit.now }
     { for_each_pair(rt, f, front_slots, front) };
     let mut two = ||
-        requires { IsSync R.row × IsSync F.row × IsSend S.row × IsSend T.row × AcceptsPairs F.Fn f.now back_slots.now back.now }
-        ensures { ChangesPairs F.Fn f.entry.now back_slots.entry.now back_slots.exit.now back.entry.now back.exit.now }
+        requires { IsSync R.row × IsSync F.row × IsSend S.row × IsSend T.row ×
+            AcceptsPairs F.Fn f.now back_slots.now back.now }
+        ensures { ChangesPairs F.Fn f.entry.now
+            back_slots.entry.now back_slots.exit.now back.entry.now back.exit.now }
     { for_each_pair(rt, f, back_slots, back) };
     join_mut(rt, &mut one, &mut two);
 }

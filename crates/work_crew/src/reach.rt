@@ -21,9 +21,11 @@ fn steal_at(thieves: &[Thief], notes: &mut Vec<Note>, at: usize) -> Steal<u32>
     requires paired { Paired thieves.now notes.old.items }
     requires in_range { at < length thieves.now }
     ensures paired { Paired thieves.now notes.new.items }
-    ensures taken { MatchSteal result (TakesNone notes.old.items notes.new.items) (TakesNone notes.old.items notes.new.items) (TakesOne notes.old.items notes.new.items) }
+    ensures taken { MatchSteal result (TakesNone notes.old.items notes.new.items)
+        (TakesNone notes.old.items notes.new.items) (TakesOne notes.old.items notes.new.items) }
     ensures same { puts_of notes.new.items ≡ puts_of notes.old.items }
-    ensures job { MatchSteal result (Unit {0}) (Unit {0}) (λ x. (n : ℕ) → AreBelow n (puts_of notes.old.items) → x < n) }
+    ensures job { MatchSteal result (Unit {0}) (Unit {0})
+        (λ x. (n : ℕ) → AreBelow n (puts_of notes.old.items) → x < n) }
 {
     steal(&thieves[at], &mut notes[at])
 }
@@ -39,7 +41,8 @@ fn steal_any<R: Wait>(
     requires paired { Paired thieves.now notes.old.items }
     requires number { (number < length thieves.now) × (length thieves.now ≤ 64) }
     ensures paired { Paired thieves.now notes.new.items }
-    ensures taken { MatchResult result (TakesOne notes.old.items notes.new.items) (λ empty. TakesNone notes.old.items notes.new.items) }
+    ensures taken { MatchResult result (TakesOne notes.old.items notes.new.items)
+        (λ empty. TakesNone notes.old.items notes.new.items) }
     ensures same { puts_of notes.new.items ≡ puts_of notes.old.items }
     ensures job { IfOk result (λ x. (n : ℕ) → AreBelow n (puts_of notes.old.items) → x < n) }
     ensures round { IfErr result (λ empty. empty + 1 ≡ length thieves.now) }
@@ -66,7 +69,8 @@ pub fn next_job<R: Wait>(rt: &R, thieves: &[Thief], reach: &mut Reach) -> Option
     requires { CanTake thieves.now reach.old }
     ensures can { CanTake thieves.now reach.new }
     ensures same { SameReach reach.old reach.new }
-    ensures taken { MatchOption result ((k : ℕ) → took k reach.new ≡ took k reach.old) (λ x. (k : ℕ) → took k reach.new ≡ took k reach.old + hit x k) }
+    ensures taken { MatchOption result ((k : ℕ) → took k reach.new ≡ took k reach.old)
+        (λ x. (k : ℕ) → took k reach.new ≡ took k reach.old + hit x k) }
     ensures job { IfSome result (λ x. (n : ℕ) → IsReachBelow n reach.old → x < n) }
 {
     if let Some(job) = take(&mut reach.owner) {

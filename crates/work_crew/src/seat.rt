@@ -58,7 +58,8 @@ pub fn work<R: Wait, J: Job, G: Gate, L: Send>(
     token: &mut J::Token,
 )
     requires { MayWork J.is_job J.token_fits jobs.now thieves.now seat.old token.old }
-    ensures { HasWorked J.token_fits J.output_fits J.does J.fails jobs.now thieves.now seat.old seat.new token.old token.new }
+    ensures { HasWorked J.token_fits J.output_fits J.does J.fails jobs.now thieves.now
+        seat.old seat.new token.old token.new }
 {
     while seat.worked.has_room() {
         let Some(job) = next_job(rt, thieves, &mut seat.reach) else {

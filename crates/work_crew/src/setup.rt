@@ -56,7 +56,8 @@ fn share(owners: &mut Vec<Owner>, row: &mut Vec<Note>)
     requires first { AllFirst owners.old.items }
     requires empty { row.old.items ≡ [] }
     requires room { vec_len owners.old ≤ vec_capacity row.old }
-    ensures capacity { (vec_capacity owners.new ≡ vec_capacity owners.old) × (vec_capacity row.new ≡ vec_capacity row.old) }
+    ensures capacity { (vec_capacity owners.new ≡ vec_capacity owners.old) ×
+        (vec_capacity row.new ≡ vec_capacity row.old) }
     ensures kept { KeepsOwners owners.old.items owners.new.items }
     ensures fixed { AllFixed owners.new.items }
     ensures noted { AreNoted owners.new.items row.new.items }
@@ -77,7 +78,8 @@ fn rows_for(alloc: Global, owners: &mut Vec<Owner>) -> Result<Vec<Vec<Note>>, Me
     ensures fixed { IfOk result (λ r. AllFixed owners.new.items) }
     ensures noted { IfOk result (λ r. AllNoted owners.new.items r.items) }
     ensures len { IfOk result (λ r. length r.items ≡ length owners.old.items) }
-    ensures capacity { IfOk result (λ r. (vec_capacity owners.new ≡ vec_capacity owners.old) × (length owners.old.items ≤ vec_capacity r)) }
+    ensures capacity { IfOk result (λ r.
+        (vec_capacity owners.new ≡ vec_capacity owners.old) × (length owners.old.items ≤ vec_capacity r)) }
 {
     let workers = owners.len();
     let mut rows = Vec::with_capacity(alloc, workers)?;
