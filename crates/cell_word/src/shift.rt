@@ -8,9 +8,9 @@ ghost use Rattle.cell_word.specs.Words.{word_of};
 ghost use Rattle.cell_word.specs.Shifts.{below_of, distance_of, moved_of, read_at, shifted_of};
 ghost use Rattle.cell_word.specs.Distances.{IsDistance, far_of, flipped, read_by};
 
-use crate::words::{at_or, fill, unknown};
+use crate::words::{are_known, at_or, fill, unknown};
 use cell_types::ShiftKind;
-use rtl_bits::{Bit, Bits, Memory, all_known, bit_not};
+use rtl_bits::{Bit, Bits, Memory, bit_not};
 use std::alloc::Global;
 
 /// Where a distance is cut off, past each width.
@@ -37,7 +37,7 @@ pub(crate) fn shifted(
     requires room { length a.now < 2 ^ 32 }
     ensures value { IfOk result (λ bits. bits ≡ shifted_of kind a_signed b_signed a.now b.now width) }
 {
-    if all_known(b) {
+    if are_known(b) {
         moved(
             alloc,
             kind,

@@ -2,9 +2,21 @@
 
 ghost use Rattle.std.specs.Prelude.{◌≡◌, List, false};
 ghost use Rattle.rtl_lex.specs.Items.{AreItems, Seen};
+ghost use Rattle.rtl_lex.specs.Place.{start};
 ghost use Rattle.design_edit.specs.Places.{is_module_word, module_place};
 
 use rtl_lex::{Place, Sort, next_item};
+
+/// The place where a text begins.
+fn start() -> Place
+    ensures value { result ≡ start }
+{
+    Place {
+        at: 0,
+        line: 1,
+        column: 1,
+    }
+}
 
 /// Whether an item of this sort is the word `module`.
 fn is_module_word(sort: Sort) -> bool

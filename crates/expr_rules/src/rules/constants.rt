@@ -2,6 +2,7 @@
 
 ghost use Rattle.std.specs.Prelude.{◌≡◌, IfOk, slice_index_or};
 ghost use Rattle.rtl_bits.specs.declared.bit.Bit.TheVariants.{X};
+ghost use Rattle.rtl_bits.specs.Knowledge.{all_known};
 ghost use Rattle.expr_rules.specs.Laws.{IsComputed};
 ghost use Rattle.expr_rules.specs.Rules.Constants.{constant_inputs, constant_value, known_value, value_by};
 
@@ -11,7 +12,7 @@ use crate::signals::{are_constant, constants, fixed};
 use cell_gate::gate_value;
 use cell_types::{CellKind, Shape};
 use cell_word::word_value;
-use rtl_bits::{Bit, Bits, Memory, all_known};
+use rtl_bits::{Bit, Bits, Memory};
 use std::alloc::Global;
 
 /// All inputs are constants: gives the value.
@@ -44,11 +45,18 @@ pub(crate) fn known_value(
     ensures value { IfOk result (λ change. change ≡ known_value shape.now o.now) }
 {
     let value = constant_value(alloc, shape, o)?;
-    if all_known(value.as_slice()) {
+    if are_known(value.as_slice()) {
         Ok(Some(Change::Gives(fixed(alloc, value.as_slice())?)))
     } else {
         Ok(None)
     }
+}
+
+/// Whether all bits are known.
+fn are_known(bits: &[Bit]) -> bool
+    ensures value { result ≡ all_known bits.now }
+{
+    bits.iter().all(|bit| bit.known())
 }
 
 /// The value of the cell with all bits that are not constant as x.

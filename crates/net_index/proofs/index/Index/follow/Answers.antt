@@ -2,7 +2,7 @@ use Rattle.std.proofs.Common.{◌∙◌, ap, sym}
 use Rattle.rtl_sig.specs.declared.sig.SigBit.TheVariants as sig
 use Rattle.rtl_ir.specs.Follow.{all_joins, follow}
 use Rattle.net_index.proofs.IndexEnds.{end_follows, fixed_follows}
-use Rattle.net_index.proofs.drivers.Drivers.follow.Goals as goal
+use Rattle.net_index.proofs.index.Index.follow.Goals as goal
 
 pub returns-in-Fixed : goal.returns-in-Fixed
 returns-in-Fixed c = record {
