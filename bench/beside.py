@@ -10,7 +10,7 @@ import subprocess
 import sys
 import tempfile
 
-from growth import FAMILIES, TOP
+from growth import FAMILIES, TOP, options
 
 PASSES = 'proc; opt; fsm -encoding one-hot; opt; memory; opt; techmap; opt'
 MEMBERS = [('switches', 64), ('switches', 256), ('switches', 512), ('coder', 1_024), ('memories', 16), ('adders', 600),
@@ -38,16 +38,8 @@ def used(words, text, most):
 
 
 def main():
-    program, most, names = os.path.join(TOP, 'crates', 'rtlsyn', 'out', 'rtlsyn'), 300, []
-    words = iter(sys.argv[1:])
-    for word in words:
-        if word == '--program':
-            program = next(words)
-        elif word == '--most':
-            most = int(next(words))
-        else:
-            names.append(word)
-    print("| Case | Bytes | User time | Greatest memory | Yosys: user time | Yosys: greatest memory | Share of time | Share of memory |")
+    program, most, names = options(os.path.join(TOP, 'crates', 'rtlsyn', 'out', 'rtlsyn'), 300.0)
+    print("| Case | Bytes of the text | User time | Greatest memory | Yosys: user time | Yosys: greatest memory | Share of time | Share of memory |")
     print('|---|---|---|---|---|---|---|---|')
     own, other = 0.0, 0.0
     for name, text in cases():

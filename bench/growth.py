@@ -199,8 +199,9 @@ def measure(program, most, family):
         print('| %s | exponent %.2f | | | | |' % (family, slope(points)), flush=True)
 
 
-def main():
-    program, most, families = os.path.join(TOP, 'rtlsyn'), 120.0, []
+def options(program, most):
+    """The program, the seconds and the names that the words of the call give, or these where they give none."""
+    names = []
     words = iter(sys.argv[1:])
     for word in words:
         if word == '--program':
@@ -208,7 +209,12 @@ def main():
         elif word == '--most':
             most = float(next(words))
         else:
-            families.append(word)
+            names.append(word)
+    return program, most, names
+
+
+def main():
+    program, most, families = options(os.path.join(TOP, 'rtlsyn'), 120.0)
     print('| Family | Size | Bytes of the text | Cells | User time | Greatest memory |\n|---|---|---|---|---|---|')
     for family in families or FAMILIES:
         measure([program], most, family)
