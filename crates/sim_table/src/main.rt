@@ -113,11 +113,12 @@ fn holds(alloc: Global, fields: &[&[u8]]) -> Result<bool, Memory> {
     }
 }
 
-/// Counts the rows at standard input and those of memories.
+/// Counts the rows at standard input, those of memories, and those of cells that select.
 fn tally_of(rt: &HostRuntime) -> Result<Tally, Memory> {
     let mut tally = Tally::make(rt.alloc());
     tally.read("standard input", rt.reader(), TEXTS, holds)?;
     tally.file(rt, "memories", TEXTS, holds)?;
+    tally.file(rt, "selects", TEXTS, holds)?;
     Ok(tally)
 }
 
