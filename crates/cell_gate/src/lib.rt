@@ -12,3 +12,4 @@ pub use control::{active, clock_before, edge, pick};
 pub use gate::gate_value;
 pub use pins::Pins;
 pub use storage::store_bit;
+pub use store::{reset_at, storage_kind};

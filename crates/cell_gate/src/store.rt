@@ -28,14 +28,15 @@ pub(crate) fn store_of(shape: &Shape, at: usize) -> Store
     }
 }
 
-fn storage_kind(kind: CellKind) -> StorageKind
-    requires storage { IsStorage kind }
+/// What a storage cell or storage gate stores as: the kind of storage cell that has its meaning. A cell of any other kind
+/// stores nothing, and is told as `$ff`.
+pub fn storage_kind(kind: CellKind) -> StorageKind
     ensures value { result ≡ storage_kind kind }
 {
     match kind {
         CellKind::Storage(storage) => storage,
         CellKind::StorageGate(gate) => gate_kind(gate),
-        _ => unreachable!(),
+        _ => StorageKind::Ff,
     }
 }
 
@@ -63,8 +64,9 @@ fn gate_kind(gate: StorageGate) -> StorageKind
     }
 }
 
-/// The bit that the reset of the kind gives at a place.
-fn reset_at(kind: StorageKind, resets: &Resets, at: usize) -> Bit
+/// The bit that the reset of a kind gives at a place: of ARST_VALUE for an asynchronous reset, of SRST_VALUE for a
+/// synchronous one; x where the kind has no reset, and past the end of the value.
+pub fn reset_at(kind: StorageKind, resets: &Resets, at: usize) -> Bit
     ensures value { result ≡ reset_at kind resets.now at }
 {
     match kind {

@@ -1,7 +1,6 @@
 //! The numbers that lists of bits stand for.
 
 ghost use Rattle.std.specs.Prelude.{◌≡◌, ◌+◌, ◌^◌, length, min, nat_lt, drop};
-ghost use Rattle.rtl_bits.specs.Knowledge.{all_known};
 ghost use Rattle.rtl_bits.specs.Numbers.{number_of};
 ghost use Rattle.cell_types.specs.Number.{digit_at};
 
@@ -9,18 +8,6 @@ use rtl_bits::Bit;
 
 /// Every number from this one on is read as this one.
 pub(crate) const MANY: u128 = 1 << 64;
-
-/// Whether all bits are known.
-pub(crate) fn is_number(bits: &[Bit]) -> bool
-    ensures value { result ≡ all_known bits.now }
-{
-    for bit in bits {
-        if !bit.known() {
-            return false;
-        }
-    }
-    true
-}
 
 /// The number that known bits stand for, or `MANY` where it is greater.
 pub(crate) fn number(bits: &[Bit]) -> u128

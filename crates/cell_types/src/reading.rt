@@ -6,8 +6,8 @@ ghost use Rattle.cell_types.specs.Reading.{is_readable, own_reading, port_readin
 use crate::given::{Param, number_in, value_in};
 use crate::kind::CellKind;
 use crate::memory::MemoryKind;
-use crate::number::is_number;
 use crate::param_name::ParamName;
+use rtl_bits::all_known;
 
 /// What is asked of a value.
 #[derive(Clone, Copy)]
@@ -28,8 +28,8 @@ pub(crate) fn is_readable(kind: CellKind, params: &[Param], name: ParamName) -> 
 {
     let value = value_in(params, name);
     match reading_of(kind, name) {
-        Reading::Width => is_number(value) && number_in(params, name) != 0,
-        Reading::Number => is_number(value),
+        Reading::Width => all_known(value) && number_in(params, name) != 0,
+        Reading::Number => all_known(value),
         Reading::Word => value.len() as u128 == number_in(params, ParamName::Width),
         Reading::Any => true,
     }

@@ -1,12 +1,12 @@
 //! The cells that choose or join words.
 
 ghost use Rattle.std.specs.Prelude.{◌≡◌, ◌<◌, ◌≤◌, ◌^◌, IfOk, IfSome, OnOk, length, ◌++◌, map, position};
-ghost use Rattle.rtl_bits.specs.Tables.{seen_of};
 ghost use Rattle.rtl_bits.specs.Numbers.{is_one};
+ghost use Rattle.rtl_bits.specs.Tables.{seen_of};
 ghost use Rattle.cell_word.specs.Choice.{bwmuxed_of, joined_of, muxed_of, part_of, picked_of, place_of, selected_of};
 
-use crate::words::{are_known, at_or, unknown};
-use rtl_bits::{Bit, Bits, Memory, bit_mux};
+use crate::words::{at_or, unknown};
+use rtl_bits::{Bit, Bits, Memory, all_known, bit_mux, is_one};
 use std::alloc::Global;
 
 /// A where S is 0, B where it is 1, else what the two have in common, bit by bit.
@@ -78,12 +78,6 @@ fn push_seen(bits: &mut Bits, more: &[Bit]) -> Result<(), Memory>
     Ok(())
 }
 
-fn is_one(bit: Bit) -> bool
-    ensures value { result ≡ is_one bit }
-{
-    bit == Bit::S1
-}
-
 /// A where no bit of S is 1, the part of B at the one that is, else all x.
 pub(crate) fn picked(
     alloc: Global,
@@ -95,7 +89,7 @@ pub(crate) fn picked(
     requires room { length s.now < 2 ^ 31 }
     ensures value { IfOk result (λ bits. bits ≡ picked_of a.now b.now s.now width) }
 {
-    if are_known(s) {
+    if all_known(s) {
         selected(alloc, a, b, s, width)
     } else {
         unknown(alloc, width)

@@ -12,4 +12,5 @@ mod shift;
 mod value;
 mod words;
 
+pub use shift::{Distance, below, read_distance};
 pub use value::word_value;

@@ -3,8 +3,8 @@
 ghost use Rattle.std.specs.Prelude.{◌≡◌, ◌<◌, ◌≤◌, ◌^◌, IfOk, OnOk, length, ◌++◌, map};
 ghost use Rattle.cell_word.specs.Parts.{bmuxed_bit, bmuxed_of, demuxed_of, may_be, may_be_digit, merged_with, placed_bit};
 
-use crate::words::{are_known, at_or};
-use rtl_bits::{Bit, Bits, Memory, bit_and, merge};
+use crate::words::at_or;
+use rtl_bits::{Bit, Bits, Memory, all_known, bit_and, merge};
 use std::alloc::Global;
 
 /// Whether the bit may be the digit, 0 or 1.
@@ -86,7 +86,7 @@ fn placed_bit(s: &[Bit], part: usize, bit: Bit) -> Bit
 {
     if !may_be(s, part) {
         Bit::S0
-    } else if are_known(s) {
+    } else if all_known(s) {
         bit.seen()
     } else {
         bit_and(Bit::X, bit)

@@ -8,19 +8,22 @@ ghost use Rattle.cell_word.specs.Words.{word_of};
 ghost use Rattle.cell_word.specs.Shifts.{below_of, distance_of, moved_of, read_at, shifted_of};
 ghost use Rattle.cell_word.specs.Distances.{IsDistance, far_of, flipped, read_by};
 
-use crate::words::{are_known, at_or, fill, unknown};
+use crate::words::{at_or, fill, unknown};
 use cell_types::ShiftKind;
-use rtl_bits::{Bit, Bits, Memory, bit_not};
+use rtl_bits::{Bit, Bits, Memory, all_known, bit_not};
 use std::alloc::Global;
 
 /// Where a distance is cut off, past each width.
 const FAR: u64 = 1 << 32;
 
-/// How far the places that are read lie above those that are written, or below them.
+/// How far the places that are read lie above those that are written, or below them; a distance past 2^32 places is cut
+/// to that, which is past each width.
 #[derive(Clone, Copy, Debug, PartialEq, Eq)]
-struct Distance {
-    below: bool,
-    size: u64,
+pub struct Distance {
+    /// Whether the places that are read lie below.
+    pub below: bool,
+    /// How many places apart they are.
+    pub size: u64,
 }
 
 /// The moved word, all x where a bit of B is unknown.
@@ -37,7 +40,7 @@ pub(crate) fn shifted(
     requires room { length a.now < 2 ^ 32 }
     ensures value { IfOk result (λ bits. bits ≡ shifted_of kind a_signed b_signed a.now b.now width) }
 {
-    if are_known(b) {
+    if all_known(b) {
         moved(
             alloc,
             kind,
@@ -113,8 +116,8 @@ fn read_at(kind: ShiftKind, signed: bool, a: &[Bit], width: usize, at: usize) ->
     }
 }
 
-/// What the kind reads below place 0.
-fn below(kind: ShiftKind) -> Bit
+/// What a shift of this kind reads below place 0 of its operand: x for `$shiftx`, else 0.
+pub fn below(kind: ShiftKind) -> Bit
     ensures value { result ≡ below_of kind }
 {
     match kind {
@@ -123,9 +126,10 @@ fn below(kind: ShiftKind) -> Bit
     }
 }
 
-/// The distance that known bits say.
+/// The distance that the known bits of B say for a shift of this kind: `$shl` and `$sshl` read below, `$shr` and `$sshr`
+/// above, `$shift` and `$shiftx` above by a number that may be signed. In the Yosys manual, the section "Shift cells".
 #[tactic(auto, using(crate::proofs::Distances::distance_down, crate::proofs::Distances::distance_up))]
-fn read_distance(kind: ShiftKind, signed: bool, b: &[Bit]) -> Distance
+pub fn read_distance(kind: ShiftKind, signed: bool, b: &[Bit]) -> Distance
     requires known { all_known b.now ≡ true }
     ensures value { IsDistance result (distance_of kind signed b.now) }
 {

@@ -1,11 +1,9 @@
 //! Words: lists of bits, the least significant first.
 
 ghost use Rattle.std.specs.Prelude.{◌≡◌, ◌<◌, IfOk, slice_index_or};
-ghost use Rattle.rtl_bits.specs.Knowledge.{all_known};
-ghost use Rattle.rtl_bits.specs.Numbers.{top_of};
 ghost use Rattle.cell_word.specs.Words.{extended_at, fill_of, one_bit_of, unknown_of};
 
-use rtl_bits::{Bit, Bits, Memory};
+use rtl_bits::{Bit, Bits, Memory, top_of};
 use std::alloc::Global;
 
 /// The word whose bits are all x.
@@ -31,19 +29,7 @@ pub(crate) fn one_bit(alloc: Global, bit: Bit, width: u32) -> Result<Bits, Memor
 pub(crate) fn fill(signed: bool, bits: &[Bit]) -> Bit
     ensures value { result ≡ fill_of signed bits.now }
 {
-    if signed { top(bits) } else { Bit::S0 }
-}
-
-/// The top bit, 0 where there is none.
-#[tactic(auto, using(crate::proofs::Places::top_of_last))]
-fn top(bits: &[Bit]) -> Bit
-    ensures value { result ≡ top_of bits.now }
-{
-    if bits.is_empty() {
-        Bit::S0
-    } else {
-        bits[bits.len() - 1]
-    }
+    if signed { top_of(bits) } else { Bit::S0 }
 }
 
 /// The bit at a place, the fill past the end.
@@ -51,11 +37,4 @@ pub(crate) fn at_or(bits: &[Bit], at: usize, fill: Bit) -> Bit
     ensures value { result ≡ slice_index_or bits.now at fill }
 {
     if at < bits.len() { bits[at] } else { fill }
-}
-
-/// Whether all bits are known.
-pub(crate) fn are_known(bits: &[Bit]) -> bool
-    ensures value { result ≡ all_known bits.now }
-{
-    bits.iter().all(|bit| bit.known())
 }

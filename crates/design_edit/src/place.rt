@@ -7,17 +7,6 @@ ghost use Rattle.design_edit.specs.Places.{is_module_word, module_place};
 
 use rtl_lex::{Place, Sort, next_item};
 
-/// The place where a text begins.
-fn start() -> Place
-    ensures value { result ≡ start }
-{
-    Place {
-        at: 0,
-        line: 1,
-        column: 1,
-    }
-}
-
 /// Whether an item of this sort is the word `module`.
 fn is_module_word(sort: Sort) -> bool
     ensures value { result ≡ is_module_word sort }
@@ -31,7 +20,7 @@ pub fn module_place(text: &[u8], number: usize) -> Place
     ensures value { (items : List Seen) → AreItems items text.now start false → result ≡ module_place items number }
 {
     let mut left = number;
-    let mut from = start();
+    let mut from = Place::start();
     let mut line = false;
     loop {
         let next = next_item(text, from, line);
@@ -40,7 +29,7 @@ pub fn module_place(text: &[u8], number: usize) -> Place
             return next.item.place;
         }
         let Some((place, ended)) = next.rest else {
-            return start();
+            return Place::start();
         };
         if found {
             left -= 1;

@@ -10,7 +10,7 @@ use Rattle.rtl_bits.specs.declared.bit.Bit.{Bit}
 use Rattle.rtl_bits.specs.declared.bit.Bit.TheVariants.{S0, X}
 use Rattle.rtl_sig.specs.declared.sig.SigBit.{SigBit}
 use Rattle.rtl_sig.specs.declared.sig.SigBit.TheVariants.{Fixed, Wire as OnWire}
-use Rattle.rtl_ir.specs.Signals.{is_all_constant, is_constant}
+use Rattle.rtl_ir.specs.Signals.{constant_of, is_all_constant, is_constant}
 use Rattle.cell_types.specs.declared.kind.CellKind.{CellKind}
 use Rattle.cell_types.specs.declared.kind.CellKind.TheVariants.{Gate}
 use Rattle.cell_types.specs.declared.shape.Shape.{Shape}
@@ -20,7 +20,7 @@ use Rattle.cell_word.specs.Values.{InputsBelow}
 use Rattle.net_model.specs.Value.{worked_of}
 use Rattle.expr_rules.specs.Laws.{IsReading, SaysAll, output_at, words_read}
 use Rattle.expr_rules.specs.Rules.Constants.{constant_inputs, constant_value, known_value, value_by}
-use Rattle.expr_rules.specs.Signals.{constant_of, constants_of}
+use Rattle.expr_rules.specs.Signals.{constants_of}
 use Rattle.expr_rules.specs.declared.change.Change.{Change}
 use Rattle.expr_rules.specs.declared.change.Change.TheVariants.{Gives}
 use Rattle.expr_rules.specs.declared.operands.Operands.{Operands}

@@ -23,41 +23,24 @@ use Rattle.cell_types.specs.declared.word.ShiftKind.{ShiftKind}
 use Rattle.cell_types.specs.declared.word.ShiftKind.TheVariants.{Sshr, Shiftx}
 use Rattle.cell_types.specs.declared.word.WordKind.{WordKind}
 use Rattle.cell_types.specs.declared.word.WordKind.TheVariants.{Shift}
-use Rattle.cell_word.specs.Distances.{far_of, flipped}
+use Rattle.cell_word.specs.Distances.{IsDistance}
 use Rattle.cell_word.specs.Integers.{integer_in}
 use Rattle.cell_word.specs.Shifts.{below_of}
 use Rattle.cell_word.specs.Sizes.{signed_of}
 use Rattle.cell_word.specs.Words as filled
 use Rattle.cell_word.proofs.Distances as words
-use Rattle.expr_rules.specs.Distances.{IsDistance, signal_by}
+use Rattle.expr_rules.specs.Distances.{signal_by}
 use Rattle.expr_rules.specs.Laws.{IsComputed}
 use Rattle.expr_rules.specs.Operands.{counted_as}
 use Rattle.expr_rules.specs.Rules.Shift.{moved_signal, signal_at, signal_from}
-use Rattle.expr_rules.specs.Signals.{constant_of, constants_of, is_known_constant}
+use Rattle.expr_rules.specs.Signals.{constants_of, is_known_constant}
+use Rattle.rtl_ir.specs.Signals.{constant_of}
 use Rattle.expr_rules.specs.declared.operands.Operands.{Operands}
-use Rattle.expr_rules.specs.declared.rules.shift.Distance.{Distance}
+use Rattle.cell_word.specs.declared.shift.Distance.{Distance}
 
 -- a word of one more place
 pub signals_more : (g : ℕ → SigBit) (n : ℕ) → map g (range_with_len 0 (n + 1)) ≡ map g (range_with_len 0 n) ++ g n ∷ []
 signals_more g n = map-range_with_len_more g 0 n n (omega arith)
-
-pub top_last : (bits : List Bit) (d : Bit) → 0 < length bits → top_of bits ≡ get_or bits (length bits - 1) d
-top_last = Numbers.top_of_last
-
-pub far_next : (inverse : Bool) (bits : List Bit) (i : ℕ) (d : Bit) → 0 < i → i ≤ length bits → min (2 * far_of inverse (drop i bits) + digit_of (flipped inverse (get_or bits (i - 1) d))) (2 ^ 32) ≡ far_of inverse (drop (i - 1) bits)
-far_next = words.far_here
-
-pub distance_down : (b : List Bit) → IsDistance (record { below = true; size = far_of false b }) (neg_ℤ (pos (number_of b)))
-distance_down b = let d = words.distance_down b in record { size = d.size; cut = d.cut; value = d.value }
-
-pub distance_up : (b : List Bit) → IsDistance (record { below = false; size = far_of false b }) (pos (number_of b))
-distance_up b = let d = words.distance_up b in record { size = d.size; cut = d.cut; value = d.value }
-
-pub distance_negative : (signed : Bool) (b : List Bit) → all_known b ≡ true → filled.fill_of signed b ≡ S1 → IsDistance (record { below = true; size = min (far_of true b + 1) (2 ^ 32) }) (integer_in signed b)
-distance_negative signed b k e = let d = words.distance_negative signed b k e in record { size = d.size; cut = d.cut; value = d.value }
-
-pub distance_positive : (signed : Bool) (b : List Bit) → (filled.fill_of signed b ≡ S1 → ⊥) → IsDistance (record { below = false; size = far_of false b }) (integer_in signed b)
-distance_positive signed b n = let d = words.distance_positive signed b n in record { size = d.size; cut = d.cut; value = d.value }
 
 -- known constants are known bits
 known_constant : (b : SigBit) (word : List SigBit) → is_known_constant b ≡ true → all_known (constants_of word) ≡ true → all_known (constants_of (b ∷ word)) ≡ true

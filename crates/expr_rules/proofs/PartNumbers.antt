@@ -26,7 +26,8 @@ use Rattle.expr_rules.specs.Change.{when}
 use Rattle.expr_rules.specs.Laws.{IsComputed}
 use Rattle.expr_rules.specs.Operands.{counted_as}
 use Rattle.expr_rules.specs.Rules.Parts.{number_in}
-use Rattle.expr_rules.specs.Signals.{constant_of, constants_of, is_known_constant}
+use Rattle.expr_rules.specs.Signals.{constants_of, is_known_constant}
+use Rattle.rtl_ir.specs.Signals.{constant_of}
 use Rattle.expr_rules.specs.declared.operands.Operands.{Operands}
 
 -- constants are known where their bits are

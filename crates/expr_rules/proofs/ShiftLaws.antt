@@ -24,7 +24,8 @@ use Rattle.cell_word.specs.Words.{extended_at, unknown_of}
 use Rattle.net_model.specs.Within.{Each}
 use Rattle.expr_rules.specs.Laws.{IsReading}
 use Rattle.expr_rules.specs.Rules.Shift.{known_shift, moved_signal, signal_at, signal_from}
-use Rattle.expr_rules.specs.Signals.{constant_of, constants_of, is_known_constant}
+use Rattle.expr_rules.specs.Signals.{constants_of, is_known_constant}
+use Rattle.rtl_ir.specs.Signals.{constant_of}
 use Rattle.expr_rules.specs.declared.change.Change.TheVariants.{Gives}
 use Rattle.expr_rules.specs.declared.operands.Operands.{Operands}
 use Rattle.expr_rules.proofs.Cases.{when_case}

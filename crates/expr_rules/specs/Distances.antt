@@ -1,18 +1,11 @@
--- Distances of shifts as the code holds them: a side and a size that is cut off far past each width.
-use Rattle.std.specs.Prelude.{◌≡◌, ℕ, ◌+◌, ◌-◌, ◌^◌, min, nat_le, Bool, if◌then◌else◌, ℤ, List}
+-- The bits that a shift reads at a distance.
+use Rattle.std.specs.Prelude.{ℕ, ◌+◌, ◌-◌, nat_le, Bool, if◌then◌else◌, List}
 use Rattle.cell_types.specs.declared.word.ShiftKind.{ShiftKind}
 use Rattle.cell_word.specs.Shifts.{below_of}
-use Rattle.cell_word.specs.Sizes.{signed_of}
 use Rattle.rtl_sig.specs.declared.sig.SigBit.{SigBit}
 use Rattle.rtl_sig.specs.declared.sig.SigBit.TheVariants.{Fixed}
 use Rattle.expr_rules.specs.Rules.Shift.{signal_at}
-use Rattle.expr_rules.specs.declared.rules.shift.Distance.{Distance}
-
--- a distance stands for an integer
-pub record IsDistance (d : Distance) (z : ℤ) : Type 0 where
-  pub size : ℕ
-  pub cut : min size (2 ^ 32) ≡ d.size
-  pub value : signed_of d.below size ≡ z
+use Rattle.cell_word.specs.declared.shift.Distance.{Distance}
 
 -- the bit that a kind reads for a place at a distance
 abbrev pub signal_by : ShiftKind → Bool → List SigBit → ℕ → Distance → ℕ → SigBit

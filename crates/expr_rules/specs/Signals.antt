@@ -6,11 +6,7 @@ use Rattle.rtl_bits.specs.declared.bit.Bit.TheVariants.{S0, S1, X, Z, M, Dash}
 use Rattle.rtl_bits.specs.Knowledge.{is_known}
 use Rattle.rtl_sig.specs.declared.sig.SigBit.{SigBit}
 use Rattle.rtl_sig.specs.declared.sig.SigBit.TheVariants.{Fixed, Wire as OnWire}
-
--- a constant as itself, any other bit as x
-abbrev pub constant_of : SigBit → Bit
-constant_of (Fixed b) = b
-constant_of (OnWire b) = X
+use Rattle.rtl_ir.specs.Signals.{constant_of}
 
 -- the bits of a word, those that are not constant as x
 abbrev pub constants_of : List SigBit → List Bit

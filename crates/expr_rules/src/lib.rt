@@ -9,3 +9,4 @@ mod signals;
 pub use change::{Change, NewCell};
 pub use operands::Operands;
 pub use rules::{RULES, Rule, first_fit};
+pub use signals::same_word;

@@ -1,12 +1,11 @@
 //! The operands of a cell, as they stand and as the rules mean them.
 
 ghost use Rattle.std.specs.Prelude.{◌≡◌, IfOk};
-ghost use Rattle.rtl_sig.specs.Signal.{extended, fill_of};
 ghost use Rattle.expr_rules.specs.Operands.{IsMeant, counted_as, counted_gate, meant_of, meant_signed, meant_width, operands_of};
 
 use cell_types::{BitwiseKind, CellKind, GateKind, Shape, UnaryKind, WordKind};
 use rtl_bits::{Bit, Memory};
-use rtl_sig::{SigBit, SigSpec};
+use rtl_sig::{SigBit, SigSpec, extended};
 use std::alloc::Global;
 
 /// The operands of a combinational cell. A pin that its kind lacks has no bits.
@@ -121,25 +120,5 @@ fn meant_signed(kind: WordKind, shape: &Shape) -> bool
     match kind {
         WordKind::Unary(_) => shape.signs.a,
         _ => shape.signs.a && shape.signs.b,
-    }
-}
-
-/// The signal cut to a width, or filled up with its top bit where it is signed, else with zeros.
-fn extended(alloc: Global, bits: &[SigBit], width: usize, signed: bool) -> Result<SigSpec, Memory>
-    ensures value { IfOk result (λ sig. sig ≡ extended bits.now width signed) }
-{
-    let fill = fill_of(bits, signed);
-    let mut wide = Vec::from_slice(alloc, bits)?;
-    wide.resize(width, fill)?;
-    SigSpec::from_vec(wide)
-}
-
-/// What fills a signal up: its top bit where it is signed, else 0.
-pub(crate) fn fill_of(bits: &[SigBit], signed: bool) -> SigBit
-    ensures value { result ≡ fill_of bits.now signed }
-{
-    match bits.last() {
-        Some(top) if signed => *top,
-        _ => SigBit::Fixed(Bit::S0),
     }
 }

@@ -1,64 +1,14 @@
 //! Words of constants and of bits of wires, and the tests that the rules make.
 
-ghost use Rattle.std.specs.Prelude.{◌≡◌, ◌<◌, ◌^◌, ◌++◌, IfOk, map, slice_index_or};
+ghost use Rattle.std.specs.Prelude.{◌≡◌, ◌<◌, ◌^◌, ◌++◌, IfOk, slice_index_or};
 ghost use Rattle.rtl_bits.specs.declared.bit.Bit.TheVariants.{X};
 ghost use Rattle.std.specs.List.{list_all};
 ghost use Rattle.rtl_sig.specs.declared.sig.SigBit.TheVariants.{Fixed};
-ghost use Rattle.rtl_ir.specs.Signals.{is_all_constant, is_constant};
-ghost use Rattle.expr_rules.specs.Signals.{code_of, constant_of, constants_of, filled, first_bit, is_bit, is_known_constant, is_one, is_unknown_constant, is_zero, part_of, same, same_word};
+ghost use Rattle.expr_rules.specs.Signals.{code_of, filled, first_bit, is_bit, is_known_constant, is_one, is_unknown_constant, is_zero, part_of, same, same_word};
 
-use rtl_bits::{Bit, Bits, Copied, Memory};
+use rtl_bits::{Bit, Copied, Memory};
 use rtl_sig::{SigBit, SigSpec};
 use std::alloc::Global;
-
-/// A constant as itself, any other bit as x.
-fn constant(bit: SigBit) -> Bit
-    ensures value { result ≡ constant_of bit }
-{
-    match bit {
-        SigBit::Fixed(value) => value,
-        SigBit::Wire(_) => Bit::X,
-    }
-}
-
-/// The bits of a word, those that are not constant as x.
-pub(crate) fn constants(alloc: Global, word: &[SigBit]) -> Result<Bits, Memory>
-    ensures value { IfOk result (λ bits. bits ≡ constants_of word.now) }
-{
-    let mut bits = Bits::make(alloc);
-    for bit in word {
-        bits.push(constant(*bit))?;
-    }
-    Ok(bits)
-}
-
-/// The word of these constants.
-pub(crate) fn fixed(alloc: Global, bits: &[Bit]) -> Result<SigSpec, Memory>
-    ensures value { IfOk result (λ word. word ≡ map Fixed bits.now) }
-{
-    let mut word = SigSpec::make(alloc);
-    for bit in bits {
-        word.push(SigBit::Fixed(*bit))?;
-    }
-    Ok(word)
-}
-
-/// Whether the bit is constant.
-fn is_constant(bit: SigBit) -> bool
-    ensures value { result ≡ is_constant bit }
-{
-    match bit {
-        SigBit::Fixed(_) => true,
-        SigBit::Wire(_) => false,
-    }
-}
-
-/// Whether all bits are constant.
-pub(crate) fn are_constant(word: &[SigBit]) -> bool
-    ensures value { result ≡ is_all_constant word.now }
-{
-    word.iter().all(|bit| is_constant(*bit))
-}
 
 /// Whether the bit is the constant 0.
 pub(crate) fn is_zero(bit: SigBit) -> bool
@@ -154,9 +104,10 @@ fn same(a: SigBit, b: SigBit) -> bool
     }
 }
 
-/// Whether two words are one, place by place.
+/// Whether two words are one, place by place: of one length, and at each place one constant, where x and z differ, or one
+/// bit of a wire.
 #[tactic(auto, using(crate::proofs::Sameness::other_length))]
-pub(crate) fn same_word(a: &[SigBit], b: &[SigBit]) -> bool
+pub fn same_word(a: &[SigBit], b: &[SigBit]) -> bool
     ensures value { result ≡ same_word a.now b.now }
 {
     if a.len() != b.len() {

@@ -4,7 +4,7 @@ ghost use Rattle.std.specs.Prelude.{◌≡◌, ◌<◌, ℕ, IfOk, OnOk, length}
 ghost use Rattle.rtl_ir.specs.Build.{Building};
 ghost use Rattle.rtl_ir.specs.declared.module.Module.{Module};
 ghost use Rattle.rtl_ir.specs.Types.{Ports};
-ghost use Rattle.net_index.specs.Index.{IsIndex};
+ghost use Rattle.net_index.specs.Drivers.{AreDrivers};
 ghost use Rattle.net_model.specs.Fsm.Code.{coded_cell, coded_cells};
 ghost use Rattle.fsm_code.specs.Links.{behind, linked, with_cells};
 ghost use Rattle.fsm_code.specs.Outputs.{IsTabled, coding_of};
@@ -15,7 +15,7 @@ use crate::compare::push_compare;
 use crate::flop::coded_flop;
 use crate::fork::coded_fork;
 use crate::marks::{Places, is_marked};
-use net_index::Index;
+use net_index::Drivers;
 use rtl_bits::{Memory, Seq};
 use rtl_ir::{Cell, Link, Machine, Module};
 use std::alloc::Global;
@@ -23,7 +23,7 @@ use std::alloc::Global;
 /// What cells are recoded by: the index of their module, the codes, the machine, and the places of its cells.
 #[derive(Clone, Copy)]
 struct Recoding<'a> {
-    index: &'a Index,
+    index: &'a Drivers,
     coding: &'a Coding<'a>,
     machine: &'a Machine,
     places: &'a Places,
@@ -39,7 +39,7 @@ fn push_coded(
     links: &mut Seq<Link>,
 ) -> Result<(), Memory>
     ensures ok { OnOk result ((ports : Ports) (m : Module) (b : Building) (count : ℕ) →
-        IsIndex by.now.index.now ports m →
+        AreDrivers by.now.index.now ports m →
         IsTabled by.now.coding.now.outputs → ArePlaces count by.now.machine.now by.now.places.now → at < count →
         (cells.new.items, linked b links.new) ≡ behind cells.old.items
         (coded_cell m by.now.machine.now (coding_of by.now.coding.now) at cell (linked b links.old))) }
@@ -66,13 +66,13 @@ fn push_coded(
 /// The module with its cells in the code, each in its place. A cell past the marks is taken for want of memory.
 pub(crate) fn recoded_cells(
     alloc: Global,
-    index: &Index,
+    index: &Drivers,
     coding: &Coding,
     machine: &Machine,
     places: &Places,
     module: Module,
 ) -> Result<Module, Memory>
-    ensures exact { IfOk result (λ after. (ports : Ports) (m : Module) (next : ℕ) → IsIndex index.now ports m →
+    ensures exact { IfOk result (λ after. (ports : Ports) (m : Module) (next : ℕ) → AreDrivers index.now ports m →
         IsTabled coding.now.outputs → ArePlaces (length m.cells) machine.now places.now → «module».cells ≡ m.cells →
         after ≡ with_cells
         (coded_cells m machine.now (coding_of coding.now) 0 m.cells (record { body = «module»; next = next }))) }

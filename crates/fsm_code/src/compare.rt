@@ -8,7 +8,7 @@ ghost use Rattle.rtl_ir.specs.Build.{Building};
 ghost use Rattle.rtl_ir.specs.Flat.Cell.{cell_kind};
 ghost use Rattle.rtl_ir.specs.declared.module.Module.{Module};
 ghost use Rattle.rtl_ir.specs.Types.{Ports};
-ghost use Rattle.net_index.specs.Index.{IsIndex};
+ghost use Rattle.net_index.specs.Drivers.{AreDrivers};
 ghost use Rattle.net_model.specs.Fsm.Code.{
   Coding as Codes,
   coded_compare,
@@ -30,7 +30,7 @@ use crate::coding::Coding;
 use crate::numbers::state_bit;
 use cell_types::{CellKind, EqualKind, ParamName, PinName, WordKind};
 use fsm_parts::{at_pin, followed};
-use net_index::Index;
+use net_index::Drivers;
 use rtl_bits::{Bit, Bits, Memory, Seq, Text};
 use rtl_ir::{
     Cell, CellParam, Link, Pin, cell_kind, constants_of, integer_param, pin_of, same_signal,
@@ -39,8 +39,8 @@ use rtl_sig::{SigBit, SigSpec};
 use std::alloc::Global;
 
 /// The constant that a compare has beside the state.
-fn compared(alloc: Global, index: &Index, coding: &Coding, cell: &Cell) -> Result<Bits, Memory>
-    ensures value { IfOk result (λ bits. (ports : Ports) (m : Module) → IsIndex index.now ports m →
+fn compared(alloc: Global, index: &Drivers, coding: &Coding, cell: &Cell) -> Result<Bits, Memory>
+    ensures value { IfOk result (λ bits. (ports : Ports) (m : Module) → AreDrivers index.now ports m →
         number_of bits ≡ compared m (coding_of coding.now) cell.now) }
 {
     let a = followed(alloc, index, at_pin(cell, PinName::A))?;
@@ -222,13 +222,13 @@ fn place_compare(
 /// A cell that compares the state: what stands in its place goes last, and what is connected.
 pub(crate) fn push_compare(
     alloc: Global,
-    index: &Index,
+    index: &Drivers,
     coding: &Coding,
     cell: Cell,
     cells: &mut Vec<Cell>,
     links: &mut Seq<Link>,
 ) -> Result<(), Memory>
-    ensures ok { OnOk result ((ports : Ports) (m : Module) (b : Building) → IsIndex index.now ports m →
+    ensures ok { OnOk result ((ports : Ports) (m : Module) (b : Building) → AreDrivers index.now ports m →
         (cells.new.items, linked b links.new) ≡
         behind cells.old.items
         (coded_compare m (coding_of coding.now) cell (is_equal (cell_kind cell))

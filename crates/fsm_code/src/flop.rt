@@ -6,7 +6,7 @@ ghost use Rattle.cell_types.specs.declared.param_name.ParamName.TheVariants.{Ars
 ghost use Rattle.rtl_ir.specs.declared.module.Module.{Module};
 ghost use Rattle.rtl_ir.specs.Parameters.{given_params};
 ghost use Rattle.rtl_ir.specs.Types.{Ports};
-ghost use Rattle.net_index.specs.Index.{IsIndex};
+ghost use Rattle.net_index.specs.Drivers.{AreDrivers};
 ghost use Rattle.net_model.specs.Fsm.Code.{coded_flop, flop_params};
 ghost use Rattle.net_model.specs.Proc.Sync.{polarity_of};
 ghost use Rattle.fsm_code.specs.Outputs.{IsTabled, coding_of};
@@ -17,7 +17,7 @@ use crate::numbers::code_of;
 use cell_types::{CellKind, Level, Levels, ParamName, PinName};
 use fsm_parts::{at_pin, followed};
 use match_cells::polarity_of;
-use net_index::Index;
+use net_index::Drivers;
 use rtl_bits::{Bits, Memory, Seq};
 use rtl_ir::{Cell, CellParam, Pin, bits_param, cell_kind, fitting_shape, integer_param, pin_of};
 use rtl_sig::SigBit;
@@ -142,12 +142,12 @@ fn pins_of(
 /// The flip-flop in the code.
 pub(crate) fn coded_flop(
     alloc: Global,
-    index: &Index,
+    index: &Drivers,
     coding: &Coding,
     reset: &Option<Bits>,
     cell: Cell,
 ) -> Result<Cell, Memory>
-    ensures value { IfOk result (λ after. (ports : Ports) (m : Module) → IsIndex index.now ports m →
+    ensures value { IfOk result (λ after. (ports : Ports) (m : Module) → AreDrivers index.now ports m →
         IsTabled coding.now.outputs → after ≡ coded_flop m (coding_of coding.now) reset.now cell) }
 {
     let next = followed(alloc, index, at_pin(&cell, PinName::D))?;

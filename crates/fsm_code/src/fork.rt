@@ -4,7 +4,7 @@ ghost use Rattle.std.specs.Prelude.{◌≡◌, IfOk, List, drop, flat_map, map, 
 ghost use Rattle.rtl_sig.specs.declared.sig.SigBit.{SigBit};
 ghost use Rattle.rtl_ir.specs.declared.module.Module.{Module};
 ghost use Rattle.rtl_ir.specs.Types.{Ports};
-ghost use Rattle.net_index.specs.Index.{IsIndex};
+ghost use Rattle.net_index.specs.Drivers.{AreDrivers};
 ghost use Rattle.net_model.specs.Fsm.Code.{coded, coded_arms, coded_fork, fork_params, or_nothing};
 ghost use Rattle.fsm_code.specs.Outputs.{IsTabled, coding_of};
 ghost use Rattle.fsm_code.specs.Parts.{fork_pins, select_params, width_params};
@@ -12,7 +12,7 @@ ghost use Rattle.fsm_code.specs.Parts.{fork_pins, select_params, width_params};
 use crate::coding::Coding;
 use cell_types::{CellKind, ParamName, PinName, WordKind};
 use fsm_parts::{arms, at_pin};
-use net_index::Index;
+use net_index::Drivers;
 use rtl_bits::{Copied, Memory, Seq};
 use rtl_ir::{Cell, CellParam, Pin, cell_kind, integer_param, pin_of};
 use rtl_sig::{SigBit, SigSpec};
@@ -106,11 +106,11 @@ fn others(alloc: Global, signals: &[SigSpec]) -> Result<SigSpec, Memory>
 /// The arms of a fork in the code.
 fn arms_in_code(
     alloc: Global,
-    index: &Index,
+    index: &Drivers,
     coding: &Coding,
     cell: &Cell,
 ) -> Result<Vec<SigSpec>, Memory>
-    ensures value { IfOk result (λ after. (ports : Ports) (m : Module) → IsIndex index.now ports m →
+    ensures value { IfOk result (λ after. (ports : Ports) (m : Module) → AreDrivers index.now ports m →
         IsTabled coding.now.outputs → after.items ≡ coded_arms m (coding_of coding.now) cell.now) }
 {
     let old = arms(alloc, index, cell)?;
@@ -121,11 +121,11 @@ fn arms_in_code(
 /// A cell of the tree in the code.
 pub(crate) fn coded_fork(
     alloc: Global,
-    index: &Index,
+    index: &Drivers,
     coding: &Coding,
     cell: Cell,
 ) -> Result<Cell, Memory>
-    ensures value { IfOk result (λ after. (ports : Ports) (m : Module) → IsIndex index.now ports m →
+    ensures value { IfOk result (λ after. (ports : Ports) (m : Module) → AreDrivers index.now ports m →
         IsTabled coding.now.outputs → after ≡ coded_fork m (coding_of coding.now) cell) }
 {
     let arms = arms_in_code(alloc, index, coding, &cell)?;

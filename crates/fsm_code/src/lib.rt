@@ -29,7 +29,7 @@ use crate::coding::Coding;
 use crate::marks::{Places, marks};
 use crate::wires::{code_wire, fresh_outputs, output_signals};
 use fsm_parts::whole_wire;
-use net_index::{Builder, Index, PassFault, check_limits};
+use net_index::{Builder, Drivers, PassFault, check_limits};
 use rtl_ir::{Machine, Module, PortTable, Wire};
 use rtl_sig::SigSpec;
 use std::alloc::Global;
@@ -111,7 +111,7 @@ fn recoded(
     ensures within { OnOk result (IsInLimits (widened «module» machine.now)) }
 {
     let count = module.cells.as_slice().len();
-    let index = Index::of(alloc, &module, ports)?;
+    let index = Drivers::of(alloc, &module, ports)?;
     let old = output_signals(alloc, module.cells.as_slice(), machine.muxes.as_slice())?;
     let forks = marks(alloc, count, machine.muxes.as_slice())?;
     let compares = marks(alloc, count, machine.compares.as_slice())?;

@@ -6,7 +6,7 @@ use Rattle.rtl_sig.specs.declared.sig.SigBit.{SigBit}
 use Rattle.rtl_ir.specs.declared.machine.Machine.{Machine}
 use Rattle.rtl_ir.specs.declared.module.Module.{Module}
 use Rattle.rtl_ir.specs.Types.{Ports}
-use Rattle.net_index.specs.Index.{IsIndex}
+use Rattle.net_index.specs.Drivers.{AreDrivers}
 use Rattle.net_index.specs.Types.{AreTypes}
 use Rattle.fsm_find.specs.declared.finder.Finder.{Finder}
 use Rattle.fsm_find.specs.declared.starts.Starts.{Starts}
@@ -21,7 +21,7 @@ use Rattle.fsm_find.specs.WholeDrivers.{first_giving}
 pub record IsFinder (finder : Finder) (ports : Ports) : Type 0 where
   pub no_process : finder.body.now.processes ≡ []
   pub types : AreTypes finder.types ports
-  pub index : IsIndex finder.index ports finder.body.now
+  pub index : AreDrivers finder.index ports finder.body.now
   pub forks : (signal : List SigBit) → place_in finder.forks signal ≡ first_giving Tree finder.body.now.cells signal
   pub flops : (signal : List SigBit) → place_in finder.flops signal ≡ first_giving Flop finder.body.now.cells signal
 

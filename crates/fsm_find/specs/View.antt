@@ -5,7 +5,7 @@ use Rattle.rtl_ir.specs.declared.cell.Cell.{Cell}
 use Rattle.rtl_ir.specs.declared.module.Module.{Module}
 use Rattle.rtl_ir.specs.Follow.{follow}
 use Rattle.rtl_ir.specs.Types.{Ports}
-use Rattle.net_index.specs.Index.{IsIndex}
+use Rattle.net_index.specs.Drivers.{AreDrivers}
 use Rattle.net_model.specs.Fsm.Find.{arms_of, is_leaf}
 use Rattle.fsm_find.specs.declared.view.View.{View}
 use Rattle.fsm_find.specs.declared.view.Step.{Step}
@@ -15,7 +15,7 @@ use Rattle.fsm_find.specs.WholeDrivers.{fork_at}
 
 -- what is known is of this module over these ports
 pub record IsView (view : View) (ports : Ports) (m : Module) : Type 0 where
-  pub index : IsIndex view.index.now ports m
+  pub index : AreDrivers view.index.now ports m
   pub forks : (signal : List SigBit) → place_in view.forks.now signal ≡ fork_at m.cells signal
 
 -- what a place of a fork that may be there means

@@ -31,7 +31,7 @@ use crate::tree::tree;
 use crate::view::View;
 use crate::whole_drivers::{Part, whole_drivers};
 use fsm_parts::{SignalTable, cell_at, whole_wire};
-use net_index::{BitTable, Index, Types};
+use net_index::{BitTable, Drivers, Types};
 use rtl_bits::{Bits, Memory, Seq};
 use rtl_ir::{Cell, Machine, Module, PortTable, Wire};
 use std::alloc::Global;
@@ -51,7 +51,7 @@ pub struct Finder<'a> {
     alloc: Global,
     body: &'a Module,
     types: Types<'a>,
-    index: Index,
+    index: Drivers,
     forks: SignalTable,
     flops: SignalTable,
 }
@@ -68,7 +68,7 @@ impl<'a> Finder<'a> {
             alloc,
             body: module,
             types: Types::of_table(alloc, ports)?,
-            index: Index::of(alloc, module, ports)?,
+            index: Drivers::of(alloc, module, ports)?,
             forks: whole_drivers(alloc, Part::Tree, cells)?,
             flops: whole_drivers(alloc, Part::Flop, cells)?,
         })

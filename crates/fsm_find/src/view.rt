@@ -6,7 +6,7 @@ ghost use Rattle.rtl_ir.specs.Types.{Ports};
 ghost use Rattle.fsm_find.specs.View.{IsView, step_of};
 
 use fsm_parts::{SignalTable, is_leaf};
-use net_index::Index;
+use net_index::Drivers;
 use rtl_bits::Memory;
 use rtl_sig::{SigBit, SigSpec};
 use std::alloc::Global;
@@ -15,7 +15,7 @@ use std::alloc::Global;
 #[derive(Drop)]
 pub(crate) struct View<'a> {
     pub(crate) alloc: Global,
-    pub(crate) index: &'a Index,
+    pub(crate) index: &'a Drivers,
     pub(crate) forks: &'a SignalTable,
     pub(crate) state: SigSpec,
 }

@@ -4,21 +4,21 @@ ghost use Rattle.std.specs.Prelude.{◌≡◌, ◌++◌, IfOk, OnOk, length, map
 ghost use Rattle.rtl_ir.specs.declared.module.Module.{Module};
 ghost use Rattle.rtl_ir.specs.Follow.{follow};
 ghost use Rattle.rtl_ir.specs.Types.{Ports};
-ghost use Rattle.net_index.specs.Index.{IsIndex};
+ghost use Rattle.net_index.specs.Drivers.{AreDrivers};
 ghost use Rattle.net_model.specs.Fsm.Find.{arms_of, parts_of};
 
 use crate::cells::at_pin;
 use crate::signals::followed;
 use cell_types::PinName;
-use net_index::Index;
+use net_index::Drivers;
 use rtl_bits::Memory;
 use rtl_ir::Cell;
 use rtl_sig::{SigBit, SigSpec};
 use std::alloc::Global;
 
 /// The values that a `$mux` or a `$pmux` chooses from, followed: A, and the parts of B.
-pub fn arms(alloc: Global, index: &Index, cell: &Cell) -> Result<Vec<SigSpec>, Memory>
-    ensures value { IfOk result (λ arms. (ports : Ports) (m : Module) → IsIndex index.now ports m →
+pub fn arms(alloc: Global, index: &Drivers, cell: &Cell) -> Result<Vec<SigSpec>, Memory>
+    ensures value { IfOk result (λ arms. (ports : Ports) (m : Module) → AreDrivers index.now ports m →
         arms.items ≡ map (map (follow m.links)) (arms_of cell.now)) }
 {
     let a = at_pin(cell, PinName::A);
@@ -31,12 +31,12 @@ pub fn arms(alloc: Global, index: &Index, cell: &Cell) -> Result<Vec<SigSpec>, M
 /// The parts of this width, followed, go last.
 fn push_parts(
     alloc: Global,
-    index: &Index,
+    index: &Drivers,
     arms: &mut Vec<SigSpec>,
     width: usize,
     signal: &[SigBit],
 ) -> Result<(), Memory>
-    ensures ok { OnOk result ((ports : Ports) (m : Module) → IsIndex index.now ports m →
+    ensures ok { OnOk result ((ports : Ports) (m : Module) → AreDrivers index.now ports m →
         arms.new.items ≡ arms.old.items ++ map (map (follow m.links)) (parts_of (length signal.now) width signal.now)) }
 {
     let mut from = 0;

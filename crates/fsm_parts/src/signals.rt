@@ -8,10 +8,10 @@ ghost use Rattle.rtl_ir.specs.declared.wire.Wire.{Wire};
 ghost use Rattle.rtl_ir.specs.Follow.{follow};
 ghost use Rattle.rtl_ir.specs.Signals.{is_all_constant, constant_of, same_signal};
 ghost use Rattle.rtl_ir.specs.Types.{Ports};
-ghost use Rattle.net_index.specs.Index.{IsIndex};
+ghost use Rattle.net_index.specs.Drivers.{AreDrivers};
 ghost use Rattle.net_model.specs.Fsm.Find.{is_leaf, is_state_constant, is_unknown, whole_wire};
 
-use net_index::{Index, whole};
+use net_index::{Drivers, whole};
 use rtl_bits::Memory;
 use rtl_ir::{constant_of, is_all_constant, same_signal};
 use rtl_sig::{SigBit, SigSpec};
@@ -63,8 +63,8 @@ pub fn is_leaf(state: &[SigBit], signal: &[SigBit]) -> bool
 }
 
 /// Where the bits of the signal lead back to.
-pub fn followed(alloc: Global, index: &Index, signal: &[SigBit]) -> Result<SigSpec, Memory>
-    ensures value { IfOk result (λ bits. (ports : Ports) (m : Module) → IsIndex index.now ports m →
+pub fn followed(alloc: Global, index: &Drivers, signal: &[SigBit]) -> Result<SigSpec, Memory>
+    ensures value { IfOk result (λ bits. (ports : Ports) (m : Module) → AreDrivers index.now ports m →
         bits ≡ map (follow m.links) signal.now) }
 {
     let mut bits = SigSpec::make(alloc);

@@ -1,7 +1,8 @@
-//! Asks an index of modules of a table what drives bits, and where connections lead from them.
+//! Asks an index of modules of a table what numbers bits have, what drives them, what reads them, and where
+//! connections lead from them.
 #![tactic(auto)]
 
-use net_index::{CellPin, Driver, Index};
+use net_index::{CellPin, Driver, Index, Reader};
 use rtl_bits::{Bit, Memory, Text};
 use rtl_ir::{Design, Module, port_table};
 use rtl_read::{ReadFault, read};
@@ -55,20 +56,46 @@ fn driver_text(alloc: Global, module: &Module, driver: Driver) -> Result<Text, M
     Ok(text)
 }
 
-/// What the index of the module says of a bit: what drives it, and where connections lead from it.
-fn answers(
+/// Readers as the rows write them.
+fn readers_text(alloc: Global, readers: &[Reader]) -> Result<Text, Memory> {
+    let mut text = Text::from_slice(alloc, b"read by".as_slice())?;
+    for reader in readers {
+        let words = match reader {
+            Reader::Cell(CellPin { cell, pin, at }) => format!(in alloc;
+                " cell {cell} {pin} {at}"
+            )?,
+            Reader::Link(link) => format!(in alloc; " link {link}")?,
+        };
+        text.extend(words.as_bytes())?;
+    }
+    Ok(text)
+}
+
+/// Whether this is what the index of the module says of a bit: its number, what drives it, or what reads it.
+fn is_said(
+    alloc: Global,
+    module: &Module,
+    index: &Index,
+    bit: WireBit,
+    wanted: &[u8],
+) -> Result<bool, Memory> {
+    let number = format!(in alloc; "number {}", index.number(bit))?;
+    let driver = driver_text(alloc, module, index.driver(bit))?;
+    let readers = readers_text(alloc, index.readers(bit))?;
+    Ok(number.as_bytes() == wanted || driver.as_slice() == wanted || readers.as_slice() == wanted)
+}
+
+/// Whether this is where connections lead from the bit.
+fn is_led(
     alloc: Global,
     module: &Module,
     index: &Index,
     bit: SigBit,
-) -> Result<(Text, Text), Memory> {
-    let driver = match bit {
-        SigBit::Wire(bit) => driver_text(alloc, module, index.driver(bit))?,
-        SigBit::Fixed(_) => Text::make(alloc),
-    };
+    wanted: &[u8],
+) -> Result<bool, Memory> {
     let mut leads = Text::from_slice(alloc, b"leads ".as_slice())?;
     leads.extend(bit_text(alloc, module, index.follow(bit))?.as_slice())?;
-    Ok((driver, leads))
+    Ok(leads.as_slice() == wanted)
 }
 
 /// The bit of the module that is written so.
@@ -101,8 +128,10 @@ fn is_answered(
     let Some(bit) = bit_of(alloc, module, asked)? else {
         return Ok(false);
     };
-    let (driver, leads) = answers(alloc, module, index, bit)?;
-    Ok(driver.as_slice() == wanted || leads.as_slice() == wanted)
+    match bit {
+        SigBit::Wire(place) if is_said(alloc, module, index, place, wanted)? => Ok(true),
+        _ => is_led(alloc, module, index, bit, wanted),
+    }
 }
 
 /// Whether a row holds: its name, a design whose second module is asked, a bit, and its answer.

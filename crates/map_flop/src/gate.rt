@@ -1,10 +1,10 @@
 //! The gate that keeps a bit of a storage cell.
 
-ghost use Rattle.std.specs.Prelude.{◌≡◌, slice_index_or};
-ghost use Rattle.cell_gate.specs.Store.{reset_at};
+ghost use Rattle.std.specs.Prelude.{◌≡◌};
 ghost use Rattle.map_flop.specs.Gate.{bit_gate, gate_for, is_one};
 
-use cell_types::{Levels, Resets, Shape, StorageGate, StorageKind};
+use cell_gate::reset_at;
+use cell_types::{Levels, Shape, StorageGate, StorageKind};
 use rtl_bits::Bit;
 
 /// The gate of the bit at a place of a storage cell of this kind.
@@ -48,30 +48,5 @@ fn is_one(bit: Bit) -> bool
     match bit {
         Bit::S1 => true,
         _ => false,
-    }
-}
-
-/// The bit that the reset of the kind gives at a place.
-fn reset_at(kind: StorageKind, resets: &Resets, at: usize) -> Bit
-    ensures value { result ≡ reset_at kind resets.now at }
-{
-    match kind {
-        StorageKind::Adff | StorageKind::Adffe | StorageKind::Adlatch => {
-            at_or_unknown(resets.arst.as_slice(), at)
-        }
-        StorageKind::Sdff | StorageKind::Sdffe | StorageKind::Sdffce => {
-            at_or_unknown(resets.srst.as_slice(), at)
-        }
-        _ => Bit::X,
-    }
-}
-
-/// The bit at a place, x past the end.
-fn at_or_unknown(bits: &[Bit], at: usize) -> Bit
-    ensures value { result ≡ slice_index_or bits.now at Bit.X }
-{
-    match bits.get(at) {
-        Some(bit) => *bit,
-        None => Bit::X,
     }
 }

@@ -7,8 +7,8 @@ use Rattle.rtl_ir.specs.declared.module.Module.{Module}
 use Rattle.rtl_ir.specs.Follow.{follow}
 use Rattle.rtl_ir.specs.Types.{table_ports}
 use Rattle.rtl_ir.specs.WritePorts as ports
-use Rattle.net_index.specs.declared.index.Index.{Index}
-use Rattle.net_index.specs.Index.{IsIndex}
+use Rattle.net_index.specs.declared.drivers.Drivers.{Drivers}
+use Rattle.net_index.specs.Drivers.{AreDrivers}
 use Rattle.memory_check.specs.declared.clocks.Clocking.{Clocking}
 use Rattle.memory_check.specs.declared.clocks.Clocks.{Clocks}
 
@@ -22,9 +22,9 @@ abbrev pub followed : List Link → Clocking → ports.Clocking
 followed links c = record { clock = map (follow links) c.clock.now; rising = c.rising }
 
 -- the index is that of the module, where it was made
-abbrev pub WasIndexed : Option Index → Module → Type 0
+abbrev pub WasIndexed : Option Drivers → Module → Type 0
 WasIndexed None m = Unit {0}
-WasIndexed (Some index) m = IsIndex index (table_ports []) m
+WasIndexed (Some index) m = AreDrivers index (table_ports []) m
 
 -- the clocks are followed along the connections of the module
 pub record AreClocks (clocks : Clocks) (m : Module) : Type 0 where

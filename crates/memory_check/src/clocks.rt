@@ -8,12 +8,12 @@ ghost use Rattle.rtl_ir.specs.Follow.{follow};
 ghost use Rattle.rtl_ir.specs.Types.{table_ports};
 ghost use Rattle.rtl_ir.specs.Signals as signals;
 ghost use Rattle.rtl_ir.specs.WritePorts as ports;
-ghost use Rattle.net_index.specs.Index.{IsIndex};
+ghost use Rattle.net_index.specs.Drivers.{AreDrivers};
 ghost use Rattle.memory_check.specs.Clocks.{AreClocks, followed, is_high};
 ghost use Rattle.memory_check.specs.Shapes.{HasShape};
 
 use cell_types::{Level, PinName, Shape};
-use net_index::Index;
+use net_index::Drivers;
 use rtl_bits::{Memory, Seq};
 use rtl_ir::{Cell, Event, Module, PortTable, Same, pin_signal};
 use rtl_sig::SigBit;
@@ -63,7 +63,7 @@ impl<'a> Clocking<'a> {
 #[derive(Drop)]
 pub(crate) struct Clocks<'a> {
     body: &'a Module,
-    index: Option<Index>,
+    index: Option<Drivers>,
 }
 
 impl<'a> Clocks<'a> {
@@ -91,7 +91,7 @@ impl<'a> Clocks<'a> {
         let none = PortTable {
             modules: Seq::make(alloc),
         };
-        let index = Index::of(alloc, self.body, &none)?;
+        let index = Drivers::of(alloc, self.body, &none)?;
         let same = same_clocking(&index, one, other);
         self.index = Some(index);
         Ok(same)
@@ -109,16 +109,16 @@ fn is_high(level: Level) -> bool
 }
 
 /// Whether the two are the same edge of the same clock.
-fn same_clocking(index: &Index, one: Clocking, other: Clocking) -> bool
-    ensures value { (m : Module) → IsIndex index.now (table_ports []) m →
+fn same_clocking(index: &Drivers, one: Clocking, other: Clocking) -> bool
+    ensures value { (m : Module) → AreDrivers index.now (table_ports []) m →
         result ≡ ports.same_clocking (followed m.links one.entry) (followed m.links other.entry) }
 {
     same_signal(index, one.clock, other.clock) && one.rising == other.rising
 }
 
 /// Whether the two signals lead back along the connections to the same places.
-fn same_signal(index: &Index, one: &[SigBit], other: &[SigBit]) -> bool
-    ensures value { (m : Module) → IsIndex index.now (table_ports []) m →
+fn same_signal(index: &Drivers, one: &[SigBit], other: &[SigBit]) -> bool
+    ensures value { (m : Module) → AreDrivers index.now (table_ports []) m →
         result ≡ signals.same_signal (map (follow m.links) one.now) (map (follow m.links) other.now) }
 {
     if one.len() != other.len() {
@@ -133,8 +133,8 @@ fn same_signal(index: &Index, one: &[SigBit], other: &[SigBit]) -> bool
 }
 
 /// Whether the two bits lead back along the connections to the same place.
-fn have_same_end(index: &Index, one: SigBit, other: SigBit) -> bool
-    ensures value { (m : Module) → IsIndex index.now (table_ports []) m →
+fn have_same_end(index: &Drivers, one: SigBit, other: SigBit) -> bool
+    ensures value { (m : Module) → AreDrivers index.now (table_ports []) m →
         result ≡ signals.same_place (follow m.links one) (follow m.links other) }
 {
     let here = index.follow(one);

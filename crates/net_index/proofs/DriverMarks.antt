@@ -19,7 +19,7 @@ use Rattle.net_index.specs.IndexTable.{at_bit}
 use Rattle.net_index.proofs.IndexTables.{same_bit-refl, same_bit-true}
 
 -- the test goes both ways
-turned : (b c : WireBit) → same_bit b c ≡ same_bit c b
+pub turned : (b c : WireBit) → same_bit b c ≡ same_bit c b
 turned b c = by (same_bit b c) (same_bit c b) refl refl
   where
     by : (s t : Bool) → same_bit b c ≡ s → same_bit c b ≡ t → s ≡ t

@@ -16,3 +16,7 @@ pub mod Indexing
 pub mod DriverReading
 pub mod DriverTrees
 pub mod DriverMarks
+pub mod ReaderAdds
+pub mod ReaderOnce
+pub mod ReaderSums
+pub mod ReaderSlots

@@ -1,12 +1,12 @@
 -- Where wires begin, and that each number is of one bit.
-use Rattle.std.proofs.Common.{◌≡◌, ℕ, zero, suc, ◌+◌, ◌<◌, ◌≤◌, Bool, true, false, cond, ltb, List, [], ◌∷◌, ◌++◌, length, get_or, drop, map, Some, None, refl, sym, ◌∙◌, ap, arith}
+use Rattle.std.proofs.Common.{◌≡◌, ℕ, zero, suc, ◌+◌, ◌<◌, ◌≤◌, Bool, true, false, cond, ltb, List, [], ◌∷◌, ◌++◌, length, get_or, drop, map, Option, Some, None, unwrap_or, IsSomeAnd, slice_get, refl, sym, ◌∙◌, ap, arith}
 use Rattle.std.proofs.lemmas.Bool.{lt-ltb, ltb-true}
 use Rattle.std.proofs.lemmas.List.{append-nil}
 use Rattle.std.proofs.Math.ListN.{drop_of_length-le}
 use Rattle.rtl_sig.specs.declared.sig.WireBit.{WireBit}
 use Rattle.rtl_ir.specs.declared.wire.Wire.{Wire}
 use Rattle.net_index.specs.declared.numbering.Row.{Row}
-use Rattle.net_index.specs.Numbering.{start_of, bit_count, number_of, rows_from, widths_of}
+use Rattle.net_index.specs.Numbering.{HasBit, start_of, bit_count, number_of, rows_from, widths_of}
 
 -- the widths of the rows are the widths
 pub width-rows : (start : ℕ) (ws : List ℕ) → map (λ (row : Row). row.width) (rows_from start ws) ≡ ws
@@ -122,3 +122,20 @@ number-inj ws b c number e f =
     let q = number_at ws c number f in
     let s = one_place ws b.wire b.at c.wire c.at p.inside q.inside (p.value ∙ sym q.value) in
     (λ i. record { wire = s.wire i; at = s.at i })
+
+-- a bit that one of the wires has, has a number
+pub bit_width : (wires : List Wire) (wire at : ℕ) → IsSomeAnd (slice_get wires wire) (λ (w : Wire). at < w.width) → at < get_or (widths_of wires) wire 0
+bit_width [] wire at h = absurd h
+bit_width (w ∷ ws) zero at h = h
+bit_width (w ∷ ws) (suc k) at h = bit_width ws k at h
+
+pub bit_number : (wires : List Wire) (b : WireBit) → HasBit wires b → number_of (widths_of wires) b ≡ Some (start_of (widths_of wires) b.wire + b.at)
+bit_number wires b h = at_number (widths_of wires) b (bit_width wires b.wire b.at h)
+
+-- a number that is answered where a bit has one, and else 0
+pub number_answered : (wires : List Wire) (widths : List ℕ) (b : WireBit) (o : Option ℕ) (r : ℕ) → widths ≡ widths_of wires → HasBit wires b
+    → o ≡ number_of widths b → r ≡ unwrap_or o 0 → number_of (widths_of wires) b ≡ Some r
+number_answered wires widths b o r same has found answer =
+    let own : number_of (widths_of wires) b ≡ Some (start_of (widths_of wires) b.wire + b.at) = bit_number wires b has in
+    let some : o ≡ Some (start_of (widths_of wires) b.wire + b.at) = found ∙ ap (λ ws. number_of ws b) same ∙ own in
+    own ∙ ap Some (sym (answer ∙ ap (λ p. unwrap_or p 0) some))

@@ -2,10 +2,15 @@ pub mod Driver
 pub mod DriverFill
 pub mod DriverRules
 pub mod DriverTree
+pub mod Drivers
 pub mod Index
 pub mod IndexTable
 pub mod IndexWays
 pub mod Numbering
+pub mod ReaderFill
+pub mod ReaderLinks
+pub mod ReaderSort
+pub mod Readers
 pub mod Types
 pub mod Builder
 pub mod BuilderNames

@@ -1,5 +1,5 @@
 -- The bits of the wires of a module in one row: those of each wire behind those of the wires before it.
-use Rattle.std.specs.Prelude.{ℕ, zero, suc, ◌+◌, nat_lt, List, [], ◌∷◌, Option, Some, None, if◌then◌else◌, slice_index, map}
+use Rattle.std.specs.Prelude.{ℕ, zero, suc, ◌+◌, ◌<◌, nat_lt, List, [], ◌∷◌, Option, Some, None, IsSomeAnd, if◌then◌else◌, slice_get, slice_index, map}
 use Rattle.rtl_sig.specs.declared.sig.WireBit.{WireBit}
 use Rattle.rtl_ir.specs.declared.wire.Wire.{Wire}
 use Rattle.net_index.specs.declared.numbering.Row.{Row}
@@ -18,6 +18,10 @@ start_of (w ∷ ws) (suc k) = w + start_of ws k
 abbrev pub bit_count : List ℕ → ℕ
 bit_count [] = 0
 bit_count (w ∷ ws) = w + bit_count ws
+
+-- the bit is one of these wires': the wire at its place has it
+abbrev pub HasBit : List Wire → WireBit → Type 0
+HasBit wires b = IsSomeAnd (slice_get wires b.wire) (λ (w : Wire). b.at < w.width)
 
 -- the number of a bit, where a wire has it
 abbrev pub number_of : List ℕ → WireBit → Option ℕ

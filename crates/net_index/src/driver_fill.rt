@@ -64,7 +64,7 @@ fn add_ports(drivers: &mut BitTable<Driver>, wires: &[Wire]) -> Result<(), Memor
 }
 
 /// The place as a narrower number. A greater one is taken for want of memory.
-fn narrowed(place: usize) -> Result<u32, Memory>
+pub(crate) fn narrowed(place: usize) -> Result<u32, Memory>
     ensures value { IfOk result (λ narrow. narrow ≡ place) }
 {
     u32::try_from(place).ok().ok_or(Memory)

@@ -1,29 +1,30 @@
-//! What drives each bit of a module, and where its connections lead.
+//! The bits of a module: their numbers, what drives each, what reads it, and where connections lead from it.
 
-ghost use Rattle.std.specs.Prelude.{◌≡◌, IfOk};
+ghost use Rattle.std.specs.Prelude.{◌≡◌, Some, IfOk};
 ghost use Rattle.rtl_ir.specs.declared.module.Module.{Module};
 ghost use Rattle.rtl_ir.specs.Drivers.{driver_in, drives_of};
 ghost use Rattle.rtl_ir.specs.Follow.{follow};
 ghost use Rattle.rtl_ir.specs.Types.{Ports, table_ports};
 ghost use Rattle.net_index.specs.Driver.{driver_answer};
 ghost use Rattle.net_index.specs.Index.{IsIndex};
+ghost use Rattle.net_index.specs.Numbering.{HasBit, number_of, widths_of};
+ghost use Rattle.net_index.specs.Readers.{readers_of};
 
 use crate::driver::Driver;
-use crate::driver_fill::drivers_of;
-use crate::index_table::BitTable;
-use crate::index_ways::Ways;
+use crate::drivers::Drivers;
+use crate::reader::Reader;
+use crate::readers::Readers;
 use crate::types::Types;
 use rtl_bits::Memory;
-use rtl_ir::{Module, PortTable, all_joins};
+use rtl_ir::{Module, PortTable};
 use rtl_sig::{SigBit, WireBit};
 use std::alloc::Global;
 
-/// The drivers of the bits of a module, and the ends of the ways along its connections. In the Yosys manual, "The RTL
-/// Intermediate Language (RTLIL)", the section "RTLIL::Design and RTLIL::Module".
+/// The drivers and the readers of the bits of a module, and the numbers of these bits.
 #[derive(Drop)]
 pub struct Index {
-    drivers: BitTable<Driver>,
-    ways: Ways,
+    drivers: Drivers,
+    readers: Readers,
 }
 
 impl Index {
@@ -32,10 +33,9 @@ impl Index {
         ensures value { IfOk result (λ index. IsIndex index (table_ports ports.now.modules) «module».now) }
     {
         let types = Types::of_table(alloc, ports)?;
-        let joins = all_joins(alloc, module.links.as_slice())?;
         Ok(Index {
-            drivers: drivers_of(alloc, module, &types, joins.as_slice())?,
-            ways: Ways::of(alloc, module.wires.as_slice(), joins.as_slice())?,
+            drivers: Drivers::by_types(alloc, module, &types)?,
+            readers: Readers::of(alloc, module, &types)?,
         })
     }
 
@@ -44,7 +44,7 @@ impl Index {
         ensures value { (ports : Ports) (m : Module) → IsIndex self.now ports m →
             result ≡ driver_answer (driver_in (drives_of ports m) bit) }
     {
-        self.drivers.get(bit).unwrap_or(Driver::Nothing)
+        self.drivers.driver(bit)
     }
 
     /// The first bit or constant on the way back along the connections that none of them drives, and the bit itself
@@ -52,9 +52,24 @@ impl Index {
     pub fn follow(&self, bit: SigBit) -> SigBit
         ensures value { (ports : Ports) (m : Module) → IsIndex self.now ports m → result ≡ follow m.links bit }
     {
-        match bit {
-            SigBit::Fixed(_) => bit,
-            SigBit::Wire(start) => self.ways.end_of(start).unwrap_or(bit),
-        }
+        self.drivers.follow(bit)
+    }
+
+    /// The number of the bit: how many bits the wires before its own have, and its place. Of a bit that the module does
+    /// not have it is 0. It takes no memory.
+    pub fn number(&self, bit: WireBit) -> u32
+        ensures value { (ports : Ports) (m : Module) → IsIndex self.now ports m → HasBit m.wires bit →
+            number_of (widths_of m.wires) bit ≡ Some result }
+    {
+        self.readers.number(bit).unwrap_or(0)
+    }
+
+    /// What reads the bit: the cells' pins in the order of cells, pins and places, then the connections in their order.
+    /// A bit that the module does not have has no readers. It takes no memory.
+    pub fn readers(&self, bit: WireBit) -> &[Reader]
+        ensures value { (ports : Ports) (m : Module) → IsIndex self.now ports m → HasBit m.wires bit →
+            result.now ≡ readers_of ports m bit }
+    {
+        self.readers.of_bit(bit)
     }
 }

@@ -1,4 +1,4 @@
-//! What drives each bit of a module, by tables over the numbers of its bits.
+//! What drives each bit of a module and what reads it, by tables over the numbers of its bits.
 #![tactic(auto)]
 
 mod builder;
@@ -11,6 +11,7 @@ mod driver_fill;
 mod driver_patterns;
 mod driver_rules;
 mod driver_tree;
+mod drivers;
 mod fresh;
 mod index;
 mod index_table;
@@ -18,6 +19,11 @@ mod index_ways;
 mod limits;
 mod numbering;
 mod outputs;
+mod reader;
+mod reader_fill;
+mod reader_links;
+mod reader_sort;
+mod readers;
 mod types;
 
 pub use builder::Builder;
@@ -28,10 +34,12 @@ pub use driver::{CellPin, Driver};
 pub use driver_patterns::always_matches;
 pub use driver_rules::{is_dropped, match_every_value};
 pub use driver_tree::assigned_bits;
+pub use drivers::Drivers;
 pub use fresh::{first_number, made_name};
 pub use index::Index;
 pub use index_table::BitTable;
 pub use limits::{check_limits, count_bits};
 pub use numbering::Numbering;
 pub use outputs::drives_pin;
+pub use reader::Reader;
 pub use types::{CellType, Port, PortNames, Types};

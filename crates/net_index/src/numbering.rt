@@ -1,6 +1,6 @@
 //! The numbers of the bits of a module.
 
-ghost use Rattle.std.specs.Prelude.{◌≡◌, ◌+◌, ◌<◌, IfOk, IfSome};
+ghost use Rattle.std.specs.Prelude.{◌≡◌, ◌+◌, ◌^◌, ◌<◌, IfOk, IfSome};
 ghost use Rattle.net_index.specs.Numbering.{bit_count, number_of, widths_of};
 
 use rtl_bits::Memory;
@@ -57,6 +57,7 @@ impl Numbering {
     /// How many bits there are.
     pub fn count(&self) -> usize
         ensures value { result ≡ bit_count self.now }
+        ensures fits { result < 2 ^ 32 }
     {
         self.count as usize
     }
@@ -65,8 +66,11 @@ impl Numbering {
     pub fn find(&self, bit: WireBit) -> Option<usize>
         ensures value { result ≡ number_of self.now bit }
         ensures within { IfSome result (λ number. number < bit_count self.now) }
+        ensures fits { IfSome result (λ number. number < 2 ^ 32) }
     {
         let rows = self.rows.as_slice();
+        // The count bounds each number.
+        let _count = self.count;
         let wire = bit.wire as usize;
         if wire < rows.len() && bit.at < rows[wire].width {
             Some(rows[wire].start as usize + bit.at as usize)

@@ -7,9 +7,9 @@ use Rattle.rtl_ir.specs.declared.cell.Cell.{Cell}
 use Rattle.rtl_ir.specs.declared.cell.Pin.{Pin}
 use Rattle.rtl_ir.specs.declared.module.Module.{Module}
 use Rattle.rtl_ir.specs.declared.wire.Wire.{Wire}
-use Rattle.net_index.specs.declared.index.Index.{Index}
+use Rattle.net_index.specs.declared.drivers.Drivers.{Drivers}
 use Rattle.net_index.specs.declared.types.CellType.{CellType}
-use Rattle.net_index.specs.Index.{IsIndex}
+use Rattle.net_index.specs.Drivers.{AreDrivers}
 use Rattle.net_index.specs.Types.{IsType}
 use Rattle.net_model.specs.Lists.{In}
 use Rattle.opt_clean.specs.declared.kept.Marks.{Marks}
@@ -39,15 +39,15 @@ mark_places s [] = s
 mark_places s (place ∷ places) = mark_places (mark_place s place) places
 
 -- the cells that drive these bits are marked, by the index of whatever module
-abbrev pub MarksDrivers : Index → Marks → Marks → List WireBit → Type 0
+abbrev pub MarksDrivers : Drivers → Marks → Marks → List WireBit → Type 0
 MarksDrivers index old new bits =
-    (ports : Ports) (m : Module) → IsIndex index ports m →
+    (ports : Ports) (m : Module) → AreDrivers index ports m →
     marking_of new ≡ mark_places (marking_of old) (cell_places ports m bits)
 
 -- .. the bits that these pins of a cell of a type read
-abbrev pub MarksRead : CellType → Index → Marks → Marks → List Pin → Type 0
+abbrev pub MarksRead : CellType → Drivers → Marks → Marks → List Pin → Type 0
 MarksRead cell_type index old new pins =
-    (type : rtl.CellType) (ports : Ports) (m : Module) → IsType cell_type type → IsIndex index ports m →
+    (type : rtl.CellType) (ports : Ports) (m : Module) → IsType cell_type type → AreDrivers index ports m →
     marking_of new ≡ mark_places (marking_of old) (cell_places ports m (read_bits type pins))
 
 -- the bit is of a wire that the outside sees

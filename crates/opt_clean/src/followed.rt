@@ -4,11 +4,11 @@ ghost use Rattle.std.specs.Prelude.{◌≡◌, IfOk, map};
 ghost use Rattle.rtl_ir.specs.declared.module.Module.{Module};
 ghost use Rattle.rtl_ir.specs.Follow.{follow};
 ghost use Rattle.rtl_ir.specs.Types as rtl;
-ghost use Rattle.net_index.specs.Index.{IsIndex};
+ghost use Rattle.net_index.specs.Drivers.{AreDrivers};
 ghost use Rattle.net_index.specs.Types.{AreTypes, IsType};
 ghost use Rattle.follow_laws.specs.Inputs.{followed_at, followed_cell, followed_pin};
 
-use net_index::{CellType, Index, Types, drives_pin};
+use net_index::{CellType, Drivers, Types, drives_pin};
 use rtl_bits::{Copied, Memory, Seq};
 use rtl_ir::{Cell, Pin};
 use rtl_sig::{SigBit, SigSpec};
@@ -19,10 +19,10 @@ pub(crate) fn followed_cells(
     alloc: Global,
     cells: &[Cell],
     types: &Types,
-    index: &Index,
+    index: &Drivers,
 ) -> Result<Vec<Cell>, Memory>
     ensures value { IfOk result (λ found. (ports : rtl.Ports) (m : Module) → AreTypes types.now ports →
-        IsIndex index.now ports m → found.items ≡ map (followed_cell ports m.links) cells.now) }
+        AreDrivers index.now ports m → found.items ≡ map (followed_cell ports m.links) cells.now) }
 {
     let mut found = Vec::with_capacity(alloc, cells.len())?;
     for cell in cells {
@@ -32,9 +32,9 @@ pub(crate) fn followed_cells(
 }
 
 /// The cell with its inputs followed.
-fn followed_cell(alloc: Global, cell: &Cell, types: &Types, index: &Index) -> Result<Cell, Memory>
+fn followed_cell(alloc: Global, cell: &Cell, types: &Types, index: &Drivers) -> Result<Cell, Memory>
     ensures value { IfOk result (λ found. (ports : rtl.Ports) (m : Module) → AreTypes types.now ports →
-        IsIndex index.now ports m → found ≡ followed_cell ports m.links cell.now) }
+        AreDrivers index.now ports m → found ≡ followed_cell ports m.links cell.now) }
 {
     let cell_type = types.find(cell.kind_name.as_slice());
     Ok(Cell {
@@ -51,10 +51,10 @@ fn followed_pins(
     alloc: Global,
     pins: &[Pin],
     cell_type: &CellType,
-    index: &Index,
+    index: &Drivers,
 ) -> Result<Seq<Pin>, Memory>
     ensures value { IfOk result (λ found. (type : rtl.CellType) (ports : rtl.Ports) (m : Module) →
-        IsType cell_type.now type → IsIndex index.now ports m → found ≡ map (followed_pin type m.links) pins.now) }
+        IsType cell_type.now type → AreDrivers index.now ports m → found ≡ map (followed_pin type m.links) pins.now) }
 {
     let mut found = Vec::with_capacity(alloc, pins.len())?;
     for pin in pins {
@@ -68,10 +68,10 @@ fn followed_pin(
     alloc: Global,
     pin: &Pin,
     cell_type: &CellType,
-    index: &Index,
+    index: &Drivers,
 ) -> Result<Pin, Memory>
     ensures value { IfOk result (λ found. (type : rtl.CellType) (ports : rtl.Ports) (m : Module) →
-        IsType cell_type.now type → IsIndex index.now ports m → found ≡ followed_pin type m.links pin.now) }
+        IsType cell_type.now type → AreDrivers index.now ports m → found ≡ followed_pin type m.links pin.now) }
 {
     let sig = if drives_pin(cell_type, pin.name.as_slice()) {
         pin.sig.copy()?
@@ -88,9 +88,9 @@ fn followed_pin(
 pub(crate) fn followed_signal(
     alloc: Global,
     signal: &[SigBit],
-    index: &Index,
+    index: &Drivers,
 ) -> Result<SigSpec, Memory>
-    ensures value { IfOk result (λ found. (ports : rtl.Ports) (m : Module) → IsIndex index.now ports m →
+    ensures value { IfOk result (λ found. (ports : rtl.Ports) (m : Module) → AreDrivers index.now ports m →
         found ≡ map (follow m.links) signal.now) }
 {
     let mut found = SigSpec::with_capacity(alloc, signal.len())?;

@@ -8,7 +8,7 @@ ghost use Rattle.rtl_ir.specs.declared.wire.Wire.{Wire};
 ghost use Rattle.rtl_ir.specs.Flat.Cell.{cell_kind};
 ghost use Rattle.rtl_ir.specs.Signals.{wire_bits};
 ghost use Rattle.rtl_ir.specs.Types as rtl;
-ghost use Rattle.net_index.specs.Index.{IsIndex};
+ghost use Rattle.net_index.specs.Drivers.{AreDrivers};
 ghost use Rattle.net_index.specs.Types.{AreTypes, IsType};
 ghost use Rattle.pass_laws.specs.Bits.{pin_bits};
 ghost use Rattle.opt_clean.specs.Keep.{is_root, is_shown, stays_by};
@@ -18,7 +18,7 @@ ghost use Rattle.opt_clean.specs.Marking.{IsMarking, KeepsReads, MarksDrivers, M
 ghost use Rattle.opt_clean.specs.Marking.{mark_place, mark_places, marking_of, root_places};
 
 use cell_types::{CellKind, kind_of};
-use net_index::{CellType, Driver, Index, Types, drives_pin};
+use net_index::{CellType, Driver, Drivers, Types, drives_pin};
 use rtl_bits::Memory;
 use rtl_ir::{Cell, Link, Pin, is_kept};
 use rtl_sig::{SigBit, WireBit};
@@ -55,7 +55,7 @@ impl Marks {
     }
 
     /// Marks the cell that drives the bit, where one does.
-    fn mark_driver(&mut self, bit: SigBit, index: &Index) -> Result<(), Memory>
+    fn mark_driver(&mut self, bit: SigBit, index: &Drivers) -> Result<(), Memory>
         ensures value { OnOk result (MarksDrivers index.now self.old self.new (wire_bits (bit ∷ []))) }
     {
         if let SigBit::Wire(bit) = bit {
@@ -67,7 +67,7 @@ impl Marks {
     }
 
     /// Marks the cells that drive bits of the signal.
-    fn mark_signal(&mut self, signal: &[SigBit], index: &Index) -> Result<(), Memory>
+    fn mark_signal(&mut self, signal: &[SigBit], index: &Drivers) -> Result<(), Memory>
         ensures value { OnOk result (MarksDrivers index.now self.old self.new (wire_bits signal.now)) }
     {
         for bit in signal {
@@ -77,7 +77,7 @@ impl Marks {
     }
 
     /// Marks the cells that drive what the connections read.
-    fn mark_links(&mut self, links: &[Link], index: &Index) -> Result<(), Memory>
+    fn mark_links(&mut self, links: &[Link], index: &Drivers) -> Result<(), Memory>
         ensures value { OnOk result (MarksDrivers index.now self.old self.new (right_bits links.now)) }
     {
         for link in links {
@@ -87,9 +87,9 @@ impl Marks {
     }
 
     /// Marks the cells that drive what the cell reads.
-    fn mark_read(&mut self, cell: &Cell, types: &Types, index: &Index) -> Result<(), Memory>
+    fn mark_read(&mut self, cell: &Cell, types: &Types, index: &Drivers) -> Result<(), Memory>
         ensures value { OnOk result ((ports : rtl.Ports) (m : Module) → AreTypes types.now ports →
-            IsIndex index.now ports m →
+            AreDrivers index.now ports m →
             marking_of self.new ≡ mark_places (marking_of self.old) (cell_places ports m (input_bits ports cell.now))) }
     {
         let cell_type = types.find(cell.kind_name.as_slice());
@@ -97,7 +97,12 @@ impl Marks {
     }
 
     /// Marks the cells that drive what the pins of a cell of this type read.
-    fn mark_pins(&mut self, pins: &[Pin], cell_type: &CellType, index: &Index) -> Result<(), Memory>
+    fn mark_pins(
+        &mut self,
+        pins: &[Pin],
+        cell_type: &CellType,
+        index: &Drivers,
+    ) -> Result<(), Memory>
         ensures value { OnOk result (MarksRead cell_type.now index.now self.old self.new pins.now) }
     {
         for pin in pins {
@@ -145,9 +150,9 @@ impl Marks {
     }
 
     /// Marks what drives the bits that marked cells read, until nothing new is marked.
-    fn mark_rest(&mut self, cells: &[Cell], types: &Types, index: &Index) -> Result<(), Memory>
+    fn mark_rest(&mut self, cells: &[Cell], types: &Types, index: &Drivers) -> Result<(), Memory>
         ensures value { OnOk result ((ports : rtl.Ports) (m : Module) (kept : List Bool) (initial : List ℕ) →
-            AreTypes types.now ports → IsIndex index.now ports m → KeepsReads ports m cells.now kept →
+            AreTypes types.now ports → AreDrivers index.now ports m → KeepsReads ports m cells.now kept →
             IsMarking ports m cells.now kept initial (marking_of self.old) 0 →
             IsMarking ports m cells.now kept initial (marking_of self.new) (length cells.now)) }
     {
@@ -163,10 +168,11 @@ impl Marks {
         next: usize,
         cells: &[Cell],
         types: &Types,
-        index: &Index,
+        index: &Drivers,
     ) -> Result<(), Memory>
         ensures value { OnOk result ((ports : rtl.Ports) (m : Module) → AreTypes types.now ports →
-            IsIndex index.now ports m → marking_of self.new ≡ after_next ports m cells.now (marking_of self.old) next) }
+            AreDrivers index.now ports m →
+            marking_of self.new ≡ after_next ports m cells.now (marking_of self.old) next) }
     {
         if next < self.order.len() {
             let place = self.order[next];
@@ -178,7 +184,7 @@ impl Marks {
     }
 
     /// Marks the cells that drive what the pin of a cell of this type reads.
-    fn mark_pin(&mut self, pin: &Pin, cell_type: &CellType, index: &Index) -> Result<(), Memory>
+    fn mark_pin(&mut self, pin: &Pin, cell_type: &CellType, index: &Drivers) -> Result<(), Memory>
         ensures value { OnOk result (MarksRead cell_type.now index.now self.old self.new (pin.now ∷ [])) }
     {
         if !drives_pin(cell_type, pin.name.as_slice()) {
@@ -195,10 +201,10 @@ pub(crate) fn kept_marks(
     cells: &[Cell],
     links: &[Link],
     types: &Types,
-    index: &Index,
+    index: &Drivers,
 ) -> Result<Vec<bool>, Memory>
     ensures value { IfOk result (λ marks. (ports : rtl.Ports) (m : Module) (wires : List Wire) →
-        AreTypes types.now ports → IsIndex index.now ports m → shown.now ≡ map is_shown wires →
+        AreTypes types.now ports → AreDrivers index.now ports m → shown.now ≡ map is_shown wires →
         Drives ports m cells.now → marks.items ≡ kept_marks ports wires links.now cells.now) }
 {
     let mut marks = Marks::none(alloc, cells.len())?;

@@ -12,7 +12,7 @@ mod wires;
 ghost use Rattle.std.specs.Prelude.{◌≡◌, [], ◌∷◌, ◌++◌, IfOk, OnOk, if◌then◌else◌};
 ghost use Rattle.rtl_ir.specs.Types as rtl;
 ghost use Rattle.rtl_ir.specs.Types.{table_ports};
-ghost use Rattle.net_index.specs.Index.{IsIndex};
+ghost use Rattle.net_index.specs.Drivers.{AreDrivers};
 ghost use Rattle.net_index.specs.Types.{AreTypes};
 ghost use Rattle.follow_laws.specs.Inputs.{followed};
 ghost use Rattle.pass_laws.specs.Pass.{IsPass};
@@ -28,7 +28,7 @@ use crate::keep::shown_wires;
 use crate::kept::kept_marks;
 use crate::links::links_of;
 use crate::wires::{Moves, marked_wires, wire_marks};
-use net_index::{Index, Types};
+use net_index::{Drivers, Types};
 use rtl_bits::{Copied, Memory, Seq};
 use rtl_ir::{Cell, Link, Module, PortTable};
 use std::alloc::Global;
@@ -53,15 +53,20 @@ fn cleaned(alloc: Global, module: &Module, ports: &PortTable) -> Result<Module, 
         return module.copy();
     }
     let types = Types::of_table(alloc, ports)?;
-    let index = Index::of(alloc, module, ports)?;
+    let index = Drivers::of(alloc, module, ports)?;
     let after = with_kept(alloc, module, &types, &index)?;
     Ok(after)
 }
 
 /// The module with what the outside needs, by the types of its cells and its index.
-fn with_kept(alloc: Global, module: &Module, types: &Types, index: &Index) -> Result<Module, Memory>
+fn with_kept(
+    alloc: Global,
+    module: &Module,
+    types: &Types,
+    index: &Drivers,
+) -> Result<Module, Memory>
     ensures exact { IfOk result (λ after. (ports : rtl.Ports) → AreTypes types.now ports →
-        IsIndex index.now ports «module».now → IsOnce ports «module».now →
+        AreDrivers index.now ports «module».now → IsOnce ports «module».now →
         after ≡ trimmed (reduced ports (followed ports «module».now))) }
 {
     let wires = module.wires.as_slice();

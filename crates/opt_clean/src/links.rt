@@ -4,13 +4,13 @@ ghost use Rattle.std.specs.Prelude.{◌≡◌, [], ◌∷◌, ◌++◌, IfOk, On
 ghost use Rattle.rtl_sig.specs.declared.sig.SigBit.TheVariants.{Wire as OnWire};
 ghost use Rattle.rtl_ir.specs.declared.module.Module.{Module};
 ghost use Rattle.rtl_ir.specs.Types as rtl;
-ghost use Rattle.net_index.specs.Index.{IsIndex};
+ghost use Rattle.net_index.specs.Drivers.{AreDrivers};
 ghost use Rattle.opt_clean.specs.Keep.{is_shown};
 ghost use Rattle.opt_clean.specs.Linked.{is_linked};
 ghost use Rattle.opt_clean.specs.Runs.{ended, run_link, shown_links, source_of, wire_links};
 
 use crate::followed::followed_signal;
-use net_index::{Driver, Index};
+use net_index::{Driver, Drivers};
 use rtl_bits::Memory;
 use rtl_ir::{Link, Wire};
 use rtl_sig::{SigBit, SigSpec, WireBit};
@@ -22,10 +22,10 @@ pub(crate) fn links_of(
     alloc: Global,
     wires: &[Wire],
     shown: &[bool],
-    index: &Index,
+    index: &Drivers,
 ) -> Result<Vec<Link>, Memory>
     requires shown { shown.now ≡ map is_shown wires.now }
-    ensures value { IfOk result (λ links. (ports : rtl.Ports) (m : Module) → IsIndex index.now ports m →
+    ensures value { IfOk result (λ links. (ports : rtl.Ports) (m : Module) → AreDrivers index.now ports m →
         links.items ≡ shown_links (is_linked ports m) (source_of m.links) 0 wires.now) }
 {
     let mut links = Vec::new(alloc);
@@ -56,9 +56,9 @@ fn add_if_shown(
     wire: u32,
     width: u32,
     shown: bool,
-    index: &Index,
+    index: &Drivers,
 ) -> Result<(), Memory>
-    ensures value { OnOk result ((ports : rtl.Ports) (m : Module) → IsIndex index.now ports m →
+    ensures value { OnOk result ((ports : rtl.Ports) (m : Module) → AreDrivers index.now ports m →
         links.new.items ≡ links.old.items ++
         (if shown then wire_links (is_linked ports m) (source_of m.links) wire width else [])) }
 {
@@ -74,9 +74,9 @@ fn add_links(
     links: &mut Vec<Link>,
     wire: u32,
     width: u32,
-    index: &Index,
+    index: &Drivers,
 ) -> Result<(), Memory>
-    ensures value { OnOk result ((ports : rtl.Ports) (m : Module) → IsIndex index.now ports m →
+    ensures value { OnOk result ((ports : rtl.Ports) (m : Module) → AreDrivers index.now ports m →
         links.new.items ≡ links.old.items ++ wire_links (is_linked ports m) (source_of m.links) wire width) }
 {
     let mut run = Vec::new(alloc);
@@ -93,12 +93,12 @@ fn add_bit(
     links: &mut Vec<Link>,
     run: &mut Vec<WireBit>,
     bit: WireBit,
-    index: &Index,
+    index: &Drivers,
 ) -> Result<(), Memory>
-    ensures links { OnOk result ((ports : rtl.Ports) (m : Module) → IsIndex index.now ports m →
+    ensures links { OnOk result ((ports : rtl.Ports) (m : Module) → AreDrivers index.now ports m →
         links.new.items ≡ links.old.items ++
         (if is_linked ports m bit then [] else map (run_link (source_of m.links)) (ended run.old.items))) }
-    ensures run { OnOk result ((ports : rtl.Ports) (m : Module) → IsIndex index.now ports m →
+    ensures run { OnOk result ((ports : rtl.Ports) (m : Module) → AreDrivers index.now ports m →
         run.new.items ≡ (if is_linked ports m bit then run.old.items ++ bit ∷ [] else [])) }
 {
     if is_linked(index, bit) {
@@ -110,8 +110,8 @@ fn add_bit(
 }
 
 /// Whether a connection drives the bit, and nothing before it does.
-fn is_linked(index: &Index, bit: WireBit) -> bool
-    ensures value { (ports : rtl.Ports) (m : Module) → IsIndex index.now ports m → result ≡ is_linked ports m bit }
+fn is_linked(index: &Drivers, bit: WireBit) -> bool
+    ensures value { (ports : rtl.Ports) (m : Module) → AreDrivers index.now ports m → result ≡ is_linked ports m bit }
 {
     matches!(index.driver(bit), Driver::Link(_))
 }
@@ -121,9 +121,9 @@ fn end_run(
     alloc: Global,
     links: &mut Vec<Link>,
     run: &mut Vec<WireBit>,
-    index: &Index,
+    index: &Drivers,
 ) -> Result<(), Memory>
-    ensures links { OnOk result ((ports : rtl.Ports) (m : Module) → IsIndex index.now ports m →
+    ensures links { OnOk result ((ports : rtl.Ports) (m : Module) → AreDrivers index.now ports m →
         links.new.items ≡ links.old.items ++ map (run_link (source_of m.links)) (ended run.old.items)) }
     ensures run { OnOk result (run.new.items ≡ []) }
 {
@@ -135,8 +135,8 @@ fn end_run(
 }
 
 /// The connection of what the bits are followed to, to the bits.
-fn run_link(alloc: Global, run: &[WireBit], index: &Index) -> Result<Link, Memory>
-    ensures value { IfOk result (λ link. (ports : rtl.Ports) (m : Module) → IsIndex index.now ports m →
+fn run_link(alloc: Global, run: &[WireBit], index: &Drivers) -> Result<Link, Memory>
+    ensures value { IfOk result (λ link. (ports : rtl.Ports) (m : Module) → AreDrivers index.now ports m →
         link ≡ run_link (source_of m.links) run.now) }
 {
     let left = signal_of(alloc, run)?;

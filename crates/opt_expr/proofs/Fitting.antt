@@ -37,7 +37,7 @@ use Rattle.net_model.specs.Lists.{In}
 use Rattle.expr_rules.specs.Change.{chooser_kind, inverter_kind}
 use Rattle.expr_rules.specs.Laws.{IsComputed}
 use Rattle.expr_rules.specs.Operands.{counted_as, counted_gate, meant_as, meant_of, meant_signed}
-use Rattle.expr_rules.specs.Signals.{constant_of}
+use Rattle.rtl_ir.specs.Signals.{constant_of}
 use Rattle.expr_rules.specs.declared.change.NewCell.{NewCell}
 use Rattle.expr_rules.specs.declared.operands.Operands.{Operands}
 use Rattle.opt_expr.specs.Places.{combinational}

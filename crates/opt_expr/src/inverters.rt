@@ -4,13 +4,14 @@ ghost use Rattle.std.specs.Prelude.{◌≡◌, List, IfOk, length, option_map, s
 ghost use Rattle.rtl_bits.specs.declared.bit.Bit.TheVariants.{X};
 ghost use Rattle.rtl_sig.specs.declared.sig.SigBit.TheVariants.{Fixed};
 ghost use Rattle.rtl_ir.specs.Flat.Cell.{cell_kind};
-ghost use Rattle.expr_rules.specs.Signals.{same, same_word};
+ghost use Rattle.expr_rules.specs.Signals.{same_word};
 ghost use Rattle.rtl_ir.specs.declared.cell.Cell.{Cell};
 ghost use Rattle.opt_expr.specs.Inverters.{input_at, input_of, inverted, inverted_bit, inverts};
 ghost use Rattle.opt_expr.specs.Places.{ArePlaces, other_at};
 
 use crate::places::{Places, place_of};
 use cell_types::{CellKind, FoldKind, GateKind, PinName, UnaryKind, WordKind, kind_of};
+use expr_rules::same_word;
 use rtl_bits::{Bit, Memory};
 use rtl_ir::{Cell, signal_at};
 use rtl_sig::{SigBit, SigSpec};
@@ -107,7 +108,7 @@ fn input_of(
     let pins = cell.pins.as_slice();
     let input = signal_at(pins, PinName::A.text());
     if is_inverter(cell, logic)
-        && is_same(signal_at(pins, PinName::Y.text()), word)
+        && same_word(signal_at(pins, PinName::Y.text()), word)
         && input.len() == word.len()
     {
         return Ok(Some(SigSpec::from_slice(alloc, input)?));
@@ -124,33 +125,6 @@ fn is_inverter(cell: &Cell, logic: bool) -> bool
         Some(CellKind::Word(WordKind::Unary(UnaryKind::Not)) | CellKind::Gate(GateKind::Not)) =>
             true,
         Some(CellKind::Word(WordKind::Fold(FoldKind::LogicNot))) => logic,
-        _ => false,
-    }
-}
-
-/// Whether two signals are one, bit by bit.
-#[tactic(auto, using(expr_rules::proofs::Sameness::other_length))]
-fn is_same(a: &[SigBit], b: &[SigBit]) -> bool
-    ensures value { result ≡ same_word a.now b.now }
-{
-    if a.len() != b.len() {
-        return false;
-    }
-    for at in 0..a.len() {
-        if !is_same_bit(a[at], b[at]) {
-            return false;
-        }
-    }
-    true
-}
-
-/// Whether two bits are one: one constant, where x and z differ, or one bit of a wire.
-fn is_same_bit(a: SigBit, b: SigBit) -> bool
-    ensures value { result ≡ same a b }
-{
-    match (a, b) {
-        (SigBit::Fixed(a), SigBit::Fixed(b)) => a == b,
-        (SigBit::Wire(a), SigBit::Wire(b)) => a.wire == b.wire && a.at == b.at,
         _ => false,
     }
 }

@@ -3,7 +3,6 @@
 ghost use Rattle.std.specs.Prelude.{◌≡◌, ◌++◌, ◌∷◌, [], true, List, Some, None, IfOk, OnOk};
 ghost use Rattle.cell_types.specs.PinName.{pin_text};
 ghost use Rattle.cell_types.specs.declared.pin_name.PinName.TheVariants.{A, B, S};
-ghost use Rattle.rtl_ir.specs.Faults.Cells.{misfit};
 ghost use Rattle.rtl_ir.specs.Flat.Cell.{cell_kind, cell_shape};
 ghost use Rattle.rtl_ir.specs.Parameters.{signal_at};
 ghost use Rattle.rtl_ir.specs.Types as rtl;
@@ -24,7 +23,7 @@ use expr_rules::{Change, Operands, first_fit};
 use net_alias::Aliases;
 use net_index::Types;
 use rtl_bits::{Copied, Memory, Seq};
-use rtl_ir::{Cell, Link, Pin, Same, cell_shape, is_kept, signal_at};
+use rtl_ir::{Cell, Link, Pin, Same, fitting_shape, is_kept, signal_at};
 use rtl_sig::SigSpec;
 use std::alloc::Global;
 use std::collections::VecDeque;
@@ -128,7 +127,7 @@ fn change(
     let Some(kind) = ruled_kind(alloc, cell)? else {
         return Ok(None);
     };
-    let shape = shape_of(alloc, kind, cell)?;
+    let shape = fitting_shape(alloc, kind, cell)?;
     let operands = operands(alloc, places, done, rest, &shape, cell.pins.as_slice())?;
     let change = first_fit(alloc, &shape, &operands)?;
     Ok(change)
@@ -142,14 +141,6 @@ fn ruled_kind(alloc: Global, cell: &Cell) -> Result<Option<CellKind>, Memory>
         return Ok(None);
     }
     Ok(combinational_kind(cell))
-}
-
-/// The shape of a cell without faults of its parameters and pins, so that memory alone can be missing.
-fn shape_of(alloc: Global, kind: CellKind, cell: &Cell) -> Result<Shape, Memory>
-    ensures shape { IfOk result (λ shape. shape ≡ cell_shape kind cell.now.params) }
-    ensures fits { IfOk result (λ shape. misfit kind cell.now ≡ None) }
-{
-    cell_shape(alloc, kind, cell).map_err(|_fault| Memory)
 }
 
 /// The operands of a cell of a shape with these pins.

@@ -1,10 +1,8 @@
 -- Cells that are put into a table.
-use Rattle.std.proofs.Common.{◌≡◌, ℕ, suc, ◌<◌, ◌≤◌, Bool, true, false, cond, ltb, List, [], ◌∷◌, ◌++◌, length, get_or, min, take, zero, ◌+◌, Option, Some, None, ◌⊎◌, inl, inr, ⊎_elim, refl, sym, ◌∙◌, ap, subst, arith}
+use Rattle.std.proofs.Common.{◌≡◌, ℕ, suc, ◌<◌, ◌≤◌, Bool, true, false, cond, ltb, List, [], ◌∷◌, ◌++◌, length, Result, Ok, Err, OnOk, get_or, min, take, zero, ◌+◌, Option, Some, None, ◌⊎◌, inl, inr, ⊎_elim, refl, sym, ◌∙◌, ap, subst, arith}
 use Rattle.std.specs.Str.{bytes_eq}
 use Rattle.std.proofs.lemmas.Bool.{ltb-false, ltb-true}
 use Rattle.std.proofs.lemmas.Slice.Eq.{bytes_eq-Decides}
-use Rattle.std.proofs.lemmas.Grind.{flat_map-append}
-use Rattle.std.proofs.lemmas.List.{append-nil}
 use Rattle.rtl_bits.specs.declared.bit.Bit.{Bit}
 use Rattle.rtl_sig.specs.declared.sig.SigBit.{SigBit}
 use Rattle.cell_types.specs.declared.kind.CellKind.{CellKind}
@@ -13,9 +11,9 @@ use Rattle.rtl_ir.specs.declared.module.Link.{Link}
 use Rattle.net_model.specs.Lists.{In}
 use Rattle.net_model.proofs.Members.{In-cases}
 use Rattle.opt_merge.specs.declared.table.Table.{Table}
-use Rattle.opt_merge.specs.declared.readers.Readers.{Readers}
-use Rattle.opt_merge.specs.Entries.{Enters, HasBefore, kind_traits, noted_at}
-use Rattle.opt_merge.specs.Readers.{readers_of_bit, readers_of_signal}
+use Rattle.opt_merge.specs.declared.entries.Entries.{Entries}
+use Rattle.opt_merge.specs.Entries.{Enters, EntersPlaces, HasBefore, kind_traits, noted_at}
+use Rattle.opt_merge.specs.Among.{AreAmong}
 use Rattle.opt_merge.specs.Rows.{row_of}
 use Rattle.opt_merge.specs.Table.{at_row, least}
 use Rattle.opt_merge.specs.Traits.{Traits, traits_of}
@@ -98,25 +96,22 @@ pub enters_next : (traits : ℕ → Option Traits) (a b c : Table) (places : Lis
 enters_next traits a b c places i d lt h k =
     subst (Enters traits a c) (sym (take_next places i d (get_or places i d) lt refl)) (enters_both traits a b c (take i places) (get_or places i d ∷ []) h k)
 
--- the readers of a bit more
-pub enters_bit : (traits : ℕ → Option Traits) (a b c : Table) (readers : Readers) (signal : List SigBit) (i : ℕ) (d : SigBit) → i < length signal → Enters traits a b (readers_of_signal readers (take i signal))
-    → Enters traits b c (readers_of_bit readers (get_or signal i d)) → Enters traits a c (readers_of_signal readers (take (i + 1) signal))
-enters_bit traits a b c readers signal i d lt h k =
-    subst (Enters traits a c)
-    (sym (ap (readers_of_signal readers) (take_next signal i d (get_or signal i d) lt refl) ∙ flat_map-append (readers_of_bit readers) (take i signal) (get_or signal i d ∷ []) ∙ ap (λ z. readers_of_signal readers (take i signal) ++ z) (append-nil (readers_of_bit readers (get_or signal i d)))))
-    (enters_both traits a b c (readers_of_signal readers (take i signal)) (readers_of_bit readers (get_or signal i d)) h k)
+-- what follows where a call succeeds
+pub on_ok : {T E : Type 0} (r : Result T E) (A B : Type 0) → (A → B) → OnOk r A → OnOk r B
+on_ok (Ok x) A B f h = f h
+on_ok (Err e) A B f h = tt
+
+-- places among others
+pub enters_among : (old new : Entries) (cells : List Cell) (places others : List ℕ) → EntersPlaces old new cells others → AreAmong places others → EntersPlaces old new cells places
+enters_among old new cells places others enters among wires links view =
+    let e = enters wires links view in
+    record { sound = e.sound; stays = e.stays; full = λ at i t h. e.full at (among at i) t h }
 
 -- the same where the kinds that are noted stay
 pub noted_next : (start : SigBit → Bit) (links : List Link) (cells : List Cell) (ks ls : List (Option CellKind)) → ls ≡ ks → (a b c : Table) (places : List ℕ) (i d : ℕ) → i < length places
     → Enters (noted_at start links ks cells) a b (take i places) → Enters (noted_at start links ls cells) b c (get_or places i d ∷ []) → Enters (noted_at start links ks cells) a c (take (i + 1) places)
 noted_next start links cells ks ls same a b c places i d lt h k =
     enters_next (noted_at start links ks cells) a b c places i d lt h (subst (λ z. Enters (noted_at start links z cells) b c (get_or places i d ∷ [])) same k)
-
-pub noted_bit : (start : SigBit → Bit) (links : List Link) (cells : List Cell) (ks ls : List (Option CellKind)) → ls ≡ ks → (a b c : Table) (readers : Readers) (signal : List SigBit) (i : ℕ) (d : SigBit) → i < length signal
-    → Enters (noted_at start links ks cells) a b (readers_of_signal readers (take i signal)) → Enters (noted_at start links ls cells) b c (readers_of_bit readers (get_or signal i d))
-    → Enters (noted_at start links ks cells) a c (readers_of_signal readers (take (i + 1) signal))
-noted_bit start links cells ks ls same a b c readers signal i d lt h k =
-    enters_bit (noted_at start links ks cells) a b c readers signal i d lt h (subst (λ z. Enters (noted_at start links z cells) b c (readers_of_bit readers (get_or signal i d))) same k)
 
 -- no cell there
 pub past_end : (start : SigBit → Bit) (links : List Link) (kind : CellKind) (cells : List Cell) (at : ℕ) → length cells ≤ at → kind_traits start links kind cells at ≡ None

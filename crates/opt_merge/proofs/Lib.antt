@@ -10,6 +10,7 @@ pub mod Merging
 pub mod Drivers
 pub mod Updating
 pub mod Sofar
+pub mod Among
 pub mod Placing
 pub mod Stepping
 pub mod Refining

@@ -3,6 +3,7 @@ pub mod Merge
 pub mod Rows
 pub mod View
 pub mod Table
+pub mod Among
 pub mod Readers
 pub mod Reading
 pub mod Entries

@@ -6,7 +6,7 @@ ghost use Rattle.rtl_ir.specs.declared.wire.Wire.{Wire};
 ghost use Rattle.rtl_ir.specs.Flat.Start.{start_of};
 ghost use Rattle.opt_merge.specs.Entries.{Enters, EntersPlaces, kind_traits, linked};
 ghost use Rattle.opt_merge.specs.Rows.{row_of};
-ghost use Rattle.opt_merge.specs.Readers.{readers_of_bit, readers_of_signal};
+ghost use Rattle.opt_merge.specs.Readers.{readers_of_signal};
 ghost use Rattle.opt_merge.specs.Table.{PutsRow};
 ghost use Rattle.opt_merge.specs.Traits.{Traits, traits_of};
 ghost use Rattle.opt_merge.specs.View.{IsView, StaysView};
@@ -17,7 +17,7 @@ use crate::table::Table;
 use cell_types::CellKind;
 use rtl_bits::Memory;
 use rtl_ir::Cell;
-use rtl_sig::{SigBit, WireBit};
+use rtl_sig::SigBit;
 
 /// The first place of each row of numbers, and the kinds of the cells at the places.
 #[derive(Drop)]
@@ -52,7 +52,8 @@ impl Entries {
         Ok(())
     }
 
-    /// The cells that read these bits are found by what they read now.
+    /// The cells that read these bits are found by what they read now, each entered once, however many of the bits it
+    /// reads.
     pub(crate) fn enter_signal(
         &mut self,
         cells: &[Cell],
@@ -64,25 +65,11 @@ impl Entries {
         ensures keeps { OnOk result (StaysView self.old.view self.new.view) }
         ensures kinds { OnOk result (self.new.kinds ≡ self.old.kinds) }
     {
-        for bit in signal {
-            self.enter_bit(cells, readers, *bit)?;
-        }
-        Ok(())
+        let places = readers.of_signal(self.view.alloc, signal)?;
+        self.enter_places(cells, places.as_slice())
     }
 
-    /// Those that read the bit.
-    fn enter_bit(&mut self, cells: &[Cell], readers: &Readers, bit: SigBit) -> Result<(), Memory>
-        ensures enters { OnOk result (EntersPlaces self.old self.new cells.now (readers_of_bit readers.now bit)) }
-        ensures keeps { OnOk result (StaysView self.old.view self.new.view) }
-        ensures kinds { OnOk result (self.new.kinds ≡ self.old.kinds) }
-    {
-        match bit {
-            SigBit::Fixed(_) => Ok(()),
-            SigBit::Wire(bit) => self.enter_places(cells, readers.of_bit(bit)),
-        }
-    }
-
-    /// Those at these places.
+    /// The cells at these places are found by what they read now.
     fn enter_places(&mut self, cells: &[Cell], places: &[usize]) -> Result<(), Memory>
         ensures enters { OnOk result (EntersPlaces self.old self.new cells.now places.now) }
         ensures keeps { OnOk result (StaysView self.old.view self.new.view) }

@@ -1,12 +1,14 @@
 //! Which cells read a bit.
 
-ghost use Rattle.std.specs.Prelude.{◌≡◌, length};
+ghost use Rattle.std.specs.Prelude.{◌≡◌, OnOk, length};
 ghost use Rattle.net_index.specs.Numbering.{bit_count};
+ghost use Rattle.opt_merge.specs.Among.{AreAmong};
 
+use indexmap::IndexSet;
 use net_index::Numbering;
 use rtl_bits::Memory;
 use rtl_ir::Wire;
-use rtl_sig::WireBit;
+use rtl_sig::{SigBit, WireBit};
 use std::alloc::Global;
 
 /// The places of the cells that read a bit: by their numbers for the bits that wires have, and together for all others.
@@ -19,9 +21,10 @@ pub(crate) struct Readers {
 }
 
 impl Readers {
-    ghost use Rattle.std.specs.Prelude.{◌≡◌, OnOk};
+    ghost use Rattle.std.specs.Prelude.{◌≡◌, IfOk, OnOk};
     ghost use Rattle.net_model.specs.Lists.{In};
-    ghost use Rattle.opt_merge.specs.Readers.{readers_at};
+    ghost use Rattle.opt_merge.specs.Among.{AreAmong};
+    ghost use Rattle.opt_merge.specs.Readers.{readers_at, readers_of_bit, readers_of_signal};
     ghost use Rattle.opt_merge.specs.Reading.{MoreReaders};
 
     /// No bit is read.
@@ -59,4 +62,41 @@ impl Readers {
             None => self.outside.as_slice(),
         }
     }
+
+    /// The places of the cells that read one of the bits, and maybe of others, each once.
+    pub(crate) fn of_signal(
+        &self,
+        alloc: Global,
+        signal: &[SigBit],
+    ) -> Result<IndexSet<usize>, Memory>
+        ensures all { IfOk result (λ places. AreAmong (readers_of_signal self.now signal.now) places.keys) }
+    {
+        let mut places = IndexSet::new(alloc);
+        for bit in signal {
+            self.add_bit(&mut places, *bit)?;
+        }
+        Ok(places)
+    }
+
+    /// The set with the places of the cells that read the bit.
+    fn add_bit(&self, places: &mut IndexSet<usize>, bit: SigBit) -> Result<(), Memory>
+        ensures stays { OnOk result (AreAmong places.old.keys places.new.keys) }
+        ensures all { OnOk result (AreAmong (readers_of_bit self.now bit) places.new.keys) }
+    {
+        match bit {
+            SigBit::Fixed(_) => Ok(()),
+            SigBit::Wire(bit) => add_places(places, self.of_bit(bit)),
+        }
+    }
+}
+
+/// The set with these places.
+fn add_places(places: &mut IndexSet<usize>, more: &[usize]) -> Result<(), Memory>
+    ensures stays { OnOk result (AreAmong places.old.keys places.new.keys) }
+    ensures all { OnOk result (AreAmong more.now places.new.keys) }
+{
+    for place in more {
+        places.insert(*place)?;
+    }
+    Ok(())
 }

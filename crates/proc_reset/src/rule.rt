@@ -13,9 +13,9 @@ ghost use Rattle.process_trees.specs.Rounds.{AreLeaves};
 ghost use Rattle.proc_reset.specs.Places.{leaves_at, reset_line};
 
 use crate::places::put_line;
-use process_trees::{EdgeBit, Leaves, edge_bit, has_line};
+use process_trees::{EdgeBit, Leaves, edge_bit};
 use rtl_bits::{Copied, Memory, Seq};
-use rtl_ir::{Event, Link, SyncRule};
+use rtl_ir::{Event, Link, SyncRule, has_line};
 use rtl_sig::{SigBit, SigSpec, WireBit};
 use std::alloc::Global;
 

@@ -12,7 +12,7 @@ use Rattle.rtl_ir.specs.Flat.Start.{first_constant}
 use Rattle.rtl_ir.specs.Follow.{all_joins}
 use Rattle.rtl_ir.specs.Tree.{Switches, NoSwitch, OneSwitch, Cases, NoCase, OneCase, CaseView, SwitchView}
 use Rattle.rtl_ir.specs.Types.{Ports}
-use Rattle.net_index.specs.Index.{IsIndex}
+use Rattle.net_index.specs.Drivers.{AreDrivers}
 use Rattle.proc_tree.specs.declared.leaves.Leaves.{Leaves}
 
 abbrev mutual
@@ -47,4 +47,4 @@ first_start root s = first_constant (leaves_of (expanded root (each_once (left_b
 -- which the last one of a bit counts
 abbrev pub AreLeaves : Leaves → CaseView → Type 0
 AreLeaves leaves root =
-    (ports : Ports) × (m : Module) × (IsIndex leaves.ways ports m × (all_joins m.links ≡ reverse (all_joins (case_first root))))
+    (ports : Ports) × (m : Module) × (AreDrivers leaves.ways ports m × (all_joins m.links ≡ reverse (all_joins (case_first root))))

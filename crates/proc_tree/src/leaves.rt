@@ -7,7 +7,7 @@ ghost use Rattle.rtl_ir.specs.Tree.{CaseView};
 ghost use Rattle.proc_tree.specs.Leaves.{AreLeaves, case_first, constant_or_x, first_start, switch_first};
 ghost use Rattle.rtl_ir.specs.declared.follow.Join.{Join};
 
-use net_index::Index;
+use net_index::Drivers;
 use rtl_bits::{Bit, Memory, Seq};
 use rtl_ir::{Case, Join, Link, Module, PortTable, Switch, add_all_joins};
 use rtl_sig::{SigBit, SigSpec};
@@ -17,7 +17,7 @@ use std::alloc::Global;
 /// first case. A start value has one leaf, whatever the decisions, so the first one is it.
 #[derive(Drop)]
 pub(crate) struct Leaves {
-    ways: Index,
+    ways: Drivers,
 }
 
 impl Leaves {
@@ -32,7 +32,7 @@ impl Leaves {
             modules: Seq::make(alloc),
         };
         Ok(Leaves {
-            ways: Index::of(alloc, &body, &none)?,
+            ways: Drivers::of(alloc, &body, &none)?,
         })
     }
 

@@ -2,15 +2,14 @@
 
 ghost use Rattle.std.specs.Prelude.{◌≡◌, ◌+◌, ◌++◌, min, List, [], ◌∷◌, IfOk, OnOk, if◌then◌else◌};
 ghost use Rattle.rtl_sig.specs.declared.sig.WireBit.{WireBit};
-ghost use Rattle.rtl_ir.specs.Assigns.{left_bits};
 ghost use Rattle.rtl_ir.specs.Rules.{updated_bits};
-ghost use Rattle.rtl_ir.specs.Signals.{same_bit, wire_bits};
+ghost use Rattle.rtl_ir.specs.Signals.{same_bit};
 ghost use Rattle.process_check.specs.Updates.{AreAlike, AreCounts, AreGiven, AreRaised, counted, own_bits};
 
 use process_trees::acts;
 use rtl_bits::Memory;
-use rtl_ir::{Link, SyncRule};
-use rtl_sig::{SigBit, WireBit};
+use rtl_ir::{SyncRule, left_bits};
+use rtl_sig::WireBit;
 use std::alloc::Global;
 use std::collections::HashMap;
 
@@ -108,27 +107,4 @@ fn count_of(counts: &Counts, bit: WireBit) -> u8
         Some(count) => count,
         None => 0,
     }
-}
-
-/// The bits on the left of these lines.
-fn left_bits(alloc: Global, lines: &[Link]) -> Result<Vec<WireBit>, Memory>
-    ensures value { IfOk result (λ bits. bits.items ≡ left_bits lines.now) }
-{
-    let mut bits = Vec::new(alloc);
-    for line in lines {
-        put_wire_bits(&mut bits, line.left.as_slice())?;
-    }
-    Ok(bits)
-}
-
-/// Puts the bits of wires in the signal last.
-fn put_wire_bits(bits: &mut Vec<WireBit>, signal: &[SigBit]) -> Result<(), Memory>
-    ensures ok { OnOk result (bits.new.items ≡ bits.old.items ++ wire_bits signal.now) }
-{
-    for bit in signal {
-        if let SigBit::Wire(bit) = bit {
-            bits.push(*bit)?;
-        }
-    }
-    Ok(())
 }

@@ -10,7 +10,7 @@ use Rattle.rtl_ir.specs.Types.{Ports, table_ports}
 use Rattle.net_index.specs.declared.driver.Driver.{Driver}
 use Rattle.net_index.specs.declared.driver.Driver.TheVariants.{Link as ByLink}
 use Rattle.net_index.specs.DriverFill.{HasDrivers}
-use Rattle.net_index.specs.Index.{IsIndex}
+use Rattle.net_index.specs.Drivers.{AreDrivers}
 use Rattle.process_trees.specs.declared.tables.EventTests.{EventTests}
 
 -- the module with these connections alone
@@ -19,7 +19,7 @@ links_alone links = record (empty_module []) { links = links }
 
 -- the tables know these connections, and how many places they have
 pub record AreLinks (tests : EventTests) (links : List Link) : Type 0 where
-  pub index : IsIndex tests.links (table_ports []) (links_alone links)
+  pub index : AreDrivers tests.links (table_ports []) (links_alone links)
   pub steps : tests.steps ≡ length (all_joins links)
 
 -- the tables are those of a module whose cells may be instances of modules with these ports

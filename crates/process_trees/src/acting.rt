@@ -2,11 +2,11 @@
 
 ghost use Rattle.std.specs.Prelude.{◌≡◌, ◌++◌, List, [], ◌∷◌};
 ghost use Rattle.rtl_ir.specs.declared.process.SyncRule.{SyncRule};
-ghost use Rattle.rtl_ir.specs.Rules.{acting_rules, has_line, is_init};
+ghost use Rattle.rtl_ir.specs.Rules.{acting_rules, is_init};
 ghost use Rattle.rtl_ir.specs.Faults.RuleKinds.{writes};
 ghost use Rattle.process_trees.specs.Acting.{Acts, acts};
 
-use rtl_ir::{Event, SyncRule};
+use rtl_ir::{Event, SyncRule, has_line};
 
 /// The rules that act, as far as a process that is taken may have them: none, one, two in order, or more.
 #[derive(Clone, Copy)]
@@ -46,13 +46,6 @@ pub fn acts(rule: &SyncRule) -> bool
     ensures value { result ≡ acts rule.now }
 {
     has_line(rule) && !is_init(&rule.event)
-}
-
-/// Whether the rule has a line.
-pub fn has_line(rule: &SyncRule) -> bool
-    ensures value { result ≡ has_line rule.now }
-{
-    !rule.updates.as_slice().is_empty() || writes(rule)
 }
 
 /// Whether a rule gives start values.

@@ -5,27 +5,14 @@ ghost use Rattle.rtl_sig.specs.declared.sig.SigBit.{SigBit};
 ghost use Rattle.rtl_ir.specs.declared.module.Link.{Link};
 ghost use Rattle.rtl_ir.specs.EventTests.{input_signals, is_open, placed_pins};
 ghost use Rattle.rtl_ir.specs.Follow.{all_joins};
-ghost use Rattle.rtl_ir.specs.Parameters.{signal_at};
 ghost use Rattle.process_trees.specs.Tables.{AreLinks};
 
 use crate::tables::EventTests;
 use cell_types::{CellKind, PinName, WordKind, pins_of};
 use rtl_bits::Memory;
-use rtl_ir::{Cell, Pin};
+use rtl_ir::{Cell, signal_at};
 use rtl_sig::SigBit;
 use std::alloc::Global;
-
-/// The signal at the pin of this name, no bits where there is none.
-pub(crate) fn signal_at<'a>(pins: &'a [Pin], name: &[u8]) -> &'a [SigBit]
-    ensures value { result.now ≡ signal_at pins.now name.now }
-{
-    for pin in pins {
-        if pin.name.as_slice() == name {
-            return pin.sig.as_slice();
-        }
-    }
-    &[]
-}
 
 /// The pins of a combinational kind; where it has S and no B, the place of B is kept.
 fn placed_pins(kind: CellKind) -> &'static [PinName]

@@ -21,7 +21,7 @@ mod tested;
 mod values;
 mod walk;
 
-pub use acting::{Acting, acting_rules, acts, has_line, is_init, writes};
+pub use acting::{Acting, acting_rules, acts, is_init, writes};
 pub use assigned::tree_bits;
 pub use by_rules::ruled;
 pub use edge::{EdgeBit, edge_bit};

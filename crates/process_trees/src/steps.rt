@@ -15,13 +15,13 @@ ghost use Rattle.process_trees.specs.Fitting.{DoCellsFit};
 ghost use Rattle.process_trees.specs.Steps.{combinational, step_as, step_by};
 ghost use Rattle.process_trees.specs.Tables.{AreLinks, AreTests};
 
-use crate::inputs::{input_signals, signal_at};
+use crate::inputs::input_signals;
 use crate::tables::EventTests;
 use crate::values::lowest_bit;
 use cell_types::{CellKind, PinName, kind_of};
 use net_index::Driver;
 use rtl_bits::{Bit, Bits, Memory, Seq};
-use rtl_ir::{Cell, Module};
+use rtl_ir::{Cell, Module, signal_at};
 use rtl_sig::{SigBit, WireBit};
 use std::alloc::Global;
 

@@ -6,12 +6,12 @@ ghost use Rattle.rtl_ir.specs.EventTests.{is_bit, meets};
 ghost use Rattle.rtl_ir.specs.Flat.Process.{no_modules};
 ghost use Rattle.rtl_ir.specs.Follow.{all_joins, back, follow_joins, joins};
 ghost use Rattle.rtl_ir.specs.Types as rtl;
-ghost use Rattle.net_index.specs.Index.{IsIndex};
+ghost use Rattle.net_index.specs.Drivers.{AreDrivers};
 ghost use Rattle.net_index.specs.Types.{AreTypes};
 ghost use Rattle.process_trees.specs.Tables.{AreLinks, AreTests, linked, links_alone};
 
 use crate::cells::cells_of;
-use net_index::{BitTable, Driver, Index, Types};
+use net_index::{BitTable, Driver, Drivers, Types};
 use rtl_bits::{Copied, Memory, Seq};
 use rtl_ir::{Link, Module, PortTable};
 use rtl_sig::{SigBit, WireBit};
@@ -22,7 +22,7 @@ use std::alloc::Global;
 #[derive(Drop)]
 pub struct EventTests {
     pub(crate) cells: BitTable<Driver>,
-    links: Index,
+    links: Drivers,
     steps: usize,
 }
 
@@ -113,15 +113,15 @@ fn is_bit(bit: WireBit, place: SigBit) -> bool
 }
 
 /// The index of a module with these connections alone.
-fn links_of(alloc: Global, links: &Seq<Link>) -> Result<Index, Memory>
-    ensures value { IfOk result (λ index. IsIndex index (rtl.table_ports []) (links_alone links.now)) }
+fn links_of(alloc: Global, links: &Seq<Link>) -> Result<Drivers, Memory>
+    ensures value { IfOk result (λ index. AreDrivers index (rtl.table_ports []) (links_alone links.now)) }
 {
     let mut body = Module::empty(alloc, b"")?;
     body.links = links.copy()?;
     let none = PortTable {
         modules: Seq::make(alloc),
     };
-    Index::of(alloc, &body, &none)
+    Drivers::of(alloc, &body, &none)
 }
 
 /// How many places the connections have at which the left is a bit of a wire. More than a machine can count are taken

@@ -9,7 +9,7 @@ use Rattle.result_cache.specs.Tickets.{fillings, times_filled}
 use Rattle.result_cache.proofs.Keys.{bytes_true}
 
 -- a call that is allowed on a filled key leaves it filled, and is no filling
-step_filled : (n seat : ℕ) (act : Act) (mode : Mode) (number : ℕ) → IsAllowed n seat act mode → mode ≡ filled number → (mode_after seat act mode ≡ filled number) × (fillings act ≡ 0)
+step_filled : (n seat : ℕ) (act : Act) (mode : Mode ℕ) (number : ℕ) → IsAllowed n seat act mode → mode ≡ filled number → (mode_after seat act mode ≡ filled number) × (fillings act ≡ 0)
 step_filled n seat (Hit v) mode number a is = (is, refl)
 step_filled n seat (Busy by) mode number a is = (is, refl)
 step_filled n seat Yours mode number a is = absurd (let x : free ≡ filled number = sym a ∙ is in cc)
@@ -30,7 +30,7 @@ stays_filled n s key number (c ∷ calls) h is =
     (rest.0, omega (arith, step.1, rest.1))
 
 -- a call is no filling, or it fills its key
-fills_or_not : (seat : ℕ) (act : Act) (mode : Mode) → (fillings act ≡ 0) ⊎ ((number : ℕ) × (fillings act ≡ 1) × (mode_after seat act mode ≡ filled number))
+fills_or_not : (seat : ℕ) (act : Act) (mode : Mode ℕ) → (fillings act ≡ 0) ⊎ ((number : ℕ) × (fillings act ≡ 1) × (mode_after seat act mode ≡ filled number))
 fills_or_not seat (Hit v) mode = inl refl
 fills_or_not seat (Busy by) mode = inl refl
 fills_or_not seat Yours mode = inl refl

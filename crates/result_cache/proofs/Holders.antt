@@ -10,20 +10,24 @@ use Rattle.result_cache.specs.Tickets.{calls_by, ticket_after, ticket_from, has_
 use Rattle.result_cache.proofs.Keys.{bytes_true}
 
 -- the mode is held by n exactly where b
-abbrev Agrees : ℕ → Mode → Bool → Type 0
+abbrev Agrees : ℕ → Mode ℕ → Bool → Type 0
 Agrees n m b = (m ≡ held n → b ≡ true) × (b ≡ true → m ≡ held n)
 
-own_step : (n : ℕ) (act : Act) (m : Mode) (b : Bool) → Agrees n m b → Agrees n (mode_after n act m) (ticket_after act b)
+own_step : (n : ℕ) (act : Act) (m : Mode ℕ) (b : Bool) → Agrees n m b → Agrees n (mode_after n act m) (ticket_after act b)
 own_step n (Hit v) m b h = h
 own_step n (Busy by) m b h = h
 own_step n Yours m b h = ((λ _. refl), (λ _. refl))
 own_step n (Fill v) m b h = ((λ e. absurd (cc)), (λ e. absurd (true≢false (sym e))))
 own_step n GiveBack m b h = ((λ e. absurd (cc)), (λ e. absurd (true≢false (sym e))))
 
-held_same : (s n : ℕ) → held s ≡ held n → s ≡ n
+-- a mode of a history
+abbrev in_history : Mode ℕ → Mode ℕ
+in_history mode = mode
+
+held_same : (s n : ℕ) → in_history (held s) ≡ held n → s ≡ n
 held_same s n e = cc
 
-other_step : (k n seat : ℕ) (act : Act) (m : Mode) (b : Bool) → seat ≢ n → IsAllowed k seat act m → Agrees n m b → Agrees n (mode_after seat act m) b
+other_step : (k n seat : ℕ) (act : Act) (m : Mode ℕ) (b : Bool) → seat ≢ n → IsAllowed k seat act m → Agrees n m b → Agrees n (mode_after seat act m) b
 other_step k n seat (Hit v) m b ne a h = h
 other_step k n seat (Busy by) m b ne a h = h
 other_step k n seat Yours m b ne a h = ((λ e. absurd (ne (held_same seat n e))), (λ e. let x : free ≡ held n = sym a ∙ h.1 e in absurd (cc)))

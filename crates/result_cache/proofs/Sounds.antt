@@ -131,7 +131,7 @@ module _ (V : Type 0) (stands_for : V → List ℕ → Type 0) where
       at_key q now =
           let P : Bool → Type 0 = λ t. bytes_eq (get_or keys i []) q ≡ t → cond t (mode_after seat act (state_after (calls_of keys es) q)) (state_after (calls_of keys es) q) ≡ cond t (mode_of c) (look_up free mode_of keys kept q) in
           elim (bytes_eq (get_or keys i []) q) as P [
-            | true ↦ λ is. ap (λ (m : Mode). mode_after seat act m) (ap (λ z. state_after (calls_of keys es) z) (sym (bytes_true (get_or keys i []) q is)) ∙ now) ∙ mode
+            | true ↦ λ is. ap (λ (m : Mode ℕ). mode_after seat act m) (ap (λ z. state_after (calls_of keys es) z) (sym (bytes_true (get_or keys i []) q is)) ∙ now) ∙ mode
             | false ↦ λ ne. h.replays q
           ] refl
 

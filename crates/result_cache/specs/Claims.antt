@@ -7,7 +7,7 @@ use Rattle.result_cache.specs.History.{Mode, free, held, filled}
 use Rattle.result_cache.specs.Stored.{Contents, value_at, mode_at, AddsCall}
 
 -- the seat that holds a key of this mode, where one does
-abbrev pub holder_of : Mode → Option ℕ
+abbrev pub holder_of : Mode ℕ → Option ℕ
 holder_of free = None
 holder_of (held seat) = Some seat
 holder_of (filled number) = None

@@ -5,21 +5,21 @@ use Rattle.result_cache.specs.declared.call.Act.{Act}
 use Rattle.result_cache.specs.declared.call.Act.TheVariants.{Hit, Busy, Yours, Fill, GiveBack}
 use Rattle.result_cache.specs.declared.call.Call.{Call}
 
--- a key is free, or held by a seat, or filled with the value of a number
-pub data Mode : Type 0 where
-  free : Mode
-  held : ℕ → Mode
-  filled : ℕ → Mode
+-- a key is free, or held by a seat, or filled with a value; a history tells a value by its number
+pub data Mode (V : Type 0) : Type 0 where
+  free : Mode V
+  held : ℕ → Mode V
+  filled : V → Mode V
 
 -- a key of this mode is filled
-abbrev pub IsFilled : Mode → Type 0
+abbrev pub IsFilled : {V : Type 0} → Mode V → Type 0
 IsFilled free = ⊥
 IsFilled (held seat) = ⊥
-IsFilled (filled number) = Unit {0}
+IsFilled (filled value) = Unit {0}
 
 -- a state gives each key its mode
 abbrev pub State : Type 0
-State = List ℕ → Mode
+State = List ℕ → Mode ℕ
 
 -- at the start each key is free
 abbrev pub all_free : State
@@ -30,7 +30,7 @@ abbrev pub call : ℕ → List ℕ → Act → Call
 call seat key act = record { seat = seat; key = key; act = act }
 
 -- a call behind n others may be made by the seat on a key of this mode, and has that reply there: a seat claims what it does not hold, and fills or gives back what it holds; a value's number is that of the calls before its filling
-abbrev pub IsAllowed : ℕ → ℕ → Act → Mode → Type 0
+abbrev pub IsAllowed : ℕ → ℕ → Act → Mode ℕ → Type 0
 IsAllowed n seat (Hit number) mode = mode ≡ filled number
 IsAllowed n seat (Busy by) mode = (mode ≡ held by) × (by ≢ seat)
 IsAllowed n seat Yours mode = mode ≡ free
@@ -38,7 +38,7 @@ IsAllowed n seat (Fill number) mode = (mode ≡ held seat) × (number ≡ n)
 IsAllowed n seat GiveBack mode = mode ≡ held seat
 
 -- the mode of a key after a call on it
-abbrev pub mode_after : ℕ → Act → Mode → Mode
+abbrev pub mode_after : ℕ → Act → Mode ℕ → Mode ℕ
 mode_after seat (Hit number) mode = mode
 mode_after seat (Busy by) mode = mode
 mode_after seat Yours mode = held seat

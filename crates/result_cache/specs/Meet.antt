@@ -35,6 +35,7 @@ SeatsSeeTo n logs (s ∷ olds) (t ∷ news) = (t.cache ≡ s.cache) × SeesTo n 
 SeatsSeeTo n logs [] (t ∷ news) = ⊥
 SeatsSeeTo n logs (s ∷ olds) [] = ⊥
 
+-- this history of shard i agrees with each of these seats
 abbrev pub SeatsAgree : List Call → ℕ → List Seated → Type 0
 SeatsAgree log i [] = Unit {0}
 SeatsAgree log i (s ∷ seats) = Agrees log i (known_of s) × SeatsAgree log i seats

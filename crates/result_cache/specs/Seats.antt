@@ -25,13 +25,16 @@ pub record Seated : Type 0 where
 abbrev pub known_of : Seated → Known
 known_of s = record { number = s.number; callers = s.callers; shards = s.shards; calls = s.calls; seen = s.seen }
 
+-- the seat of this cache of which this is known
 abbrev pub seat_at : TableId → Known → Seated
 seat_at cache k = record { cache = cache; number = k.number; callers = k.callers; shards = k.shards; calls = k.calls; seen = k.seen }
 
+-- the one view of a seat
 abbrev pub first_view : List View → View
 first_view [] = view_of (nobody ∷ [])
 first_view (v ∷ views) = v
 
+-- the seat of this cache that has this view
 abbrev pub seated_of : TableId → List View → Seated
 seated_of cache views = seat_at cache (seat_of (first_view views))
 

@@ -76,10 +76,11 @@ rest_of (k ∷ seats) = seats
 abbrev pub seat_of : View → Known
 seat_of v = first_of v.seats
 
--- the view without its first seat, and that seat's own view
+-- the view without its first seat
 abbrev pub others : View → View
 others v = view_of (rest_of v.seats)
 
+-- the view of its first seat alone
 abbrev pub alone : View → View
 alone v = view_of (seat_of v ∷ [])
 
@@ -150,6 +151,7 @@ abbrev pub TakenIf : (V : Type 0) → ℕ → Bool → Me (Contents V) View → 
 TakenIf V i true me me' = (y : Contents V) × (me' ≡ (holding (seat_of me.0) i y.history, (i, y) ∷ [])) × Agrees y.history i (seat_of me.0)
 TakenIf V i false me me' = me' ≡ me
 
+-- the lock is taken, or was not free, by the number that was found in its word
 abbrev pub Taken : (V : Type 0) → ℕ → Me (Contents V) View → ℕ → Me (Contents V) View → Type 0
 Taken V i me found me' = TakenIf V i (found == 0) me me'
 
@@ -166,6 +168,7 @@ seat_after k i more log = record k { calls = k.calls ++ more; seen = slice_set k
 abbrev pub released : {V : Type 0} → Me (Contents V) View → View
 released me = view_of (seat_after (seat_of me.0) me.0.at (drop (length me.0.log) (held_history me.1)) (held_history me.1) ∷ [])
 
+-- the lock is given back, with the calls that were made under it
 abbrev pub Given : (V : Type 0) → Me (Contents V) View → Me (Contents V) View → Type 0
 Given V me me' = me' ≡ (released me, [])
 

@@ -27,7 +27,7 @@ ArePlaced n (e ∷ entries) = (e.place < n) × ArePlaced n entries
 
 module _ {V : Type 0} where
   -- the mode of a key of which this is kept
-  abbrev pub mode_of : Kept V → Mode
+  abbrev pub mode_of : Kept V → Mode ℕ
   mode_of Free = free
   mode_of (Held seat) = held seat
   mode_of (Filled number value) = filled number
@@ -86,7 +86,7 @@ module _ {V : Type 0} where
   value_at s key = look_up None value_of s.keys s.kept key
 
   -- the mode of a key, by the history
-  abbrev pub mode_at : Contents V → List ℕ → Mode
+  abbrev pub mode_at : Contents V → List ℕ → Mode ℕ
   mode_at s key = state_after s.history key
 
   -- each key has the value that it had, or none where it had none
@@ -94,7 +94,7 @@ module _ {V : Type 0} where
   KeepsValues old new = (key : List ℕ) → value_at new key ≡ value_at old key
 
   -- the mode of a key, by what is kept of it
-  abbrev pub kept_mode : Contents V → List ℕ → Mode
+  abbrev pub kept_mode : Contents V → List ℕ → Mode ℕ
   kept_mode s key = look_up free mode_of s.keys s.kept key
 
   -- how many keys are held

@@ -9,11 +9,7 @@ mod locks;
 mod make;
 mod meet;
 mod seat;
-#[cfg(test)]
-mod seat_tests;
 mod shard;
-#[cfg(test)]
-mod tests;
 mod view;
 
 pub use cache::SharedCache;

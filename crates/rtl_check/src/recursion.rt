@@ -3,17 +3,15 @@
 ghost use Rattle.std.specs.Prelude.{◌≡◌, ◌<◌, List, length, IfOk, OnOk};
 ghost use Rattle.rtl_ir.specs.declared.module.Module.{Module};
 ghost use Rattle.rtl_ir.specs.Faults.Recursion.{instance_graph, instance_place, instance_places, leads_within, recursion_faults};
-ghost use Rattle.rtl_ir.specs.Ports.{is_library_cell};
 ghost use Rattle.process_check.specs.Ends.{AreEnding};
 ghost use Rattle.rtl_check.specs.Finds.{Finds};
 ghost use Rattle.rtl_check.specs.Places.{ArePlaces, with_place};
 ghost use Rattle.process_check.specs.Search.{IsGraph, rows_of};
 
 use crate::fault::CheckFault;
-use cell_types::kind_of;
 use process_check::{Graph, ending_places, is_recursive};
 use rtl_bits::{Copied, Memory};
-use rtl_ir::{Cell, Module};
+use rtl_ir::{Cell, Module, is_library_cell};
 use std::alloc::Global;
 use std::collections::HashMap;
 
@@ -85,16 +83,9 @@ fn put_place(found: &mut Vec<usize>, place: Option<usize>) -> Result<(), Memory>
 fn instance_place(places: &Places, name: &[u8]) -> Option<usize>
     ensures value { (modules : List Module) → ArePlaces places.now modules → result ≡ instance_place modules name.now }
 {
-    if in_library(name) {
+    if is_library_cell(name) {
         None
     } else {
         places.get(name).copied()
     }
-}
-
-/// Whether a cell of the library has the name.
-fn in_library(name: &[u8]) -> bool
-    ensures value { result ≡ is_library_cell name.now }
-{
-    kind_of(name).is_some()
 }

@@ -3,14 +3,13 @@
 ghost use Rattle.std.specs.Prelude.{◌≡◌, ℤ, false, List, [], IfOk};
 ghost use Rattle.rtl_ir.specs.Fault.{spot};
 ghost use Rattle.rtl_ir.specs.Faults.Wires.{is_bad_port, with_number, wire_faults};
-ghost use Rattle.rtl_ir.specs.Ports.{is_port};
 ghost use Rattle.rtl_check.specs.Finds.{Finds};
 ghost use Rattle.rtl_check.specs.Numbers.{Holds};
 ghost use Rattle.rtl_check.specs.Words.{spot_of};
 
 use crate::fault::{CheckFault, Item, Spot};
 use rtl_bits::{Copied, Memory, Text};
-use rtl_ir::{Role, Wire};
+use rtl_ir::{Role, Wire, is_port};
 use std::alloc::Global;
 use std::collections::HashSet;
 
@@ -50,14 +49,4 @@ pub(crate) fn spot(id: &Text, name: &Text) -> Result<Spot, Memory>
         id: id.copy()?,
         item: Item::Named(name.copy()?),
     })
-}
-
-/// Whether other modules see a wire of this role.
-pub(crate) fn is_port(role: Role) -> bool
-    ensures value { result ≡ is_port role }
-{
-    match role {
-        Role::Inner => false,
-        Role::Input | Role::Output | Role::Inout => true,
-    }
 }

@@ -2,7 +2,7 @@
 
 ghost use Rattle.std.specs.Prelude.{◌≡◌, ◌∷◌, ◌++◌, List, [], IfOk, OnOk, if◌then◌else◌, length, map, slice_index_or};
 ghost use Rattle.std.specs.List.{AllByRecursion};
-ghost use Rattle.rtl_bits.specs.Numbers.{is_one, low_bit_of};
+ghost use Rattle.rtl_bits.specs.Numbers.{is_one};
 ghost use Rattle.cell_gate.specs.Control.{pick_of};
 ghost use Rattle.rtl_ir.specs.Flat.Place.{Place};
 ghost use Rattle.net_model.specs.Words.{address_is, after_ports};
@@ -16,7 +16,7 @@ ghost use Rattle.sim_eval.specs.Written.{follows_all, is_zero, number_at, number
 use crate::values::{bit_at, read};
 use cell_gate::pick;
 use flat_net::{Point, WordBit, WritePort};
-use rtl_bits::{Bit, Memory, bit_and, bit_not, bit_xor};
+use rtl_bits::{Bit, Memory, bit_and, bit_not, bit_xor, is_one, low_bit_of};
 use std::alloc::Global;
 
 /// What the ports make of a bit of a word at a certain edge: they write one after another.
@@ -98,7 +98,7 @@ fn followed_by(port: &WritePort, writers: &[u32], new: Bit) -> Bit
 fn may_follow(port: &WritePort, number: u32) -> bool
     ensures value { result ≡ is_one (slice_index_or port.now.mask number Bit.X) }
 {
-    matches!(bit_at(port.mask.as_slice(), number), Bit::S1)
+    is_one(bit_at(port.mask.as_slice(), number))
 }
 
 /// Whether an address is a number: 0 where two known bits differ or the number does not fit, 1 where all are known and
@@ -109,7 +109,7 @@ fn address_is(values: &[Bit], address: &[Point], number: u32) -> Bit
     let mut all = Bit::S1;
     let mut rest = number;
     for point in address {
-        let same = bit_not(bit_xor(read(values, *point), low_bit(rest)));
+        let same = bit_not(bit_xor(read(values, *point), low_bit_of(u128::from(rest))));
         if same == Bit::S0 {
             return Bit::S0;
         }
@@ -117,13 +117,6 @@ fn address_is(values: &[Bit], address: &[Point], number: u32) -> Bit
         rest /= 2;
     }
     bit_and(all, zero_bit(rest))
-}
-
-/// The lowest bit of a number.
-fn low_bit(number: u32) -> Bit
-    ensures value { result ≡ low_bit_of number }
-{
-    if number % 2 == 1 { Bit::S1 } else { Bit::S0 }
 }
 
 /// 1 where the number is 0, else 0.

@@ -1,14 +1,12 @@
 //! The gates of a cell, by its kind.
 
 ghost use Rattle.std.specs.Prelude.{◌≡◌, Err, IfOk, OnOk};
-ghost use Rattle.rtl_ir.specs.Flat.Cell.{cell_shape};
 ghost use Rattle.net_index.specs.Builder.{IsInLimits, PassesLimit};
 ghost use Rattle.tech_map.specs.Techmap.{expand_by_kind};
 
 use cell_types::{ArithKind, CellKind, Shape, UnaryKind, WordKind};
 use net_index::{Builder, PassFault};
-use rtl_bits::Memory;
-use rtl_ir::{Cell, cell_shape};
+use rtl_ir::{Cell, fitting_shape};
 use std::alloc::Global;
 
 /// The gates of a cell of this kind go last, by the map of the kind. After an error the builder holds some
@@ -23,7 +21,7 @@ pub(crate) fn expand_by_kind(
     ensures over { result ≡ Err PassFault.Over → PassesLimit (expand_by_kind kind cell.now builder.old) }
     ensures within { IsInLimits builder.old → OnOk result (IsInLimits builder.new) }
 {
-    let shape = shape_of(alloc, kind, cell)?;
+    let shape = fitting_shape(alloc, kind, cell)?;
     match kind {
         CellKind::Word(WordKind::Unary(UnaryKind::Neg)) => {
             map_add::expand(alloc, cell, &shape, builder)
@@ -38,11 +36,4 @@ pub(crate) fn expand_by_kind(
         CellKind::Storage(_) => map_flop::expand(alloc, cell, &shape, builder),
         _ => map_gates::expand(alloc, cell, &shape, builder),
     }
-}
-
-/// The shape of a cell without faults of its parameters and pins, so that memory alone can be missing.
-fn shape_of(alloc: Global, kind: CellKind, cell: &Cell) -> Result<Shape, Memory>
-    ensures shape { IfOk result (λ shape. shape ≡ cell_shape kind cell.now.params) }
-{
-    cell_shape(alloc, kind, cell).map_err(|_fault| Memory)
 }

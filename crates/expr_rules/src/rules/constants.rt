@@ -2,17 +2,17 @@
 
 ghost use Rattle.std.specs.Prelude.{◌≡◌, IfOk, slice_index_or};
 ghost use Rattle.rtl_bits.specs.declared.bit.Bit.TheVariants.{X};
-ghost use Rattle.rtl_bits.specs.Knowledge.{all_known};
 ghost use Rattle.expr_rules.specs.Laws.{IsComputed};
 ghost use Rattle.expr_rules.specs.Rules.Constants.{constant_inputs, constant_value, known_value, value_by};
 
 use crate::change::Change;
 use crate::operands::Operands;
-use crate::signals::{are_constant, constants, fixed};
 use cell_gate::gate_value;
 use cell_types::{CellKind, Shape};
 use cell_word::word_value;
-use rtl_bits::{Bit, Bits, Memory};
+use rtl_bits::{Bit, Bits, Memory, all_known};
+use rtl_ir::{constants_of, is_all_constant};
+use rtl_sig::fixed;
 use std::alloc::Global;
 
 /// All inputs are constants: gives the value.
@@ -24,9 +24,9 @@ pub(crate) fn constant_inputs(
     requires computed { IsComputed shape.now.kind shape.now o.now }
     ensures value { IfOk result (λ change. change ≡ constant_inputs shape.now o.now) }
 {
-    if are_constant(o.a.as_slice())
-        && are_constant(o.b.as_slice())
-        && are_constant(o.s.as_slice())
+    if is_all_constant(o.a.as_slice())
+        && is_all_constant(o.b.as_slice())
+        && is_all_constant(o.s.as_slice())
     {
         let value = constant_value(alloc, shape, o)?;
         Ok(Some(Change::Gives(fixed(alloc, value.as_slice())?)))
@@ -45,18 +45,11 @@ pub(crate) fn known_value(
     ensures value { IfOk result (λ change. change ≡ known_value shape.now o.now) }
 {
     let value = constant_value(alloc, shape, o)?;
-    if are_known(value.as_slice()) {
+    if all_known(value.as_slice()) {
         Ok(Some(Change::Gives(fixed(alloc, value.as_slice())?)))
     } else {
         Ok(None)
     }
-}
-
-/// Whether all bits are known.
-fn are_known(bits: &[Bit]) -> bool
-    ensures value { result ≡ all_known bits.now }
-{
-    bits.iter().all(|bit| bit.known())
 }
 
 /// The value of the cell with all bits that are not constant as x.
@@ -64,9 +57,9 @@ fn constant_value(alloc: Global, shape: &Shape, o: &Operands) -> Result<Bits, Me
     requires computed { IsComputed shape.now.kind shape.now o.now }
     ensures value { IfOk result (λ bits. bits ≡ constant_value shape.now o.now) }
 {
-    let a = constants(alloc, o.a.as_slice())?;
-    let b = constants(alloc, o.b.as_slice())?;
-    let s = constants(alloc, o.s.as_slice())?;
+    let a = constants_of(alloc, o.a.as_slice())?;
+    let b = constants_of(alloc, o.b.as_slice())?;
+    let s = constants_of(alloc, o.s.as_slice())?;
     match shape.kind {
         CellKind::Gate(_) => {
             let (a, b, s) = (lowest(&a), lowest(&b), lowest(&s));

@@ -10,9 +10,10 @@ ghost use Rattle.expr_rules.specs.Rules.Parts.{known_part, known_place, number_i
 
 use crate::change::Change;
 use crate::operands::Operands;
-use crate::signals::{constants, filled, joined, part};
+use crate::signals::{filled, joined, part};
 use cell_types::{Shape, WordKind};
 use rtl_bits::{Bit, Memory};
+use rtl_ir::constants_of;
 use rtl_sig::{SigBit, SigSpec};
 use std::alloc::Global;
 
@@ -23,7 +24,7 @@ fn number_in(alloc: Global, s: &[SigBit]) -> Result<Option<usize>, Memory>
     ensures value { IfOk result (λ number. number ≡ number_in s.now) }
     ensures small { IfOk result (λ number. IfSome number (λ n. n < 4096)) }
 {
-    match constants(alloc, s)?.unsigned() {
+    match constants_of(alloc, s)?.unsigned() {
         Some(number) => Ok(Some(number as usize)),
         None => Ok(None),
     }

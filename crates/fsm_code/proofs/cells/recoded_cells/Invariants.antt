@@ -2,7 +2,7 @@
 use Rattle.std.proofs.Common.{◌≡◌, ℕ, length}
 use Rattle.rtl_ir.specs.declared.module.Module.{Module}
 use Rattle.rtl_ir.specs.Types.{Ports}
-use Rattle.net_index.specs.Index.{IsIndex}
+use Rattle.net_index.specs.Drivers.{AreDrivers}
 use Rattle.net_model.specs.Fsm.Code.{coded_cells}
 use Rattle.fsm_code.specs.Links.{behind, linked}
 use Rattle.fsm_code.specs.Outputs.{IsTabled, coding_of}
@@ -11,6 +11,6 @@ use Rattle.fsm_code.proofs.cells.recoded_cells.Given as goal
 
 abbrev pub invariant-loop-cell : goal.invariant-loop-cell
 invariant-loop-cell l =
-    (ports : Ports) (m : Module) (next : ℕ) → IsIndex l.index ports m → IsTabled l.fn.coding.outputs → ArePlaces (length m.cells) l.machine l.places →
+    (ports : Ports) (m : Module) (next : ℕ) → AreDrivers l.index ports m → IsTabled l.fn.coding.outputs → ArePlaces (length m.cells) l.machine l.places →
     behind l.cells.items (coded_cells m l.machine (coding_of l.fn.coding) l.at l.cell-iterator.rest.items (linked (record { body = l.fn.module; next = next }) l.links))
     ≡ coded_cells m l.machine (coding_of l.fn.coding) 0 l.fn.module.cells (record { body = l.fn.module; next = next })

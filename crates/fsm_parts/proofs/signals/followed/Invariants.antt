@@ -3,8 +3,8 @@ use Rattle.std.proofs.Common.{◌≡◌, ◌++◌, drop, map}
 use Rattle.rtl_ir.specs.declared.module.Module.{Module}
 use Rattle.rtl_ir.specs.Follow.{follow}
 use Rattle.rtl_ir.specs.Types.{Ports}
-use Rattle.net_index.specs.Index.{IsIndex}
+use Rattle.net_index.specs.Drivers.{AreDrivers}
 use Rattle.fsm_parts.proofs.signals.followed.Given as goal
 
 abbrev pub invariant-loop-bit : goal.invariant-loop-bit
-invariant-loop-bit l = (ports : Ports) (m : Module) → IsIndex l.index ports m → l.bits ++ map (follow m.links) (drop l.bit-index l.signal) ≡ map (follow m.links) l.signal
+invariant-loop-bit l = (ports : Ports) (m : Module) → AreDrivers l.index ports m → l.bits ++ map (follow m.links) (drop l.bit-index l.signal) ≡ map (follow m.links) l.signal

@@ -1,4 +1,4 @@
-use Rattle.std.proofs.Common.{◌≡◌, ◌++◌, map, ◌∙◌, ap, subst}
+use Rattle.std.proofs.Common.{◌≡◌, ◌++◌, map, ap, subst}
 use Rattle.rtl_ir.specs.Drivers.{cell_drives, drives_of, link_drives, port_drives, rule_drives, tree_drives}
 use Rattle.net_index.specs.DriverFill.{Adds, join_drive}
 use Rattle.net_index.proofs.Indexing.{adds_alone, adds_both}

@@ -1,13 +1,12 @@
-use Rattle.std.proofs.Common.{[], ◌∙◌, ap}
-use Rattle.rtl_ir.specs.Flat.Start.{start_of}
-use Rattle.opt_merge.proofs.Entering.{noted_bit}
+use Rattle.std.proofs.Common.{subst, sym}
+use Rattle.opt_merge.specs.Among.{AreAmong}
+use Rattle.opt_merge.specs.Readers.{readers_of_signal}
+use Rattle.opt_merge.proofs.Entering.{on_ok, enters_among}
 use Rattle.opt_merge.proofs.entries.Entries.enter_signal.Goals as goal
 
-pub loop-bit-preserved : goal.loop-bit-preserved
-loop-bit-preserved c = record {
-  enters = λ wires links view.
-      noted_bit (start_of wires []) links c.args.cells.now c.args.self.now.kinds.items c.loop-bit.self.kinds.items (ap (λ k. k.items) c.loop-bit.invariant.kinds) c.args.self.now.table c.loop-bit.self.table c.enter_bit.new.self.table c.args.readers.now c.args.signal.now c.loop-bit.bit-index _ c.loop-bit-test.true
-      (c.loop-bit.invariant.enters wires links view) (c.in_ok-enter_bit.ensures.enters wires links (c.loop-bit.invariant.keeps wires links view));
-  keeps = λ wires links view. c.in_ok-enter_bit.ensures.keeps wires links (c.loop-bit.invariant.keeps wires links view);
-  kinds = c.in_ok-enter_bit.ensures.kinds ∙ c.loop-bit.invariant.kinds;
-}
+pub returns-clause-enters : goal.returns-clause-enters
+returns-clause-enters c =
+    on_ok c.enter_places.result _ _
+    (λ enters. enters_among c.args.self.now c.enter_places.new.self c.args.cells.now (readers_of_signal c.args.readers.now c.args.signal.now) c.as_slice.result.now enters
+    (subst (AreAmong (readers_of_signal c.args.readers.now c.args.signal.now)) (sym c.as_slice.ensures.keys) c.in_ok-places.ensures.all))
+    c.enter_places.ensures.enters

@@ -1,7 +1,0 @@
--- the signals are one where what is left of them is
-use Rattle.std.proofs.Common.{◌≡◌, drop}
-use Rattle.expr_rules.specs.Signals.{same_word}
-use Rattle.opt_expr.proofs.inverters.is_same.Given as goal
-
-abbrev pub invariant-loop-at : goal.invariant-loop-at
-invariant-loop-at l = same_word l.a l.b ≡ same_word (drop l.at l.a) (drop l.at l.b)

@@ -1,7 +1,0 @@
--- The bits so far and those of the places that are left are all.
-use Rattle.std.proofs.Common.{◌≡◌, ◌++◌, drop}
-use Rattle.rtl_ir.specs.Signals.{wire_bits}
-use Rattle.process_check.proofs.updates.put_wire_bits.Given as goal
-
-abbrev pub invariant-loop-bit : goal.invariant-loop-bit
-invariant-loop-bit l = l.bits.items ++ wire_bits (drop l.bit-index l.signal) ≡ l.initial.bits.items ++ wire_bits l.signal
