@@ -1,0 +1,254 @@
+-- What a command and a line make of a session.
+use Rattle.std.proofs.Common.{◌≡◌, ℕ, List, [], ◌∷◌, ◌++◌, Bool, true, false, Option, Some, None, Result, Ok, Err, take, refl, sym, ap, subst, ◌∙◌, append_assoc, append-nil}
+use Rattle.std.specs.Prelude.{◌&&◌, ◌||◌, IfErr, IfOk, codes, option_to_list, if◌then◌else◌}
+use Rattle.std.specs.List.{list_all}
+use Rattle.std.specs.Str.{bytes_eq}
+use Rattle.std.specs.Io.KnownBytes.{Appends}
+use Rattle.desk_read.specs.declared.command.Command.{Command}
+use Rattle.desk_read.specs.declared.head.Head.{Head}
+use Rattle.desk_read.specs.declared.head.Head.TheVariants.{Blank, Whole, Opens}
+use Rattle.desk_read.specs.declared.head.Opening.{Opening}
+use Rattle.desk_read.specs.declared.head.Opening.TheVariants as opening
+use Rattle.desk_read.specs.Commands.{Block, block_command, block_of, commands_by, commands_closing, commands_of, is_end, with_line}
+use Rattle.desk_read.specs.Heads.{head_by, head_of, head_of_words, sim_of, word_alone, word_and_name}
+use Rattle.desk_read.specs.Taking.{OpenBlock, Takes, commands_from}
+use Rattle.desk_read.specs.Words.{words_of}
+use Rattle.desk_core.specs.Builds.{RisesUpTo, builds_of}
+use Rattle.desk_core.specs.State.{State}
+use Rattle.desk_core.specs.Step.{IsStep}
+use Rattle.reply_lines.specs.declared.reply.Reply.{Reply}
+use Rattle.synth_run.specs.Session.{AreTurns, Turn, commands_in, is_quit, is_whole, up_to_quit}
+use Rattle.synth_run.specs.Taking.{BeginWith, BeginsLines, Breaks, Finishes, Speaks, Stops, TakesLines}
+use Rattle.synth_run.specs.declared.session.Speaker.{Speaker}
+use Rattle.synth_run.specs.declared.session.Stop.{Stop}
+use Rattle.synth_run.specs.declared.session.Stop.TheVariants as halts
+use Rattle.synth_run.proofs.Speaking.{breaks_both, breaks_none, breaks_one, commands_both, lines_none, speaks_both, speaks_none, speaks_one}
+
+-- ---- commands
+
+-- a command was answered
+pub answered : (a b : Speaker) (command : Command) (reply : Reply) (ended : Bool) (had has : Option (List ℕ)) (m n : ℕ) → IsStep command a.desk reply b.desk
+    → b.refused ≡ (a.refused || reply.error) → Appends had has reply.text → RisesUpTo (builds_of command a.desk) m n → ended ≡ is_quit command
+    → (turns : List Turn) × (commands_in turns ≡ command ∷ []) × Speaks a b ended turns had has m n
+answered a b command reply ended had has m n step refused written builds quits = (
+  record { command = command; before = a.desk; reply = reply; after = b.desk } ∷ [],
+  refl,
+  subst (λ (t : Bool). Speaks a b t (record { command = command; before = a.desk; reply = reply; after = b.desk } ∷ []) had has m n) (sym quits)
+      (speaks_one a b command reply had has m n step refused written builds),
+)
+
+-- the reply to a command was begun
+pub interrupted : (s t : State) (command : Command) (reply : Reply) (had has : Option (List ℕ)) (m n : ℕ) → IsStep command s reply t
+    → (size : ℕ) × Appends had has (take size reply.text) → RisesUpTo (builds_of command s) m n
+    → (turns : List Turn) × BeginWith (command ∷ []) turns × Breaks s halts.Sink turns had has m n
+interrupted s t command reply had has m n step front builds = (
+  record { command = command; before = s; reply = reply; after = t } ∷ [],
+  ([], refl),
+  breaks_one s t command reply had has front.0 m n step front.1 builds,
+)
+
+-- commands that were not answered, since memory was wanting
+pub forgotten : (commands : List Command) (s : State) (had : Option (List ℕ)) (m n : ℕ)
+    → (turns : List Turn) × BeginWith commands turns × Breaks s halts.Memory turns had had m n
+forgotten commands s had m n = ([], (commands, refl), breaks_none s had m n)
+
+-- no command
+pub silent : (a : Speaker) (had : Option (List ℕ)) (n : ℕ) → (turns : List Turn) × (commands_in turns ≡ []) × Speaks a a false turns had had n n
+silent a had n = ([], refl, speaks_none a had n)
+
+-- ---- a line that completes a command completes a whole one
+
+abbrev says_whole : Head → Bool
+says_whole Blank = true
+says_whole (Whole command) = is_whole command
+says_whole (Opens how) = true
+
+either : {a b : Head} (t : Bool) → says_whole a ≡ true → says_whole b ≡ true → says_whole (if t then a else b) ≡ true
+either true h k = h
+either false h k = k
+
+alone_whole : (word : List ℕ) → says_whole (word_alone word) ≡ true
+alone_whole word =
+    either (bytes_eq word (codes "load")) refl (either (bytes_eq word (codes "edit")) refl (either (bytes_eq word (codes "run")) refl
+    (either (bytes_eq word (codes "print")) refl (either (bytes_eq word (codes "quit")) refl refl))))
+
+named_whole : (word name : List ℕ) → says_whole (word_and_name word name) ≡ true
+named_whole word name = either (bytes_eq word (codes "drop")) refl (either (bytes_eq word (codes "show")) refl refl)
+
+sim_whole : (which name : List ℕ) → says_whole (sim_of which name) ≡ true
+sim_whole which name = either (bytes_eq which (codes "source")) refl (either (bytes_eq which (codes "netlist")) refl refl)
+
+words_whole : (words : List (List ℕ)) → says_whole (head_of_words words) ≡ true
+words_whole [] = refl
+words_whole (word ∷ []) = alone_whole word
+words_whole (word ∷ name ∷ []) = named_whole word name
+words_whole (word ∷ which ∷ name ∷ []) = either (bytes_eq word (codes "sim")) (sim_whole which name) refl
+words_whole (word ∷ which ∷ name ∷ more ∷ words) = refl
+
+by_whole : (words : List (List ℕ)) (line : List ℕ) → says_whole (head_by words line) ≡ true
+by_whole [] line = refl
+by_whole (word ∷ words) line = either (bytes_eq word (codes "script")) refl (words_whole (word ∷ words))
+
+-- what a line says outside a block
+head_whole : (line : List ℕ) → says_whole (head_of line) ≡ true
+head_whole line = by_whole (words_of line) line
+
+block_whole : (how : Opening) (text : List ℕ) → is_whole (block_command how text) ≡ true
+block_whole opening.Load text = refl
+block_whole opening.Edit text = refl
+block_whole (opening.SimSource name) text = refl
+block_whole (opening.SimNetlist name) text = refl
+
+first_of : (command : Command) (commands all : List Command) (one : Command) (others : List Command) → all ≡ command ∷ commands → all ≡ one ∷ others → is_whole one ≡ true → is_whole command ≡ true
+first_of command commands all one others e f h =
+    let same : one ≡ command = cc in
+    subst (λ (c : Command). is_whole c ≡ true) same h
+
+-- the line that ends each block
+abbrev ending : List (List ℕ)
+ending = codes "." ∷ []
+
+outside_whole : (head : Head) (line : List ℕ) (command : Command) (rest : List (List ℕ) → List Command) → says_whole head ≡ true → head_of line ≡ head
+    → ((lines : List (List ℕ)) → commands_of (line ∷ lines) ≡ command ∷ rest lines) → is_whole command ≡ true
+outside_whole Blank line command rest h e takes =
+    let none : [] ≡ command ∷ rest [] = sym (ap (λ (k : Head). commands_by k [] None) e) ∙ takes [] in
+    absurd cc
+outside_whole (Whole one) line command rest h e takes =
+    first_of command (rest []) (commands_of (line ∷ [])) one [] (takes []) (ap (λ (k : Head). commands_by k [] None) e) h
+outside_whole (Opens how) line command rest h e takes =
+    first_of command (rest ending) (commands_of (line ∷ ending)) (block_command how []) [] (takes ending)
+    (ap (λ (k : Head). commands_by k (commands_of ending) (Some (record { text = []; behind = [] }))) e) (block_whole how [])
+
+inside_whole : (t : Bool) (block : OpenBlock) (line : List ℕ) (command : Command) (rest : List (List ℕ) → List Command) → is_end line ≡ t
+    → ((lines : List (List ℕ)) → commands_closing block.opening block.text (block_of (line ∷ lines)) ≡ command ∷ rest lines) → is_whole command ≡ true
+inside_whole true block line command rest e takes =
+    first_of command (rest []) (commands_closing block.opening block.text (block_of (line ∷ []))) (block_command block.opening (block.text ++ [])) [] (takes [])
+    (rw e refl) (block_whole block.opening (block.text ++ []))
+inside_whole false block line command rest e takes =
+    first_of command (rest ending) (commands_closing block.opening block.text (block_of (line ∷ ending))) (block_command block.opening (block.text ++ line ++ 10 ∷ [])) [] (takes ending)
+    (rw e refl) (block_whole block.opening (block.text ++ line ++ 10 ∷ []))
+
+fed_whole : (before : Option OpenBlock) (line : List ℕ) (command : Command) (after : Option OpenBlock) → Takes before line (Some command) after → is_whole command ≡ true
+fed_whole None line command after takes = outside_whole (head_of line) line command (commands_from after) (head_whole line) refl takes
+fed_whole (Some block) line command after takes = inside_whole (is_end line) block line command (commands_from after) refl takes
+
+-- ---- lines
+
+any_whole : (before : Option OpenBlock) (line : List ℕ) (answer : Option Command) (after : Option OpenBlock) → Takes before line answer after → list_all is_whole (option_to_list answer) ≡ true
+any_whole before line None after takes = refl
+any_whole before line (Some command) after takes = rw (fed_whole before line command after takes) refl
+
+line_taken : (before : Option OpenBlock) (line : List ℕ) (answer : Option Command) (after : Option OpenBlock) (turns : List Turn) → Takes before line answer after
+    → commands_in turns ≡ option_to_list answer → TakesLines before (line ∷ []) turns after
+line_taken before line answer after turns takes same = record {
+  whole = subst (λ (cs : List Command). list_all is_whole cs ≡ true) (sym same) (any_whole before line answer after takes);
+  commands = λ more. takes more ∙ ap (λ (cs : List Command). cs ++ commands_from after more) (sym same);
+}
+
+-- the command that a line completes was answered
+pub line_answered : (before : Option OpenBlock) (line : List ℕ) (answer : Option Command) (after : Option OpenBlock) (a b : Speaker) (had has : Option (List ℕ)) (m n : ℕ) (r : Result Bool Stop)
+    → Takes before line answer after
+    → IfOk r (λ ended. (turns : List Turn) × (commands_in turns ≡ option_to_list answer) × Speaks a b ended turns had has m n)
+    → IfOk r (λ ended. (turns : List Turn) × TakesLines before (line ∷ []) turns after × Speaks a b ended turns had has m n)
+line_answered before line answer after a b had has m n (Ok ended) takes told = (told.0, line_taken before line answer after told.0 takes told.1, told.2)
+line_answered before line answer after a b had has m n (Err stop) takes told = tt
+
+all_front : {X : Type 0} (p : X → Bool) (a b : List X) → list_all p (a ++ b) ≡ true → list_all p a ≡ true
+all_front p [] b h = refl
+all_front p (x ∷ a) b h = by (p x) h
+  where
+    by : (t : Bool) → (t && list_all p (a ++ b)) ≡ true → (t && list_all p a) ≡ true
+    by true h = all_front p a b h
+    by false h = absurd cc
+
+line_begins : (before : Option OpenBlock) (line : List ℕ) (answer : Option Command) (after : Option OpenBlock) (turns : List Turn) → Takes before line answer after
+    → BeginWith (option_to_list answer) turns → BeginsLines before (line ∷ []) turns
+line_begins before line answer after turns takes begins = record {
+  whole = all_front is_whole (commands_in turns) begins.0 (subst (λ (cs : List Command). list_all is_whole cs ≡ true) begins.1 (any_whole before line answer after takes));
+  begins = λ more. (
+    begins.0 ++ commands_from after more,
+    takes more ∙ ap (λ (cs : List Command). cs ++ commands_from after more) begins.1 ∙ append_assoc (commands_in turns) begins.0 (commands_from after more),
+  );
+}
+
+-- its reply was begun
+pub line_interrupted : (before : Option OpenBlock) (line : List ℕ) (answer : Option Command) (after : Option OpenBlock) (s : State) (had has : Option (List ℕ)) (m n : ℕ) (r : Result Bool Stop)
+    → Takes before line answer after
+    → IfErr r (λ stop. (turns : List Turn) × BeginWith (option_to_list answer) turns × Breaks s stop turns had has m n)
+    → IfErr r (λ stop. (turns : List Turn) × BeginsLines before (line ∷ []) turns × Breaks s stop turns had has m n)
+line_interrupted before line answer after s had has m n (Ok ended) takes told = tt
+line_interrupted before line answer after s had has m n (Err stop) takes told = (told.0, line_begins before line answer after told.0 takes told.1, told.2)
+
+-- a line that was not read, since memory was wanting
+pub line_forgotten : (before : Option OpenBlock) (lines : List (List ℕ)) (s : State) (had : Option (List ℕ)) (m n : ℕ)
+    → (turns : List Turn) × BeginsLines before lines turns × Breaks s halts.Memory turns had had m n
+line_forgotten before lines s had m n = ([], record { whole = refl; begins = λ more. (commands_from before (lines ++ more), refl) }, breaks_none s had m n)
+
+-- no line
+pub no_line : (before : Option OpenBlock) (a : Speaker) (had : Option (List ℕ)) (n : ℕ)
+    → (turns : List Turn) × TakesLines before [] turns before × Speaks a a false turns had had n n
+no_line before a had n = ([], lines_none before, speaks_none a had n)
+
+-- ---- the end of an input
+
+-- the last line ended the session
+pub finished_early : (desk : State) (a b : Speaker) (before after : Option OpenBlock) (lines : List (List ℕ)) (had has : Option (List ℕ)) (m n : ℕ) → a.desk ≡ desk
+    → (turns : List Turn) × TakesLines before lines turns after × Speaks a b true turns had has m n
+    → Finishes desk a.refused (commands_from before lines) b.refused had has m n
+finished_early desk a b before after lines had has m n same t = record {
+  turns = t.0;
+  steps = subst (λ (s : State). AreTurns s t.0) same t.2.steps;
+  all = ap up_to_quit (ap (commands_from before) (sym (append-nil lines)) ∙ t.1.commands []) ∙ t.2.stops.up_to (commands_from after []) ∙ append-nil (commands_in t.0);
+  written = t.2.written;
+  error = t.2.refused;
+  builds = t.2.builds;
+}
+
+up_to_none : (rest : List Command) (ended : Bool) (turns : List Turn) → commands_in turns ≡ rest → Stops ended (commands_in turns) → up_to_quit rest ≡ commands_in turns
+up_to_none rest ended turns same stops =
+    ap up_to_quit (sym same ∙ sym (append-nil (commands_in turns))) ∙ stops.up_to [] ∙ none ended
+  where
+    none : (t : Bool) → commands_in turns ++ (if t then [] else up_to_quit []) ≡ commands_in turns
+    none true = append-nil (commands_in turns)
+    none false = append-nil (commands_in turns)
+
+-- the last line and the end of the input
+pub finished : (desk : State) (a b c : Speaker) (before after : Option OpenBlock) (lines : List (List ℕ)) (last : Option Command) (had has hold : Option (List ℕ)) (m n o : ℕ) (ended : Bool)
+    → a.desk ≡ desk → (turns : List Turn) × TakesLines before lines turns after × Speaks a b false turns had has m n → option_to_list last ≡ commands_from after []
+    → (turns : List Turn) × (commands_in turns ≡ option_to_list last) × Speaks b c ended turns has hold n o
+    → Finishes desk a.refused (commands_from before lines) c.refused had hold m o
+finished desk a b c before after lines last had has hold m n o ended same t is u =
+    let told = speaks_both a b c ended t.0 u.0 had has hold m n o t.2 u.2 in
+    let rest : up_to_quit (commands_from after []) ≡ commands_in u.0 = up_to_none (commands_from after []) ended u.0 (u.1 ∙ is) u.2.stops in
+    record {
+      turns = t.0 ++ u.0;
+      steps = subst (λ (s : State). AreTurns s (t.0 ++ u.0)) same told.steps;
+      all =
+          ap up_to_quit (ap (commands_from before) (sym (append-nil lines)) ∙ t.1.commands []) ∙ t.2.stops.up_to (commands_from after [])
+          ∙ ap (λ (cs : List Command). commands_in t.0 ++ cs) rest ∙ sym (commands_both t.0 u.0);
+      written = told.written;
+      error = told.refused;
+      builds = told.builds;
+    }
+
+-- the reply to what the end of the input makes was not written whole
+pub finish_broken : (a b : Speaker) (stop : Stop) (before after : Option OpenBlock) (lines : List (List ℕ)) (last : Option Command) (had has hold : Option (List ℕ)) (m n o : ℕ)
+    → (turns : List Turn) × TakesLines before lines turns after × Speaks a b false turns had has m n → option_to_list last ≡ commands_from after []
+    → (turns : List Turn) × BeginWith (option_to_list last) turns × Breaks b.desk stop turns has hold n o
+    → (turns : List Turn) × BeginWith (commands_from before lines) turns × Breaks a.desk stop turns had hold m o
+finish_broken a b stop before after lines last had has hold m n o t is u = (
+  t.0 ++ u.0,
+  (
+    u.1.0,
+    ap (commands_from before) (sym (append-nil lines)) ∙ t.1.commands [] ∙ ap (λ (cs : List Command). commands_in t.0 ++ cs) (sym is ∙ u.1.1)
+        ∙ sym (append_assoc (commands_in t.0) (commands_in u.0) u.1.0) ∙ ap (λ (cs : List Command). cs ++ u.1.0) (sym (commands_both t.0 u.0)),
+  ),
+  breaks_both a b stop t.0 u.0 had has hold m n o t.2 u.2,
+)
+
+-- the reply to the last line was not written whole
+pub last_broken : (s : State) (stop : Stop) (before : Option OpenBlock) (lines : List (List ℕ)) (had has : Option (List ℕ)) (m n : ℕ)
+    → (turns : List Turn) × BeginsLines before lines turns × Breaks s stop turns had has m n → (turns : List Turn) × BeginWith (commands_from before lines) turns × Breaks s stop turns had has m n
+last_broken s stop before lines had has m n t =
+    let all = t.1.begins [] in
+    (t.0, (all.0, ap (commands_from before) (sym (append-nil lines)) ∙ all.1), t.2)
