@@ -1,4 +1,2 @@
 pub mod Modules
-pub mod Table
-pub mod Changes
 pub mod Places

@@ -4,17 +4,9 @@ pub mod Finding
 pub mod Outcomes
 pub mod Told
 pub mod Going
-pub mod Tracing
 pub mod Taking
 pub mod Changing
 pub mod Starting
 pub mod Showing
 pub mod Simulating
-pub mod Staying
-pub mod Named
-pub mod Shaping
 pub mod Sending
-pub mod CrewPlaces
-pub mod CrewSteps
-pub mod CrewEnds
-pub mod CrewBuilds

@@ -55,9 +55,6 @@ word_name scripts.Opt = codes "opt"
 word_name scripts.Fsm = codes "fsm"
 word_name scripts.Memory = codes "memory"
 word_name scripts.Techmap = codes "techmap"
-word_name scripts.Muxtree = codes "opt_muxtree"
-word_name scripts.Reduce = codes "opt_reduce"
-word_name scripts.Dff = codes "opt_dff"
 
 -- the error of a module whose outcome is Over: its number, the module, and the word whose result would pass a limit
 abbrev pub over_line : Module → Outcome → Option (List ℕ)

@@ -19,8 +19,7 @@ use result_cache::laws::shards_are_sound;
 use result_cache::{Claim, Keyed, Shard, Ticket};
 use rtl_bits::{Memory, Steps};
 use rtl_check::Checked;
-use rtl_ir::DesignPorts;
-use script_core::{Key, Script, build, key_by};
+use script_core::{Key, Script, build, key_of};
 use std::alloc::Global;
 
 /// Results under their keys, and beside each module the result of its key, once it was asked for. All calls on the shard are
@@ -113,16 +112,15 @@ fn take<L>(
     }
 }
 
-/// Finds the result of the module at this place, by the table of the design's modules. Answers whether it was built now.
+/// Finds the result of the module at this place. Answers whether it was built now.
 fn find_at<L>(
+    alloc: Global,
     design: &Checked,
-    table: &DesignPorts,
     script: &Script,
     at: u32,
     results: &mut Results,
     meter: &mut Steps<L>,
 ) -> Result<bool, Memory>
-    requires table { table.now.modules.now ≡ design.now.design.modules }
     requires sound { AreSound design.now.design script.now results.old }
     requires in_range { at < length design.now.design.modules }
     ensures sound { AreSound design.now.design script.now results.new }
@@ -135,8 +133,7 @@ fn find_at<L>(
     if results.found[at as usize].is_some() {
         return Ok(false);
     }
-    let alloc = *results.found.allocator();
-    let key = key_by(alloc, design, table, at, script)?;
+    let key = key_of(alloc, design, at, script)?;
     let taken = take(alloc, &mut results.shard, &key, meter)?;
     results.found[at as usize] = Some(taken.result);
     Ok(taken.is_new)
@@ -159,10 +156,9 @@ pub fn find_all<L>(
     ensures err { OnErr result (HasStill (filled_keys results.old.shard) (filled_keys results.new.shard)) }
     ensures ticks { RisesUpTo (new_count (filled_keys results.old.shard) (key_texts script.now design.now.design.modules)) meter.old meter.new }
 {
-    let table = DesignPorts::of(alloc, design.design())?;
     let mut built = 0;
     for at in 0..module_count(design) {
-        if find_at(design, &table, script, at, results, meter)? {
+        if find_at(alloc, design, script, at, results, meter)? {
             built += 1;
         }
     }

@@ -24,4 +24,3 @@ pub mod Lining
 pub mod Fetching
 pub mod Ending
 pub mod Others
-pub mod Titling

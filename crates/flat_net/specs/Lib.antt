@@ -23,4 +23,3 @@ pub mod Tables
 pub mod Visits
 pub mod Ends
 pub mod Net
-pub mod Titled

@@ -1,6 +1,6 @@
 //! Large modules, each made by a loop.
 
-use crate::passes::{After, after_words};
+use crate::passes::{After, after_word};
 use rtl_bits::{Memory, Text};
 use std::alloc::Global;
 
@@ -20,8 +20,6 @@ enum Large {
     Passing,
     /// Gates that are all the same.
     Equal,
-    /// Registers that are always 1.
-    Constant,
 }
 
 /// The cell of this number, as a text.
@@ -36,9 +34,6 @@ fn cell_text(alloc: Global, large: Large, number: u32) -> Result<String, Memory>
         )?,
         Large::Equal => format!(in alloc;
             " cell $_AND_ ${number}\n connect \\A \\a\n connect \\B \\b\n connect \\Y \\t{next}\n end\n"
-        )?,
-        Large::Constant => format!(in alloc;
-            " cell $_DFF_P_ ${number}\n connect \\D 1'1\n connect \\C \\a\n connect \\Q \\t{next}\n end\n"
         )?,
     };
     Ok(text)
@@ -94,9 +89,9 @@ fn memory_text(alloc: Global, ports: u32, gates: u32) -> Result<Text, Memory> {
     Ok(text)
 }
 
-/// Whether the first module of the text has so many cells after the words.
-fn has_cells(alloc: Global, text: &[u8], words: &str, cells: usize) -> Result<bool, Memory> {
-    let After::Netlist(netlist) = after_words(alloc, text, words.as_bytes())? else {
+/// Whether the first module of the text has so many cells after the word.
+fn has_cells(alloc: Global, text: &[u8], word: &str, cells: usize) -> Result<bool, Memory> {
+    let After::Netlist(netlist) = after_word(alloc, text, word.as_bytes())? else {
         return Ok(false);
     };
     let first = netlist.modules.as_slice().first();
@@ -121,12 +116,6 @@ pub fn is_merged(alloc: Global) -> Result<bool, Memory> {
     has_cells(alloc, text.as_slice(), "opt_merge", 1)
 }
 
-/// Whether nothing is left of 100,000 registers that are always 1.
-pub fn is_settled(alloc: Global) -> Result<bool, Memory> {
-    let text = module_text(alloc, Large::Constant, 100_000)?;
-    has_cells(alloc, text.as_slice(), "opt_dff", 0)
-}
-
 /// Whether a memory becomes a match, a choice and a register for each word, and the read tree.
 pub fn is_expanded(alloc: Global) -> Result<bool, Memory> {
     let text = memory_text(alloc, 1, 0)?;
@@ -142,5 +131,5 @@ pub fn is_largest(alloc: Global) -> Result<bool, Memory> {
 /// Whether the same memory beside two gates passes the limit.
 pub fn is_over(alloc: Global) -> Result<bool, Memory> {
     let text = memory_text(alloc, 7, 2)?;
-    Ok(matches!(after_words(alloc, text.as_slice(), b"memory")?, After::Over))
+    Ok(matches!(after_word(alloc, text.as_slice(), b"memory")?, After::Over))
 }

@@ -6,4 +6,3 @@ pub mod Scripts
 pub mod Cold
 pub mod Driven
 pub mod Recursion
-pub mod Faultless

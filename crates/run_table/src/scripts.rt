@@ -3,20 +3,7 @@
 use rtl_bits::{Memory, Text};
 use script_core::{ScriptFault, Word, default_script, parse_script};
 use std::alloc::Global;
-
-/// How a word is written in scripts.
-fn word_name(word: Word) -> &'static [u8] {
-    match word {
-        Word::Proc => b"proc",
-        Word::OptExpr => b"opt_expr",
-        Word::OptMerge => b"opt_merge",
-        Word::OptClean => b"opt_clean",
-        Word::Opt => b"opt",
-        Word::Fsm => b"fsm",
-        Word::Memory => b"memory",
-        Word::Techmap => b"techmap",
-    }
-}
+use synth_run::word_name;
 
 /// The words as they are written, parted by blanks.
 fn written(alloc: Global, words: &[Word]) -> Result<Text, Memory> {

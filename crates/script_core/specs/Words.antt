@@ -4,7 +4,7 @@ use Rattle.std.specs.List.{slice_split}
 use Rattle.std.specs.Option.{is_some, option_map_or}
 use Rattle.std.specs.Str.{bytes_eq}
 use Rattle.script_core.specs.declared.word.Word.{Word}
-use Rattle.script_core.specs.declared.word.Word.TheVariants.{Proc, OptExpr, OptMerge, OptClean, Opt, Fsm, Memory, Techmap, Muxtree, Reduce, Dff}
+use Rattle.script_core.specs.declared.word.Word.TheVariants.{Proc, OptExpr, OptMerge, OptClean, Opt, Fsm, Memory, Techmap}
 
 -- a script has at most 64 words, and the first is `proc`
 pub record IsScript (words : List Word) : Type 0 where
@@ -27,9 +27,6 @@ word_of spelling =
     else if bytes_eq spelling (codes "fsm") then Some Fsm
     else if bytes_eq spelling (codes "memory") then Some Memory
     else if bytes_eq spelling (codes "techmap") then Some Techmap
-    else if bytes_eq spelling (codes "opt_muxtree") then Some Muxtree
-    else if bytes_eq spelling (codes "opt_reduce") then Some Reduce
-    else if bytes_eq spelling (codes "opt_dff") then Some Dff
     else None
 
 -- a space, a tab or a semicolon
@@ -72,6 +69,3 @@ letter_of Opt = 111
 letter_of Fsm = 102
 letter_of Memory = 121
 letter_of Techmap = 116
-letter_of Muxtree = 120
-letter_of Reduce = 114
-letter_of Dff = 100

@@ -16,9 +16,6 @@ pub enum Word {
     Fsm,
     Memory,
     Techmap,
-    Muxtree,
-    Reduce,
-    Dff,
 }
 
 impl Copied for Word {
@@ -50,12 +47,6 @@ impl Word {
             Some(Word::Memory)
         } else if spelling == b"techmap".as_slice() {
             Some(Word::Techmap)
-        } else if spelling == b"opt_muxtree".as_slice() {
-            Some(Word::Muxtree)
-        } else if spelling == b"opt_reduce".as_slice() {
-            Some(Word::Reduce)
-        } else if spelling == b"opt_dff".as_slice() {
-            Some(Word::Dff)
         } else {
             None
         }
@@ -74,9 +65,6 @@ impl Word {
             Word::Fsm => b'f',
             Word::Memory => b'y',
             Word::Techmap => b't',
-            Word::Muxtree => b'x',
-            Word::Reduce => b'r',
-            Word::Dff => b'd',
         }
     }
 }

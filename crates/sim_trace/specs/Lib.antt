@@ -1,2 +1,1 @@
 pub mod Stimulus
-pub mod Steps

@@ -1,23 +1,16 @@
-use Rattle.std.proofs.Common.{◌≡◌, ◌+◌, ◌-◌, ◌<◌, length, refl, ◌∙◌, arith}
+use Rattle.std.proofs.Common.{◌≡◌, ◌+◌, ◌-◌, ◌<◌, length, ◌∙◌, arith}
 use Rattle.rtl_sig.specs.Names.{has_name}
 use Rattle.result_cache.specs.Filled.{filled_keys}
 use Rattle.result_cache.proofs.NewKeys.{fresh}
 use Rattle.desk_core.specs.Netlist.{key_text_at}
 use Rattle.desk_core.proofs.Finding.{count_new, count_old, found_all, found_more, found_still, fresh_few, ticks_all, ticks_more}
-use Rattle.desk_core.proofs.Rises.{rises_none}
 use Rattle.desk_core.proofs.Told.{on_err}
 use Rattle.desk_core.proofs.results.find_all.Goals.{then-branch, else-branch}
 use Rattle.desk_core.proofs.results.find_all.Goals as goal
 
-pub returns-in_err-table-clause-err : goal.returns-in_err-table-clause-err
-returns-in_err-table-clause-err g c = on_err c.from_residual-in_err-table.result (λ text known. known)
-
-pub returns-in_err-table-clause-ticks : goal.returns-in_err-table-clause-ticks
-returns-in_err-table-clause-ticks g c = rises_none _ c.args.meter.now c.args.meter.now refl
-
 pub returns-in_err-find_at-clause-err : goal.returns-in_err-find_at-clause-err
 returns-in_err-find_at-clause-err g c =
-    on_err c.from_residual-in_err-find_at.result
+    on_err c.from_residual.result
     (found_still c.args.results.now c.loop-at.results c.find_at.new.results c.loop-at.at c.loop-at.built c.loop-at.invariant.found c.in_err-find_at.ensures.err)
 
 pub returns-in_err-find_at-clause-ticks : goal.returns-in_err-find_at-clause-ticks

@@ -1,4 +1,3 @@
-use Rattle.sim_eval.proofs.Computable.{faultless_shapes}
 use Rattle.sim_eval.proofs.Kept.{at_in, module_at}
 use Rattle.sim_eval.proofs.sim.Sim.start.Goals as goal
 
@@ -15,11 +14,11 @@ of-requires c =
     let found = module_at d.modules c.args.at c.requires.in_range in
     let net = c.in_ok-net.ensures.value found.0 found.1 in
     record {
-      shaped = record {
+      faultless = record {
         design = d;
         body = found.0;
         bits = net.0;
-        shapes = faultless_shapes d c.requires.faultless;
+        faultless = c.requires.faultless;
         among = at_in d.modules c.args.at found.0 found.1;
         is = net.1;
       };

@@ -1,5 +1,0 @@
-pub mod Eight
-pub mod Faultless
-pub mod Making
-pub mod Names
-pub mod Readable
