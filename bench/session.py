@@ -1,13 +1,24 @@
 #!/usr/bin/env python3
-"""Prints a session over modules that differ: chains of adders and registers of different widths.
+"""Measures the commands of a session over modules that differ: the first `run`, a second one, an edit of one module with a `run`,
+and a `print`; and the memory of a session in which one module is edited 1,000 times back and forth.
 
-usage: bench/session.py [MODULES [LAST]]      200 without a number; LAST is the last command: load, run, again, edit, print, or
-                                              edits, which is 1,000 edits of one module back and forth, each with a run
-"""
+usage: bench/session.py [--program PATH] [MODULES]      200 modules without a number; the program of crates/desk_example
+
+Each time is the difference of two sessions, the second of which has the command, or many like it, more. Ends with 1 where a
+second `run` takes 1 % of the first one's time or more, or an edit with its `run` 3 % or more."""
+import argparse
+import os
+import subprocess
 import sys
+import tempfile
+
+TOP = os.path.dirname(os.path.dirname(os.path.abspath(__file__)))
+PROGRAM = f'{TOP}/crates/desk_example/out/desk_example'
+REPEATS = 50
 
 
 def module(number, constant):
+    """A chain of adders and registers, whose width and length go by the number."""
     width = number % 64 + 1
     stages = number // 64 + 3
     yield f'module \\m{number}\n  wire input 1 \\clk\n  wire width {width} input 2 \\a\n  wire width {width} output 3 \\y\n'
@@ -17,35 +28,67 @@ def module(number, constant):
         before = '\\a' if k == 0 else f'\\q{k - 1}'
         yield (f'  cell $add $a{k}\n    parameter \\A_SIGNED 0\n    parameter \\A_WIDTH {width}\n    parameter \\B_SIGNED 0\n'
                f'    parameter \\B_WIDTH {width}\n    parameter \\Y_WIDTH {width}\n    connect \\A {before}\n'
-               f"    connect \\B {width}'{constant:0{width}b}\n    connect \\Y \\s{k}\n  end\n")
+               f"    connect \\B {width}'{constant % 2**width:0{width}b}\n    connect \\Y \\s{k}\n  end\n")
         yield (f'  cell $dff $f{k}\n    parameter \\WIDTH {width}\n    parameter \\CLK_POLARITY 1\n    connect \\CLK \\clk\n'
                f'    connect \\D \\s{k}\n    connect \\Q \\q{k}\n  end\n')
     yield f'  connect \\y \\q{stages - 1}\nend\n'
 
 
 def block(command, numbers, constant):
-    print(command)
-    for number in numbers:
-        print(''.join(module(number, constant)), end='')
-    print('.')
+    return f'{command}\n' + ''.join(''.join(module(number, constant)) for number in numbers) + '.\n'
 
 
-def main(modules, last):
-    block('load', range(modules), 1)
-    steps = {'load': 0, 'run': 1, 'again': 2, 'edit': 3, 'print': 4, 'edits': 1}[last]
-    if steps >= 1:
-        print('run')
-    if steps >= 2:
-        print('run')
-    if steps >= 3:
-        block('edit', [modules - 1], 0)
-        print('run')
-    if steps >= 4:
-        print('print')
-    if last == 'edits':
-        for k in range(1000):
-            block('edit', [modules - 1], k % 2)
-            print('run')
+def edits(modules, constants):
+    """Edits of the widest module, each with a `run`."""
+    widest = max(range(modules), key=lambda number: number % 64)
+    return ''.join(block('edit', [widest], constant) + 'run\n' for constant in constants)
 
 
-main(int(sys.argv[1]) if len(sys.argv) > 1 else 200, sys.argv[2] if len(sys.argv) > 2 else 'print')
+def measured(program, session):
+    """The user time in seconds and the greatest memory in MB of the program over a session, and the last line of its replies."""
+    with tempfile.TemporaryFile() as lines, tempfile.TemporaryFile() as replies:
+        lines.write(session.encode())
+        lines.seek(0)
+        child = subprocess.Popen([program], stdin=lines, stdout=replies)
+        _, status, usage = os.wait4(child.pid, 0)
+        if status:
+            sys.exit(f'session: {program} ended with status {os.waitstatus_to_exitcode(status)}')
+        replies.seek(0)
+        told = [line for line in replies.read().decode().splitlines() if line.startswith(('ok', 'error'))]
+    return usage.ru_utime, usage.ru_maxrss / 1024, told[-1] if told else ''
+
+
+def main():
+    parser = argparse.ArgumentParser(description=__doc__, formatter_class=argparse.RawDescriptionHelpFormatter)
+    parser.add_argument('--program', default=PROGRAM)
+    parser.add_argument('modules', nargs='?', type=int, default=200)
+    given = parser.parse_args()
+    if not os.access(given.program, os.X_OK):
+        sys.exit('session: build crates/desk_example first (rt run), or name a program that answers commands')
+    load = block('load', range(given.modules), 1)
+    cold = load + 'run\n'
+
+    loaded, _, _ = measured(given.program, load)
+    whole, memory, told = measured(given.program, cold)
+    first = max(whole - loaded, 1e-6)
+    print(f'load: {loaded:.3f} s')
+    print(f'first run: {first:.3f} s, {memory:.0f} MB at most: {told}')
+
+    good = True
+    rows = [
+        ('second run', cold + 'run\n' * REPEATS, 1),
+        ('edit of one module, and run', cold + edits(given.modules, range(2, 2 + REPEATS)), 3),
+        ('print', cold + 'print\n' * REPEATS, None),
+    ]
+    for name, session, goal in rows:
+        time, _, told = measured(given.program, session)
+        share = 100 * max(time - whole, 0) / REPEATS / first
+        good = good and (goal is None or share < goal)
+        print(f'{name}: {share:.2f} % of the first run' + (f', goal under {goal} %' if goal else '') + f': {told}')
+
+    time, memory, told = measured(given.program, cold + edits(given.modules, [k % 2 + 2 for k in range(1000)]))
+    print(f'1,000 edits back and forth: {1000 * (time - whole) / 1000:.2f} ms each, {memory:.0f} MB at most: {told}')
+    return 0 if good else 1
+
+
+sys.exit(main())

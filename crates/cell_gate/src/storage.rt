@@ -1,7 +1,8 @@
 //! One bit of a storage cell.
 
 ghost use Rattle.std.specs.Prelude.{◌≡◌};
-ghost use Rattle.cell_gate.specs.Storage.{acting_of, clocked_of, enabled_of, enabled_register_of, latch_of, next_of, register_of, set_or_cleared_of, store_bit_of, stored_of};
+ghost use Rattle.cell_gate.specs.Storage.{acting_of, clocked_of, enabled_of, enabled_register_of, latch_of, next_of};
+ghost use Rattle.cell_gate.specs.Storage.{register_of, set_or_cleared_of, store_bit_of, stored_of};
 ghost use Rattle.cell_gate.specs.Store.{IsStorage};
 
 use crate::control::{active, clock_before, edge, pick};

@@ -28,8 +28,8 @@ pub(crate) fn store_of(shape: &Shape, at: usize) -> Store
     }
 }
 
-/// What a storage cell or storage gate stores as: the kind of storage cell that has its meaning. A cell of any other kind
-/// stores nothing, and is told as `$ff`.
+/// What a storage cell or storage gate stores as: the kind of storage cell that has its meaning. A cell of any other
+/// kind stores nothing, and is told as `$ff`.
 pub fn storage_kind(kind: CellKind) -> StorageKind
     ensures value { result ≡ storage_kind kind }
 {

@@ -2,7 +2,9 @@
 
 ghost use Rattle.std.specs.Prelude.{◌≡◌, ◌≤◌};
 ghost use Rattle.std.specs.List.{list_all, list_any};
-ghost use Rattle.cell_types.specs.Fault.{are_params_good, are_pins_good, fault_of, fits, has_no_meaning, has_other_width, has_param, has_pin, has_width, is_bad, is_given, is_joined, is_wide, is_wide_pin, limit_of, may_lack};
+ghost use Rattle.cell_types.specs.Fault.{are_params_good, are_pins_good, fault_of, fits, has_no_meaning};
+ghost use Rattle.cell_types.specs.Fault.{has_other_width, has_param, has_pin, has_width, is_bad, is_given, is_joined};
+ghost use Rattle.cell_types.specs.Fault.{is_wide, is_wide_pin, limit_of, may_lack};
 
 use crate::given::{Param, PinWidth, count_params, count_pins, number_in, value_in};
 use crate::kind::CellKind;

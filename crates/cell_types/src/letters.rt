@@ -1,7 +1,9 @@
 //! The names of storage gates: what the letters of each family mean.
 
 ghost use Rattle.std.specs.Prelude.{◌≡◌};
-ghost use Rattle.cell_types.specs.Letters.{aldff_with, aldffe_with, dff_with, dffe_with, dffsr_with, dffsre_with, dlatch_with, dlatchsr_with, ff_with, sdff_with, sdffce_with, sdffe_with, sr_with};
+ghost use Rattle.cell_types.specs.Letters.{aldff_with, aldffe_with, dff_with, dffe_with, dffsr_with, dffsre_with};
+ghost use Rattle.cell_types.specs.Letters.{dlatch_with, dlatchsr_with, ff_with, sdff_with, sdffce_with, sdffe_with};
+ghost use Rattle.cell_types.specs.Letters.{sr_with};
 ghost use Rattle.cell_types.specs.Letters.{level_of, value_of, gate_with, storage_gate_of};
 
 use crate::level::Level;

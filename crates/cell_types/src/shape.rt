@@ -2,7 +2,8 @@
 
 ghost use Rattle.std.specs.Prelude.{◌≡◌, ◌≢◌, Err, IfErr, IfOk, Ok};
 ghost use Rattle.cell_types.specs.Bounds.{KeepsBounds};
-ghost use Rattle.cell_types.specs.Shape.{bit_of, gate_resets, is_set, made_shape, port_of, resets_of, shape_of, signs_of, small, width_of, widths_of};
+ghost use Rattle.cell_types.specs.Shape.{bit_of, gate_resets, is_set, made_shape, port_of, resets_of, shape_of};
+ghost use Rattle.cell_types.specs.Shape.{signs_of, small, width_of, widths_of};
 
 use crate::fault::{CellFault, fault_of};
 use crate::given::{Param, PinWidth, number_in, value_in};

@@ -2,7 +2,9 @@
 
 ghost use Rattle.std.specs.Prelude.{◌≡◌, ◌*◌, ◌^◌, min};
 ghost use Rattle.cell_types.specs.Given.{number_in};
-ghost use Rattle.cell_types.specs.Widths.{bmux_width, buf_width, concat_width, demux_width, init_width, memory_width, mux_width, own_width, parts_in, pin_width, pmux_width, read_width, storage_width, word_width, write_width};
+ghost use Rattle.cell_types.specs.Widths.{bmux_width, buf_width, concat_width, demux_width, init_width, memory_width};
+ghost use Rattle.cell_types.specs.Widths.{mux_width, own_width, parts_in, pin_width, pmux_width, read_width};
+ghost use Rattle.cell_types.specs.Widths.{storage_width, word_width, write_width};
 
 use crate::given::{Param, number_in};
 use crate::kind::CellKind;

@@ -1,7 +1,8 @@
 //! The cells that choose a part of a word by its number, or that put a word at a part.
 
 ghost use Rattle.std.specs.Prelude.{◌≡◌, ◌<◌, ◌≤◌, ◌^◌, IfOk, OnOk, length, ◌++◌, map};
-ghost use Rattle.cell_word.specs.Parts.{bmuxed_bit, bmuxed_of, demuxed_of, may_be, may_be_digit, merged_with, placed_bit};
+ghost use Rattle.cell_word.specs.Parts.{bmuxed_bit, bmuxed_of, demuxed_of, may_be, may_be_digit, merged_with};
+ghost use Rattle.cell_word.specs.Parts.{placed_bit};
 
 use crate::words::at_or;
 use rtl_bits::{Bit, Bits, Memory, all_known, bit_and, merge};
@@ -103,8 +104,8 @@ fn push_part(bits: &mut Bits, a: &[Bit], s: &[Bit], part: usize) -> Result<(), M
     Ok(())
 }
 
-/// A at the part whose number S is, and 0 at the others; where bits of S are unknown, at the parts that are left 0 where
-/// A is 0, and x.
+/// A at the part whose number S is, and 0 at the others; where bits of S are unknown, at the parts that are left 0
+/// where A is 0, and x.
 #[tactic(auto, using(crate::proofs::Numbered::placed_parts_more))]
 pub(crate) fn demuxed(alloc: Global, a: &[Bit], s: &[Bit]) -> Result<Bits, Memory>
     requires few { length s.now ≤ 12 }

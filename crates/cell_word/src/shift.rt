@@ -126,8 +126,9 @@ pub fn below(kind: ShiftKind) -> Bit
     }
 }
 
-/// The distance that the known bits of B say for a shift of this kind: `$shl` and `$sshl` read below, `$shr` and `$sshr`
-/// above, `$shift` and `$shiftx` above by a number that may be signed. In the Yosys manual, the section "Shift cells".
+/// The distance that the known bits of B say for a shift of this kind: `$shl` and `$sshl` read below, `$shr` and
+/// `$sshr` above, `$shift` and `$shiftx` above by a number that may be signed. In the Yosys manual, the section "Shift
+/// cells".
 #[tactic(auto, using(crate::proofs::Distances::distance_down, crate::proofs::Distances::distance_up))]
 pub fn read_distance(kind: ShiftKind, signed: bool, b: &[Bit]) -> Distance
     requires known { all_known b.now ≡ true }

@@ -1,7 +1,8 @@
 //! The value of a combinational cell on words.
 
 ghost use Rattle.std.specs.Prelude.{◌≡◌, ◌≤◌, [], IfOk, length};
-ghost use Rattle.cell_word.specs.Values.{HasInputs, IsBinary, IsChoice, IsWithin, input_count, input_of, unary_of, value_of, word_value_of};
+ghost use Rattle.cell_word.specs.Values.{HasInputs, IsBinary, IsChoice, IsWithin, input_count, input_of, unary_of};
+ghost use Rattle.cell_word.specs.Values.{value_of, word_value_of};
 
 use crate::arithmetic::{arith, division, negative, order};
 use crate::bitwise::{bitwise, inverse, itself};
@@ -14,9 +15,9 @@ use cell_types::{CellKind, Shape, UnaryKind, WordKind};
 use rtl_bits::{Bit, Bits, Memory};
 use std::alloc::Global;
 
-/// The value of a combinational cell on words, of the words at its pins A, B and S, in this order,
-/// as far as it has them; where it has S and no B, an empty word stands for B. In the Yosys manual, "Word-level cells", the sections "Unary operators",
-/// "Binary operators" and "Multiplexers".
+/// The value of a combinational cell on words, of the words at its pins A, B and S, in this order, as far as it has
+/// them; where it has S and no B, an empty word stands for B. In the Yosys manual, "Word-level cells", the sections
+/// "Unary operators", "Binary operators" and "Multiplexers".
 ///
 /// Each unknown bit counts as x. Negation, sums, products, quotients and orders take words of at
 /// most 128 bits; a shift takes an A, and `$pmux` an S, of at most 4,096; `$bmux` and `$demux` take an S of
@@ -36,7 +37,8 @@ fn value(alloc: Global, kind: WordKind, shape: &Shape, inputs: &[Bits]) -> Resul
     requires within { IsWithin kind (input_of inputs.now 0) (input_of inputs.now 1) (input_of inputs.now 2)
         shape.now.widths.y }
     ensures value { IfOk result
-        (λ bits. bits ≡ value_of kind shape.now (input_of inputs.now 0) (input_of inputs.now 1) (input_of inputs.now 2)) }
+        (λ bits. bits ≡
+        value_of kind shape.now (input_of inputs.now 0) (input_of inputs.now 1) (input_of inputs.now 2)) }
 {
     let a = &inputs[0];
     let y = shape.widths.y;
@@ -59,7 +61,8 @@ fn chosen(alloc: Global, kind: WordKind, shape: &Shape, inputs: &[Bits]) -> Resu
     requires within { IsWithin kind (input_of inputs.now 0) (input_of inputs.now 1) (input_of inputs.now 2)
         shape.now.widths.y }
     ensures value { IfOk result
-        (λ bits. bits ≡ value_of kind shape.now (input_of inputs.now 0) (input_of inputs.now 1) (input_of inputs.now 2)) }
+        (λ bits. bits ≡
+        value_of kind shape.now (input_of inputs.now 0) (input_of inputs.now 1) (input_of inputs.now 2)) }
 {
     let a = inputs[0].as_slice();
     let b = inputs[1].as_slice();

@@ -24,5 +24,6 @@ pub fn readable_designs_are_sound()
 /// So in a design that is read of a text and accepted, no bit of the flat netlist of a module has two
 /// drivers, at any depth of instances.
 pub fn accepted_texts_have_one_driver()
-    ensures one_driver { (text : List ℕ) (d : Design) (scope : Scope) → Reads text d → faults_within scope d.modules ≡ [] → HasOneDriver d }
+    ensures one_driver { (text : List ℕ) (d : Design) (scope : Scope) → Reads text d →
+        faults_within scope d.modules ≡ [] → HasOneDriver d }
 {}

@@ -1,59 +1,56 @@
--- Modules that take the places of those of their names, one after another.
-use Rattle.std.proofs.Common.{◌≡◌, ℕ, zero, suc, ◌+◌, ◌<◌, ◌≤◌, List, [], ◌∷◌, ◌++◌, length, take, drop, refl, sym, ap, ◌∙◌, arith, add-one}
+-- The places of modules, found one after another.
+use Rattle.std.proofs.Common.{◌≡◌, ℕ, zero, suc, ◌+◌, ◌<◌, ◌≤◌, List, [], ◌∷◌, ◌++◌, length, get_or, take, drop, refl, sym, ap, subst, ◌∙◌, arith, add-one}
+use Rattle.std.proofs.Math.Seq.{take-suc}
+use Rattle.std.proofs.lemmas.List.{take_all}
 use Rattle.rtl_ir.specs.declared.limits.TheConstants.{MAX_MODULES}
 use Rattle.rtl_ir.specs.declared.module.Module.{Module}
-use Rattle.design_edit.specs.Modules.{PassesAt, with_module, with_modules}
-use Rattle.design_edit.proofs.Placing.{with_modules_snoc}
+use Rattle.net_index.specs.Types.{Named}
+use Rattle.design_edit.specs.Modules.{PassesAt, place_for, places_for, with_module, with_modules}
+use Rattle.design_edit.specs.Table.{ArePlaces}
+use Rattle.design_edit.proofs.Placing.{as_many, more, places_snoc, with_modules_snoc}
 
--- the edits below a place took their places in all, and these are left
-pub record AreEdited (modules edits : List Module) (at : ℕ) (all rest : List Module) : Type 0 where
-  pub within : at ≤ length edits
-  pub left : rest ≡ drop at edits
-  pub put : all ≡ with_modules modules (take at edits)
-  pub few : length all ≤ MAX_MODULES
+-- the modules with so many of the edits among them are placed by the table, and counted
+pub record AreCounted (modules edits : List Module) (number : ℕ) (table : Named ℕ) (count : ℕ) : Type 0 where
+  pub known : ArePlaces table (with_modules modules (take number edits))
+  pub counted : count ≡ length (with_modules modules (take number edits))
 
-behind : (edits : List Module) (at : ℕ) (edit : Module) (rest : List Module) → edit ∷ rest ≡ drop at edits → (at < length edits) × (rest ≡ drop (suc at) edits) × (take at edits ++ edit ∷ [] ≡ take (suc at) edits)
-behind [] zero edit rest h = absurd cc
-behind [] (suc at) edit rest h = absurd cc
-behind (e ∷ edits) zero edit rest h =
-    let first : edit ≡ e = cc in
-    let others : rest ≡ edits = cc in
-    (omega arith, others, ap (λ (m : Module). m ∷ []) first)
-behind (e ∷ edits) (suc at) edit rest h =
-    let later = behind edits at edit rest h in
-    (let lt = later.0 in omega (arith, lt), later.1, ap (λ (l : List Module). e ∷ l) later.2)
+take_more : (edits : List Module) (number : ℕ) (edit : Module) → number < length edits → edit ≡ get_or edits number edit → take number edits ++ edit ∷ [] ≡ take (number + 1) edits
+take_more edits number edit within is = sym (ap (λ n. take n edits) (add-one number) ∙ take-suc edits number edit within ∙ (λ i. take number edits ++ sym is i ∷ []))
 
-module _ (modules edits : List Module) where
-  pub edits_begin : length modules ≤ MAX_MODULES → AreEdited modules edits 0 modules edits
-  edits_begin few = record { within = omega arith; left = refl; put = refl; few = few }
+module _ (modules edits : List Module) (number : ℕ) (edit : Module) (within : number < length edits) (is : edit ≡ get_or edits number edit) where
+  pub one_more : with_module (with_modules modules (take number edits)) edit ≡ with_modules modules (take (number + 1) edits)
+  one_more = sym (with_modules_snoc modules (take number edits) edit) ∙ ap (with_modules modules) (take_more edits number edit within is)
 
-  put_one : (at : ℕ) (all more : List Module) (edit : Module) (rest : List Module) → AreEdited modules edits at all (edit ∷ rest) → more ≡ with_module all edit → more ≡ with_modules modules (take (suc at) edits)
-  put_one at all more edit rest h is =
-      is ∙ ap (λ (l : List Module). with_module l edit) h.put ∙ sym (with_modules_snoc modules (take at edits) edit) ∙ ap (with_modules modules) (behind edits at edit rest h.left).2
+  pub places_more : places_for modules (take (number + 1) edits) ≡ places_for modules (take number edits) ++ place_for (with_modules modules (take number edits)) edit.id ∷ []
+  places_more = ap (places_for modules) (sym (take_more edits number edit within is)) ∙ places_snoc modules (take number edits) edit
 
-  -- one edit more takes its place
-  pub edits_more : (at : ℕ) (all more : List Module) (edit : Module) (rest : List Module) → AreEdited modules edits at all (edit ∷ rest) → more ≡ with_module all edit → length more ≤ MAX_MODULES
-      → AreEdited modules edits (at + 1) more rest
-  edits_more at all more edit rest h is few = rw add-one record {
-    within = (let lt = (behind edits at edit rest h.left).0 in omega (arith, lt));
-    left = (behind edits at edit rest h.left).1;
-    put = put_one at all more edit rest h is;
-    few = few;
+  -- a new name makes one module more
+  pub counted_more : (old new : Named ℕ) (count place : ℕ) → AreCounted modules edits number old count → place ≡ place_for (with_modules modules (take number edits)) edit.id → place ≡ count
+      → ArePlaces new (with_module (with_modules modules (take number edits)) edit) → AreCounted modules edits (number + 1) new (count + 1)
+  counted_more old new count place h at last are = record {
+    known = subst (ArePlaces new) one_more are;
+    counted = ap (λ n. n + 1) h.counted ∙ sym (more edit (with_modules modules (take number edits)) (sym at ∙ last ∙ h.counted)) ∙ ap length one_more;
   }
 
-  -- one edit more makes them too many
-  pub edits_past : (at : ℕ) (all more : List Module) (edit : Module) (rest : List Module) → AreEdited modules edits at all (edit ∷ rest) → more ≡ with_module all edit → MAX_MODULES < length more → PassesAt modules edits at
-  edits_past at all more edit rest h is many = record {
-    within = (let e = ap length h.put in let f = h.few in omega (arith, e, f));
-    passes = rw add-one (let e = ap length (put_one at all more edit rest h is) in omega (arith, e, many));
+  -- a known name makes none
+  pub counted_again : (old new : Named ℕ) (count place : ℕ) → AreCounted modules edits number old count → place ≡ place_for (with_modules modules (take number edits)) edit.id → (place ≡ count → ⊥)
+      → ArePlaces new (with_module (with_modules modules (take number edits)) edit) → AreCounted modules edits (number + 1) new count
+  counted_again old new count place h at other are = record {
+    known = subst (ArePlaces new) one_more are;
+    counted = h.counted ∙ sym (as_many edit (with_modules modules (take number edits)) (λ e. other (at ∙ e ∙ sym h.counted))) ∙ ap length one_more;
   }
 
-  take_all : (es : List Module) (at : ℕ) → [] ≡ drop at es → take at es ≡ es
-  take_all [] zero h = refl
-  take_all [] (suc at) h = refl
-  take_all (e ∷ es) zero h = absurd cc
-  take_all (e ∷ es) (suc at) h = ap (λ (l : List Module). e ∷ l) (take_all es at h)
+  -- one more passes the limit
+  pub passes_at : (old : Named ℕ) (count place : ℕ) → AreCounted modules edits number old count → place ≡ place_for (with_modules modules (take number edits)) edit.id → place ≡ count → count ≡ MAX_MODULES
+      → PassesAt modules edits number
+  passes_at old count place h at last full = record {
+    within = (let c = h.counted in omega (arith, c, full));
+    passes = (let l = sym (ap length one_more) ∙ more edit (with_modules modules (take number edits)) (sym at ∙ last ∙ h.counted) in let c = h.counted in omega (arith, l, c, full));
+  }
 
-  -- no edit is left
-  pub edits_end : (at : ℕ) (all : List Module) → AreEdited modules edits at all [] → all ≡ with_modules modules edits
-  edits_end at all h = h.put ∙ ap (with_modules modules) (take_all edits at h.left)
+-- all are counted
+pub counted_all : (modules edits : List Module) (number : ℕ) (table : Named ℕ) (count : ℕ) → AreCounted modules edits number table count → length edits ≤ number → count ≡ length (with_modules modules edits)
+counted_all modules edits number table count h over = h.counted ∙ ap (λ (l : List Module). length (with_modules modules l)) (take_all number edits over)
+
+pub places_all : (modules edits : List Module) (number : ℕ) (places : List ℕ) → places ≡ places_for modules (take number edits) → length edits ≤ number → places ≡ places_for modules edits
+places_all modules edits number places are over = are ∙ ap (places_for modules) (take_all number edits over)

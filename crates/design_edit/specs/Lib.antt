@@ -1,2 +1,4 @@
 pub mod Modules
+pub mod Table
+pub mod Changes
 pub mod Places

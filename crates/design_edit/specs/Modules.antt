@@ -1,5 +1,6 @@
 -- The modules of a design, by their names.
 use Rattle.std.specs.Prelude.{ℕ, ◌+◌, ◌<◌, ◌≤◌, Bool, not, List, [], ◌∷◌, filter, length, take, if◌then◌else◌}
+use Rattle.std.specs.List.{position_or_len}
 use Rattle.std.specs.Option.{is_some}
 use Rattle.std.specs.Str.{bytes_eq}
 use Rattle.rtl_ir.specs.declared.module.Module.{Module}
@@ -23,6 +24,15 @@ with_module (m ∷ modules) new = if bytes_eq m.id new.id then new ∷ modules e
 abbrev pub with_modules : List Module → List Module → List Module
 with_modules modules [] = modules
 with_modules modules (new ∷ more) = with_modules (with_module modules new) more
+
+-- the place that a module of this name takes among others: that of the one of its name, or behind them all
+abbrev pub place_for : List Module → List ℕ → ℕ
+place_for modules name = position_or_len (λ (m : Module). bytes_eq m.id name) modules
+
+-- the places that modules take among others, one after another
+abbrev pub places_for : List Module → List Module → List ℕ
+places_for modules [] = []
+places_for modules (new ∷ more) = place_for modules new.id ∷ places_for (with_module modules new) more
 
 -- the module at this place of some is the first that makes modules with them more than a design may have
 pub record PassesAt (modules edits : List Module) (at : ℕ) : Type 0 where

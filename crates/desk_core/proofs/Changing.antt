@@ -1,17 +1,20 @@
 -- Answers to commands that change the design or the script.
-use Rattle.std.proofs.Common.{◌≡◌, ◌≢◌, inl, inr, ℕ, zero, suc, ◌≤◌, List, [], ◌++◌, Bool, true, false, cond, true≢false, Option, Some, None, Result, Ok, Err, length, slice_get, refl, sym, ap, subst, ◌∙◌}
+use Rattle.std.proofs.Common.{◌≡◌, ◌≢◌, inl, inr, ℕ, zero, suc, ◌≤◌, List, [], ◌++◌, Bool, cond, Option, Some, None, Result, Ok, Err, length, slice_get, refl, sym, ap, subst, ◌∙◌}
 use Rattle.std.specs.Prelude.{IfOk, codes, replicate}
 use Rattle.rtl_bits.specs.declared.memory.Memory.{Memory}
 use Rattle.rtl_ir.specs.declared.module.Design.{Design}
 use Rattle.rtl_ir.specs.declared.module.Module.{Module}
 use Rattle.rtl_ir.specs.Fault.{Fault}
 use Rattle.rtl_ir.specs.Faults.{check_faults}
+use Rattle.rtl_check.specs.declared.edit.EditFault.{EditFault}
+use Rattle.rtl_check.specs.declared.edit.EditFault.TheVariants as edit
 use Rattle.rtl_check.specs.declared.fault.CheckFault.{CheckFault}
 use Rattle.rtl_check.specs.declared.fault.CheckFault.TheVariants as check
+use Rattle.rtl_check.specs.Edits.{IsEditFault}
 use Rattle.rtl_check.specs.Finds.{IsFirst, first_answer}
 use Rattle.rtl_read.specs.declared.read_fault.ReadFault.{ReadFault}
 use Rattle.rtl_read.specs.declared.read_fault.ReadFault.TheVariants as faults
-use Rattle.rtl_read.specs.Reads.{Reads, IsFirstFault, OnFault}
+use Rattle.rtl_read.specs.Reads.{Reads, AreItemsOf, IsFirstFault, OnFault}
 use Rattle.std.specs.Fmt.{decimal}
 use Rattle.rtl_readable.specs.Readable.{IsReadable}
 use Rattle.script_core.specs.declared.built.Built.{Built}
@@ -20,21 +23,18 @@ use Rattle.script_core.specs.Words.{script_of}
 use Rattle.result_cache.specs.Filled.{HoldsNone}
 use Rattle.reply_lines.specs.declared.reply.Reply.{Reply}
 use Rattle.reply_lines.specs.Lines.{check_words, counted, error_reply, ok_line, ok_reply, read_words}
-use Rattle.design_edit.specs.Modules.{PassesAt, with_modules, without_module}
-use Rattle.design_edit.specs.Places.{module_place}
+use Rattle.design_edit.specs.Modules.{with_modules, without_module}
 use Rattle.design_edit.proofs.Readings.{readable_edits}
 use Rattle.rtl_grammar.specs.Uses.{items_of}
 use Rattle.rtl_ir.specs.declared.limits.TheConstants.{MAX_MODULES}
-use Rattle.rtl_lex.specs.declared.place.Place.{Place}
-use Rattle.rtl_lex.specs.Items.{AreItems, Seen}
-use Rattle.rtl_lex.specs.Place.{place_text, start}
+use Rattle.rtl_lex.specs.Items.{Seen}
 use Rattle.rtl_write.proofs.Kept.{readable}
 use Rattle.design_edit.proofs.Naming.{has_none, has_one}
 use Rattle.rtl_ir.specs.Faults.Recursion.{place_named}
 use Rattle.std.proofs.lemmas.List.{length-replicate}
-use Rattle.std.specs.Option.{is_some}
 use Rattle.desk_core.specs.declared.results.Results.{Results}
 use Rattle.desk_core.specs.Answers.{IsEditAnswer, IsEdited, IsLoadAnswer, checked_answer, design_answer, refusal, remove_answer, script_answer, script_answer_by}
+use Rattle.desk_core.specs.Edits.{IsEditReply}
 use Rattle.desk_core.specs.Results.{AreSound}
 use Rattle.desk_core.specs.State.{State, answer}
 
@@ -141,42 +141,45 @@ pub refused_script : (s : State) (text : List ℕ) (number : ℕ) (r : Result Re
 refused_script s text number (Ok reply) bad is = ap (λ (r : Reply). answer r s) is ∙ ap (script_answer_by s) (sym bad)
 refused_script s text number (Err memory) bad is = tt
 
--- a module that is there is taken away, and one that is not is an error
-pub removed : (s after : State) (name : List ℕ) (r : Result Reply Memory) (place : Option ℕ) → place ≡ place_named s.design.modules name → is_some place ≡ true
-    → IfOk r (λ reply. answer reply after ≡ design_answer s (without_module s.design.modules name)) → IfOk r (λ reply. answer reply after ≡ remove_answer s name)
-removed s after name (Err memory) place is there answered = tt
-removed s after name (Ok reply) None is there answered = absurd (true≢false (sym there))
-removed s after name (Ok reply) (Some at) is there answered =
-    answered ∙ sym (ap (λ (b : Bool). cond b (design_answer s (without_module s.design.modules name)) (refusal s (codes "18 " ++ name))) (has_one s.design.modules name at (sym is)))
+-- a module that is there is taken away
+pub removed : (s after : State) (name : List ℕ) (at : ℕ) (reply : Reply) → place_named s.design.modules name ≡ Some at
+    → answer reply after ≡ design_answer s (without_module s.design.modules name) → answer reply after ≡ remove_answer s name
+removed s after name at reply there answered =
+    answered ∙ sym (ap (λ (b : Bool). cond b (design_answer s (without_module s.design.modules name)) (refusal s (codes "18 " ++ name))) (has_one s.design.modules name at there))
 
-pub not_removed : (s : State) (name : List ℕ) (r : Result Reply Memory) (place : Option ℕ) → place ≡ place_named s.design.modules name → is_some place ≡ false
+-- the design without it has a fault
+pub refused_removal : (s : State) (name : List ℕ) (at : ℕ) (fault : CheckFault) (r : Result Reply Memory) → place_named s.design.modules name ≡ Some at → IsFirst fault (check_faults (without_module s.design.modules name))
+    → IfOk r (λ reply. fault ≢ check.Memory) → IfOk r (λ reply. reply ≡ error_reply (check_words fault)) → IfOk r (λ reply. answer reply s ≡ remove_answer s name)
+refused_removal s name at fault (Err memory) there first other is = tt
+refused_removal s name at fault (Ok reply) there first other is =
+    removed s s name at reply there (refused_design s (without_module s.design.modules name) fault (Ok reply) first other is)
+
+-- a module that is not there is an error
+pub not_removed : (s : State) (name : List ℕ) (r : Result Reply Memory) → place_named s.design.modules name ≡ None
     → IfOk r (λ reply. reply ≡ error_reply (codes "18 " ++ name)) → IfOk r (λ reply. answer reply s ≡ remove_answer s name)
-not_removed s name (Err memory) place is none answered = tt
-not_removed s name (Ok reply) (Some at) is none answered = absurd (true≢false none)
-not_removed s name (Ok reply) None is none answered =
+not_removed s name (Err memory) none answered = tt
+not_removed s name (Ok reply) none answered =
     ap (λ (r : Reply). answer r s) answered
-    ∙ sym (ap (λ (b : Bool). cond b (design_answer s (without_module s.design.modules name)) (refusal s (codes "18 " ++ name))) (has_none s.design.modules name (sym is)))
+    ∙ sym (ap (λ (b : Bool). cond b (design_answer s (without_module s.design.modules name)) (refusal s (codes "18 " ++ name))) (has_none s.design.modules name none))
 
--- edits that leave no more modules than a design may have
-pub taken_edits : (s after : State) (text : List ℕ) (edits : Design) (modules : List Module) (r : Result Reply Memory) → modules ≡ with_modules s.design.modules edits.modules → length modules ≤ MAX_MODULES
-    → IfOk r (λ reply. answer reply after ≡ design_answer s modules) → IfOk r (λ reply. IsEdited s text edits (answer reply after))
-taken_edits s after text edits modules (Err memory) are few answered = tt
-taken_edits s after text edits modules (Ok reply) are few answered =
-    inl (subst (λ (l : List Module). length l ≤ MAX_MODULES) are few, answered ∙ ap (design_answer s) are)
+-- edits that leave a design without faults
+pub taken_edits : (s after : State) (text : List ℕ) (edits : Design) (count : ℕ) (reply : Reply) → length (with_modules s.design.modules edits.modules) ≤ MAX_MODULES
+    → check_faults (with_modules s.design.modules edits.modules) ≡ [] → count ≡ length (with_modules s.design.modules edits.modules)
+    → reply ≡ ok_reply (ok_line (counted (codes "modules") count)) → after ≡ record s { design = record { modules = with_modules s.design.modules edits.modules } }
+    → IsEdited s text edits (answer reply after)
+taken_edits s after text edits count reply few fine many is state =
+    inl (few, taken_design s after (with_modules s.design.modules edits.modules) reply fine (is ∙ ap (λ (n : ℕ). ok_reply (ok_line (counted (codes "modules") n))) many) state)
 
--- edits that leave too many
-pub refused_edits : (s : State) (text : List ℕ) (edits : Design) (at : ℕ) (place : Place) (r : Result Reply Memory) → Reads text edits → PassesAt s.design.modules edits.modules at
-    → ((items : List Seen) → AreItems items text start false → place ≡ module_place items at)
-    → IfOk r (λ reply. reply ≡ error_reply (codes "17 " ++ place_text place)) → IfOk r (λ reply. IsEdited s text edits (answer reply s))
-refused_edits s text edits at place (Err memory) reads passes is answered = tt
-refused_edits s text edits at place (Ok reply) reads passes is answered =
-    inr (
-      at,
-      items_of reads.uses,
-      passes,
-      reads.tokens,
-      ap (λ (r : Reply). answer r s) answered ∙ ap (λ (p : Place). refusal s (codes "17 " ++ place_text p)) (is (items_of reads.uses) reads.tokens),
-    )
+-- edits that are refused
+pub refused_edits : (s : State) (text : List ℕ) (edits : Design) (fault : EditFault) (r : Result Reply Memory) → Reads text edits → IsEditFault s.design.modules edits.modules fault
+    → IfOk r (λ reply. (items : List Seen) → AreItemsOf text items → IsEditReply items fault reply) → IfOk r (λ reply. IsEdited s text edits (answer reply s))
+refused_edits s text edits fault (Err memory) reads why is = tt
+refused_edits s text edits (edit.Past at) (Ok reply) reads why is =
+    inr (at, items_of reads.uses, why, reads.tokens, ap (λ (r : Reply). answer r s) (is (items_of reads.uses) reads.tokens))
+refused_edits s text edits (edit.Check fault) (Ok reply) reads (inl memory) is = absurd ((is (items_of reads.uses) reads.tokens).0 memory)
+refused_edits s text edits (edit.Check fault) (Ok reply) reads (inr why) is =
+    let told = is (items_of reads.uses) reads.tokens in
+    inl (why.0, refused_design s (with_modules s.design.modules edits.modules) fault (Ok reply) why.1 told.0 told.1)
 
 -- the edited design is such as a text can give
 pub readable_edited : (text : List ℕ) (modules : List Module) (edits : Design) (all : List Module) → IsReadable (record { modules = modules }) → Reads text edits → all ≡ with_modules modules edits.modules → length all ≤ MAX_MODULES

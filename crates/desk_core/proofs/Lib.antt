@@ -4,9 +4,17 @@ pub mod Finding
 pub mod Outcomes
 pub mod Told
 pub mod Going
+pub mod Tracing
 pub mod Taking
 pub mod Changing
 pub mod Starting
 pub mod Showing
 pub mod Simulating
+pub mod Staying
+pub mod Naming
+pub mod Shaping
 pub mod Sending
+pub mod CrewPlaces
+pub mod CrewSteps
+pub mod CrewEnds
+pub mod CrewBuilds

@@ -2,7 +2,10 @@
 use Rattle.std.proofs.Common.{◌≡◌, ◌⊎◌, inl, inr, ℕ, zero, suc, ◌+◌, ◌<◌, ◌≤◌, List, [], ◌∷◌, ◌++◌, true, false, length, drop, get_or, min, slice_get, Option, Some, None, refl, sym, ap, subst, ◌∙◌, arith, true≢false, add-one, drop-cons, append_assoc}
 use Rattle.std.specs.Prelude.{map}
 use Rattle.std.specs.List.{flat_map, list_all}
-use Rattle.std.proofs.lemmas.List.{append-nil}
+use Rattle.std.proofs.lemmas.List.{append-nil, map-append}
+use Rattle.flat_net.specs.declared.titled.Titled.{Titled}
+use Rattle.flat_net.specs.Titled.{HaveNoProcess, titled_module}
+use Rattle.net_model.specs.Within.{Each}
 use Rattle.rtl_write.specs.Text.{module_text}
 use Rattle.std.specs.Option.{is_some, option_or}
 use Rattle.std.proofs.Math.ListN.{drop_of_length-le}
@@ -18,10 +21,11 @@ use Rattle.script_core.specs.Cold.{cold, named, outcome_of}
 use Rattle.script_core.proofs.Refining.{value_named}
 use Rattle.desk_core.specs.declared.results.Results.{Results}
 use Rattle.desk_core.specs.Netlist.{done_modules, over_line, over_words}
+use Rattle.desk_core.specs.Shaped.{IsShaped}
 use Rattle.desk_core.specs.Results.{AreFound, AreSound, outcome_beside, outcomes_of, over_beside, over_of}
 
 -- the results beside the modules from a place on begin with that one
-front : {X : Type 0} (xs : List X) (at : ℕ) (x : X) → at < length xs → x ≡ get_or xs at x → drop at xs ≡ x ∷ drop (at + 1) xs
+pub front : {X : Type 0} (xs : List X) (at : ℕ) (x : X) → at < length xs → x ≡ get_or xs at x → drop at xs ≡ x ∷ drop (at + 1) xs
 front xs at x lt is = rw add-one (drop-cons xs at x lt ∙ ap (λ y. y ∷ drop (suc at) xs) (sym is))
 
 no_found : (ms : List Module) → outcomes_of ms [] ≡ []
@@ -45,7 +49,7 @@ over_next ms fs at m r lm lf im ir =
     ap (λ (l : List Module). over_of l (drop at fs)) (front ms at m lm im)
     ∙ ap (λ (l : List (Option Built)). over_of (m ∷ drop (at + 1) ms) l) (front fs at r lf ir)
 
-split : (a b : ℕ) → (a ≤ b) ⊎ (b < a)
+pub split : (a b : ℕ) → (a ≤ b) ⊎ (b < a)
 split zero b = inl (omega arith)
 split (suc a) zero = inr (omega arith)
 split (suc a) (suc b) = by (split a b)
@@ -93,6 +97,13 @@ done_append [] b = refl
 done_append (Done m ∷ a) b = ap (λ (l : List Module). m ∷ l) (done_append a b)
 done_append (Over word ∷ a) b = done_append a b
 
+-- modules that are lent, with one more
+pub lent_done : (old new : List Titled) (t : Titled) → new ≡ old ++ t ∷ [] → map titled_module new ≡ map titled_module old ++ titled_module t ∷ []
+lent_done old new t is = ap (map titled_module) is ∙ map-append titled_module old (t ∷ [])
+
+pub lent_none : (all : List Titled) → map titled_module all ≡ map titled_module all ++ []
+lent_none all = sym (append-nil (map titled_module all))
+
 -- the modules so far, with that of one result more
 pub copies_next : (ms : List Module) (fs : List (Option Built)) (at : ℕ) (m : Module) (r : Option Built) (copies more all : List Module) → at < length ms → at < length fs → m ≡ get_or ms at m → r ≡ get_or fs at r
     → more ≡ copies ++ done_modules (outcome_beside m r) → copies ++ done_modules (outcomes_of (drop at ms) (drop at fs)) ≡ all → more ++ done_modules (outcomes_of (drop (at + 1) ms) (drop (at + 1) fs)) ≡ all
@@ -128,7 +139,7 @@ pub texts_end : (ms : List Module) (fs : List (Option Built)) (at : ℕ) (out al
 texts_end ms fs at out all le before =
     sym (append-nil out) ∙ sym (ap (λ (os : List Outcome). out ++ flat_map module_text (done_modules os)) (outcomes_end ms fs at le)) ∙ before
 
-outcomes_are : (f : Module → Outcome) (ms : List Module) (found : List (Option Built))
+pub outcomes_are : (f : Module → Outcome) (ms : List Module) (found : List (Option Built))
     → ((i : ℕ) (m : Module) (b : Built) → slice_get ms i ≡ Some m → slice_get found i ≡ Some (Some b) → named m.id b.outcome ≡ f m)
     → length found ≡ length ms → list_all is_some found ≡ true → outcomes_of ms found ≡ map f ms
 outcomes_are f [] found h e all = refl
@@ -149,7 +160,7 @@ outcomes_cold design script results h all =
     h.beside all
 
 -- the error by the results beside modules is that by their outcomes
-over_outcomes : (ms : List Module) (found : List (Option Built)) → length found ≡ length ms → list_all is_some found ≡ true → over_of ms found ≡ over_words ms (outcomes_of ms found)
+pub over_outcomes : (ms : List Module) (found : List (Option Built)) → length found ≡ length ms → list_all is_some found ≡ true → over_of ms found ≡ over_words ms (outcomes_of ms found)
 over_outcomes [] found e all = refl
 over_outcomes (m ∷ ms) [] e all = absurd (omega arith)
 over_outcomes (m ∷ ms) (None ∷ found) e all = absurd (true≢false (sym all))
@@ -174,3 +185,8 @@ none_over f (m ∷ ms) e = by (f m) (none_over f ms) e
     by : (o : Outcome) → (over_words ms (map f ms) ≡ None → map f ms ≡ map Done (done_modules (map f ms))) → over_words (m ∷ ms) (o ∷ map f ms) ≡ None → (o ∷ map f ms) ≡ map Done (done_modules (o ∷ map f ms))
     by (Done n) later h = ap (λ (os : List Outcome). Done n ∷ os) (later h)
     by (Over word) later h = absurd cc
+
+-- lent modules of shapes
+pub lent_plain : (lent : List Titled) → Each IsShaped (map titled_module lent) → HaveNoProcess lent
+lent_plain [] h = tt
+lent_plain (t ∷ lent) h = ((h (titled_module t) (inl refl)).processes, lent_plain lent (λ m i. h m (inr i)))

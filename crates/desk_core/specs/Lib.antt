@@ -6,4 +6,11 @@ pub mod Answers
 pub mod Step
 pub mod Builds
 pub mod Results
+pub mod Beside
+pub mod Edits
 pub mod Told
+pub mod Crew
+pub mod CrewRuns
+pub mod CrewBuilds
+pub mod Traces
+pub mod Shaped

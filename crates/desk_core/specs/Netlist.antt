@@ -8,9 +8,9 @@ use Rattle.result_cache.specs.Filled.{new_count, with_keys}
 use Rattle.script_core.specs.declared.outcome.Outcome.{Outcome}
 use Rattle.script_core.specs.declared.outcome.Outcome.TheVariants.{Done, Over}
 use Rattle.script_core.specs.declared.word.Word.{Word}
-use Rattle.script_core.specs.declared.word.Word.TheVariants as scripts
 use Rattle.script_core.specs.Cold.{cold}
 use Rattle.script_core.specs.Keys.{key_of, key_text}
+use Rattle.script_core.specs.Words.{spelling_of}
 use Rattle.reply_lines.specs.declared.reply.Reply.{Reply}
 use Rattle.reply_lines.specs.Lines.{counted, error_reply}
 use Rattle.desk_core.specs.State.{Answer, State}
@@ -45,21 +45,10 @@ done_modules (Over word ∷ outcomes) = done_modules outcomes
 abbrev pub netlist_of : State → Design
 netlist_of s = record { modules = done_modules (cold s.script s.design) }
 
--- how a word is written in scripts
-abbrev pub word_name : Word → List ℕ
-word_name scripts.Proc = codes "proc"
-word_name scripts.OptExpr = codes "opt_expr"
-word_name scripts.OptMerge = codes "opt_merge"
-word_name scripts.OptClean = codes "opt_clean"
-word_name scripts.Opt = codes "opt"
-word_name scripts.Fsm = codes "fsm"
-word_name scripts.Memory = codes "memory"
-word_name scripts.Techmap = codes "techmap"
-
 -- the error of a module whose outcome is Over: its number, the module, and the word whose result would pass a limit
 abbrev pub over_line : Module → Outcome → Option (List ℕ)
 over_line m (Done n) = None
-over_line m (Over word) = Some (codes "20 " ++ m.id ++ codes " " ++ word_name word)
+over_line m (Over word) = Some (codes "20 " ++ m.id ++ codes " " ++ spelling_of word)
 
 -- the error of the first of the modules whose outcome is Over
 abbrev pub over_words : List Module → List Outcome → Option (List ℕ)

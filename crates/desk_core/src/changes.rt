@@ -2,13 +2,12 @@
 
 ghost use Rattle.std.specs.Prelude.{◌≡◌, IfOk, OnErr};
 ghost use Rattle.rtl_readable.specs.Readable.{IsReadable};
-ghost use Rattle.desk_core.specs.Answers.{IsLoadAnswer, design_answer, remove_answer, script_answer, script_answer_by};
+ghost use Rattle.desk_core.specs.Answers.{IsLoadAnswer, design_answer, script_answer, script_answer_by};
 ghost use Rattle.desk_core.specs.State.{answer};
 
 use crate::desk::Desk;
 use crate::modules::{module_count, none_found};
-use design_edit::{place_named, without_module};
-use reply_lines::{Reply, check_reply, counted_reply, number_reply, read_reply, told_reply};
+use reply_lines::{Reply, check_reply, counted_reply, number_reply, read_reply};
 use rtl_bits::Memory;
 use rtl_check::{Checked, check};
 use rtl_ir::Design;
@@ -30,7 +29,7 @@ impl Desk {
 
     /// The design becomes the present one, unless it has a fault.
     #[tactic(auto, using(crate::proofs::Changing::accepted_design, crate::proofs::Changing::refused_design))]
-    pub(crate) fn replace(&mut self, design: Design) -> Result<Reply, Memory>
+    fn replace(&mut self, design: Design) -> Result<Reply, Memory>
         requires readable { IsReadable design }
         ensures ok { IfOk result (λ reply. answer reply self.new ≡ design_answer self.old design.modules) }
         ensures err { OnErr result (self.new ≡ self.old) }
@@ -54,20 +53,6 @@ impl Desk {
         self.design = design;
         self.results.found = found;
         Ok(reply)
-    }
-
-    /// The module of this name is taken away.
-    #[tactic(auto, using(crate::proofs::Changing::removed, crate::proofs::Changing::not_removed, design_edit::proofs::Readings::readable_without))]
-    pub(crate) fn remove(&mut self, name: &[u8]) -> Result<Reply, Memory>
-        ensures ok { IfOk result (λ reply. answer reply self.new ≡ remove_answer self.old name.now) }
-        ensures err { OnErr result (self.new ≡ self.old) }
-    {
-        let modules = self.design.design().modules.as_slice();
-        if place_named(modules, name).is_none() {
-            return told_reply(self.alloc, b"18 ", name);
-        }
-        let modules = without_module(self.alloc, modules, name)?;
-        self.replace(Design { modules })
     }
 
     /// The script of the text becomes the present one.

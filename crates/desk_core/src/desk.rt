@@ -12,7 +12,8 @@ use script_core::Script;
 use std::alloc::Global;
 use std::marker::Model;
 
-/// The present design and script, and what is kept of results. Contracts see the state of the machine that a session is.
+/// The present design and script, and what is kept of results. Contracts see the state of the machine that a session
+/// is.
 #[derive(Drop)]
 pub struct Desk {
     pub(crate) alloc: Global,

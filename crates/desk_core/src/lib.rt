@@ -1,6 +1,7 @@
 //! A session on one thread: a design and a script that commands change, the results that are kept, and the replies.
 #![tactic(auto)]
 
+mod beside;
 mod changes;
 mod command;
 mod desk;
@@ -8,6 +9,7 @@ mod edit;
 mod kept;
 pub mod laws;
 mod modules;
+mod named;
 mod netlist;
 mod results;
 mod runs;

@@ -2,39 +2,27 @@
 
 ghost use Rattle.std.specs.Prelude.{◌≡◌, ◌≤◌, ◌-◌, ◌++◌, IfOk, OnOk, codes};
 ghost use Rattle.std.specs.List.{flat_map};
+ghost use Rattle.flat_net.specs.Titled.{titled_design};
 ghost use Rattle.rtl_write.specs.Text.{module_text, text_of};
 ghost use Rattle.reply_lines.specs.Lines.{counted};
-ghost use Rattle.desk_core.specs.Netlist.{done_modules, word_name};
+ghost use Rattle.script_core.specs.Words.{spelling_of};
+ghost use Rattle.desk_core.specs.Netlist.{done_modules};
 ghost use Rattle.desk_core.specs.Results.{outcome_beside, outcomes_of, over_beside, over_of};
 
 use crate::kept::Kept;
+use crate::named::put_named;
+use flat_net::Titled;
 use reply_lines::put_counted;
-use rtl_bits::{Copied, Memory, Seq, Text};
+use rtl_bits::{Memory, Text};
 use rtl_ir::Module;
-use rtl_write::module_text;
 use script_core::{Outcome, Word};
 use std::alloc::Global;
-
-/// How a word is written in scripts.
-pub fn word_name(word: Word) -> &'static [u8]
-    ensures value { result.now ≡ word_name word }
-{
-    match word {
-        Word::Proc => b"proc",
-        Word::OptExpr => b"opt_expr",
-        Word::OptMerge => b"opt_merge",
-        Word::OptClean => b"opt_clean",
-        Word::Opt => b"opt",
-        Word::Fsm => b"fsm",
-        Word::Memory => b"memory",
-        Word::Techmap => b"techmap",
-    }
-}
 
 /// How many keys were built, and for how many of the modules the result was there.
 pub fn built_words(alloc: Global, built: usize, modules: usize) -> Result<Text, Memory>
     requires few { built ≤ modules }
-    ensures value { IfOk result (λ words. words ≡ counted (codes "built") built ++ counted (codes "reused") (modules - built)) }
+    ensures value { IfOk result (λ words. words ≡ counted (codes "built") built ++
+        counted (codes "reused") (modules - built)) }
 {
     let mut words = Text::make(alloc);
     put_counted(&mut words, b"built", built)?;
@@ -44,12 +32,12 @@ pub fn built_words(alloc: Global, built: usize, modules: usize) -> Result<Text, 
 
 /// The error's number, the module and the word whose result would pass a limit.
 fn words_of(alloc: Global, module: &Module, word: Word) -> Result<Text, Memory>
-    ensures value { IfOk result (λ words. words ≡ codes "20 " ++ «module».now.id ++ codes " " ++ word_name word) }
+    ensures value { IfOk result (λ words. words ≡ codes "20 " ++ «module».now.id ++ codes " " ++ spelling_of word) }
 {
     let mut words = Text::from_slice(alloc, b"20 ")?;
     words.extend(module.id.as_slice())?;
     words.extend(b" ")?;
-    words.extend(word_name(word))?;
+    words.extend(word.spelling())?;
     Ok(words)
 }
 
@@ -84,67 +72,57 @@ pub fn over_words(
     Ok(None)
 }
 
-/// A copy of the module that an outcome is, under this name.
-fn named_copy(id: &Text, module: &Module) -> Result<Module, Memory>
-    ensures value { IfOk result (λ copy. copy ≡ record «module».now { id = id.now }) }
-{
-    let mut copy = module.copy()?;
-    copy.id = id.copy()?;
-    Ok(copy)
-}
-
-/// Puts a copy of the module that the result beside a module is last, under that one's name.
-fn push_beside(
-    copies: &mut Seq<Module>,
-    module: &Module,
-    found: &Option<Kept>,
+/// Puts the module that the result beside a module is last, under that one's name.
+#[tactic(auto, using(crate::proofs::Outcomes::lent_done, crate::proofs::Outcomes::lent_none))]
+fn push_beside<'a>(
+    lent: &mut Vec<Titled<'a>>,
+    module: &'a Module,
+    found: &'a Option<Kept>,
 ) -> Result<(), Memory>
-    ensures ok { OnOk result (copies.new ≡ copies.old ++ done_modules (outcome_beside «module».now found.now)) }
+    ensures ok { OnOk result ((titled_design lent.new.items).modules ≡
+        (titled_design lent.old.items).modules ++ done_modules (outcome_beside «module».now found.now)) }
 {
     let Some(kept) = found else {
         return Ok(());
     };
-    match kept.built().outcome() {
-        Outcome::Done(done) => copies.push(named_copy(&module.id, done)?),
-        Outcome::Over(_) => Ok(()),
+    if let Outcome::Done(body) = kept.built().outcome() {
+        lent.push(Titled {
+            id: module.id.as_slice(),
+            body,
+        })?;
     }
+    Ok(())
 }
 
-/// Copies of the modules that the results beside modules are, each under the name of its module.
+/// The modules that the results beside modules are, each under the name of its module. None is copied.
 #[tactic(auto, using(crate::proofs::Outcomes::copies_next, crate::proofs::Outcomes::copies_end))]
-pub fn netlist_modules(
+pub fn netlist_modules<'a>(
     alloc: Global,
-    modules: &[Module],
-    found: &[Option<Kept>],
-) -> Result<Seq<Module>, Memory>
-    ensures value { IfOk result (λ copies. copies ≡ done_modules (outcomes_of modules.now found.now)) }
+    modules: &'a [Module],
+    found: &'a [Option<Kept>],
+) -> Result<Vec<Titled<'a>>, Memory>
+    ensures value { IfOk result (λ lent. (titled_design lent.items).modules ≡
+        done_modules (outcomes_of modules.now found.now)) }
 {
-    let mut copies = Seq::make(alloc);
+    let mut lent = Vec::new(alloc);
     for at in 0..modules.len().min(found.len()) {
-        push_beside(&mut copies, &modules[at], &found[at])?;
+        push_beside(&mut lent, &modules[at], &found[at])?;
     }
-    Ok(copies)
+    Ok(lent)
 }
 
 /// Writes the text of the module that the result beside a module is, under that one's name.
 fn put_beside(out: &mut Text, module: &Module, found: &Option<Kept>) -> Result<(), Memory>
-    ensures ok { OnOk result (out.new ≡ out.old ++ flat_map module_text (done_modules (outcome_beside «module».now found.now))) }
+    ensures ok { OnOk result (out.new ≡
+        out.old ++ flat_map module_text (done_modules (outcome_beside «module».now found.now))) }
 {
     let Some(kept) = found else {
         return Ok(());
     };
     match kept.built().outcome() {
-        Outcome::Done(done) => put_module(out, &named_copy(&module.id, done)?),
+        Outcome::Done(done) => put_named(out, &module.id, done),
         Outcome::Over(_) => Ok(()),
     }
-}
-
-/// Writes the text of a module.
-fn put_module(out: &mut Text, module: &Module) -> Result<(), Memory>
-    ensures ok { OnOk result (out.new ≡ out.old ++ module_text «module».now) }
-{
-    let text = module_text(out.allocator(), module)?;
-    out.extend(text.as_slice())
 }
 
 /// The text of the netlist that the results beside modules are, each under the name of its module.
@@ -154,7 +132,8 @@ pub fn netlist_text(
     modules: &[Module],
     found: &[Option<Kept>],
 ) -> Result<Text, Memory>
-    ensures value { IfOk result (λ text. text ≡ text_of (record { modules = done_modules (outcomes_of modules.now found.now) })) }
+    ensures value { IfOk result (λ text. text ≡
+        text_of (record { modules = done_modules (outcomes_of modules.now found.now) })) }
 {
     let mut out = Text::make(alloc);
     for at in 0..modules.len().min(found.len()) {

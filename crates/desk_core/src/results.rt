@@ -19,11 +19,12 @@ use result_cache::laws::shards_are_sound;
 use result_cache::{Claim, Keyed, Shard, Ticket};
 use rtl_bits::{Memory, Steps};
 use rtl_check::Checked;
-use script_core::{Key, Script, build, key_of};
+use rtl_ir::DesignPorts;
+use script_core::{Key, Script, build, key_by};
 use std::alloc::Global;
 
-/// Results under their keys, and beside each module the result of its key, once it was asked for. All calls on the shard are
-/// made by the seat 0.
+/// Results under their keys, and beside each module the result of its key, once it was asked for. All calls on the
+/// shard are made by the seat 0.
 #[derive(Drop)]
 pub struct Results {
     pub shard: Shard<Kept>,
@@ -65,7 +66,8 @@ fn fill<L>(
     ensures value { IfOk result (λ kept. IsValueOf key.now kept.outcome) }
     ensures filled { OnOk result (filled_keys shard.new ≡ with_key (key_text key.now) (filled_keys shard.old)) }
     ensures err { OnErr result (filled_keys shard.new ≡ filled_keys shard.old) }
-    ensures idle { (before : Contents Built) → HoldsNone before → AddsCall before shard.old 0 (key_text key.now) Yours → HoldsNone shard.new }
+    ensures idle { (before : Contents Built) → HoldsNone before → AddsCall before shard.old 0 (key_text key.now) Yours →
+        HoldsNone shard.new }
     ensures ticks { RisesUpTo 1 meter.old meter.new }
 {
     match build_shared(alloc, key, meter) {
@@ -95,7 +97,8 @@ fn take<L>(
     ensures is_new { IfOk result (λ taken. taken.is_new ≡ not (has_name (filled_keys shard.old) (key_text key.now))) }
     ensures filled { OnOk result (filled_keys shard.new ≡ with_key (key_text key.now) (filled_keys shard.old)) }
     ensures err { OnErr result (filled_keys shard.new ≡ filled_keys shard.old) }
-    ensures ticks { RisesUpTo (if has_name (filled_keys shard.old) (key_text key.now) then 0 else 1) meter.old meter.new }
+    ensures ticks { RisesUpTo (if has_name (filled_keys shard.old) (key_text key.now) then 0 else 1) meter.old
+        meter.new }
 {
     let text = key.text(alloc)?;
     shards_are_sound(shard);
@@ -112,28 +115,35 @@ fn take<L>(
     }
 }
 
-/// Finds the result of the module at this place. Answers whether it was built now.
+/// Finds the result of the module at this place, by the table of the design's modules. Answers whether it was built
+/// now.
 fn find_at<L>(
-    alloc: Global,
     design: &Checked,
+    table: &DesignPorts,
     script: &Script,
     at: u32,
     results: &mut Results,
     meter: &mut Steps<L>,
 ) -> Result<bool, Memory>
+    requires table { table.now.modules.now ≡ design.now.design.modules }
     requires sound { AreSound design.now.design script.now results.old }
     requires in_range { at < length design.now.design.modules }
     ensures sound { AreSound design.now.design script.now results.new }
-    ensures is_new { IfOk result (λ is_new. is_new ≡ not (has_name (filled_keys results.old.shard) (key_text_at script.now design.now.design.modules at))) }
-    ensures filled { OnOk result (filled_keys results.new.shard ≡ with_key (key_text_at script.now design.now.design.modules at) (filled_keys results.old.shard)) }
+    ensures is_new { IfOk result (λ is_new. is_new ≡
+        not (has_name (filled_keys results.old.shard) (key_text_at script.now design.now.design.modules at))) }
+    ensures filled { OnOk result (filled_keys results.new.shard ≡
+        with_key (key_text_at script.now design.now.design.modules at) (filled_keys results.old.shard)) }
     ensures found { OnOk result (IsFoundAt results.old.found.items results.new.found.items at) }
     ensures err { OnErr result (filled_keys results.new.shard ≡ filled_keys results.old.shard) }
-    ensures ticks { RisesUpTo (if has_name (filled_keys results.old.shard) (key_text_at script.now design.now.design.modules at) then 0 else 1) meter.old meter.new }
+    ensures ticks { RisesUpTo
+        (if has_name (filled_keys results.old.shard) (key_text_at script.now design.now.design.modules at) then 0 else
+        1) meter.old meter.new }
 {
     if results.found[at as usize].is_some() {
         return Ok(false);
     }
-    let key = key_of(alloc, design, at, script)?;
+    let alloc = *results.found.allocator();
+    let key = key_by(alloc, design, table, at, script)?;
     let taken = take(alloc, &mut results.shard, &key, meter)?;
     results.found[at as usize] = Some(taken.result);
     Ok(taken.is_new)
@@ -149,16 +159,21 @@ pub fn find_all<L>(
 ) -> Result<usize, Memory>
     requires sound { AreSound design.now.design script.now results.old }
     ensures sound { AreSound design.now.design script.now results.new }
-    ensures built { IfOk result (λ built. built ≡ new_count (filled_keys results.old.shard) (key_texts script.now design.now.design.modules)) }
+    ensures built { IfOk result (λ built. built ≡
+        new_count (filled_keys results.old.shard) (key_texts script.now design.now.design.modules)) }
     ensures few { IfOk result (λ built. built ≤ length design.now.design.modules) }
-    ensures filled { OnOk result (filled_keys results.new.shard ≡ with_keys (filled_keys results.old.shard) (key_texts script.now design.now.design.modules)) }
+    ensures filled { OnOk result (filled_keys results.new.shard ≡
+        with_keys (filled_keys results.old.shard) (key_texts script.now design.now.design.modules)) }
     ensures found { OnOk result (AreFound results.new) }
     ensures err { OnErr result (HasStill (filled_keys results.old.shard) (filled_keys results.new.shard)) }
-    ensures ticks { RisesUpTo (new_count (filled_keys results.old.shard) (key_texts script.now design.now.design.modules)) meter.old meter.new }
+    ensures ticks { RisesUpTo
+        (new_count (filled_keys results.old.shard) (key_texts script.now design.now.design.modules)) meter.old
+        meter.new }
 {
+    let table = DesignPorts::of(alloc, design.design())?;
     let mut built = 0;
     for at in 0..module_count(design) {
-        if find_at(alloc, design, script, at, results, meter)? {
+        if find_at(design, &table, script, at, results, meter)? {
             built += 1;
         }
     }

@@ -54,7 +54,8 @@ pub(crate) fn tell<L>(
     requires sound { AreSound design.now.design script.now results.old }
     ensures sound { AreSound design.now.design script.now results.new }
     ensures told { IfOk result (λ told. told ≡ told_of (state_of design.now.design script.now results.old)) }
-    ensures filled { OnOk result (filled_keys results.new.shard ≡ with_keys (filled_keys results.old.shard) (key_texts script.now design.now.design.modules)) }
+    ensures filled { OnOk result (filled_keys results.new.shard ≡
+        with_keys (filled_keys results.old.shard) (key_texts script.now design.now.design.modules)) }
     ensures found { OnOk result (AreFound results.new) }
     ensures err { OnErr result (HasStill (filled_keys results.old.shard) (filled_keys results.new.shard)) }
     ensures ticks { RisesUpTo (built_count (state_of design.now.design script.now results.old)) meter.old meter.new }
@@ -68,7 +69,9 @@ pub(crate) fn tell<L>(
 
 /// The reply of the netlist's text, behind a line with these words.
 fn printed(alloc: Global, design: &Checked, results: &Results, words: Text) -> Result<Reply, Memory>
-    ensures value { IfOk result (λ reply. reply ≡ printed_reply words (text_of (record { modules = done_modules (outcomes_of design.now.design.modules results.now.found.items) }))) }
+    ensures value { IfOk result (λ reply. reply ≡
+        printed_reply words
+        (text_of (record { modules = done_modules (outcomes_of design.now.design.modules results.now.found.items) }))) }
 {
     let modules = design.design().modules.as_slice();
     let text = netlist_text(alloc, modules, results.found.as_slice())?;

@@ -4,12 +4,14 @@ ghost use Rattle.std.specs.Prelude.{◌≡◌, ◌<◌, ◌^◌, ◌++◌, ℕ, 
 ghost use Rattle.rtl_ir.specs.declared.module.Module.{Module};
 ghost use Rattle.rtl_ir.specs.Faults.Recursion.{place_named};
 ghost use Rattle.rtl_ir.specs.Types.{module_named};
+ghost use Rattle.net_model.specs.Within.{Each};
 ghost use Rattle.reply_lines.specs.Lines.{counted, ok_line, ok_reply};
 ghost use Rattle.sim_trace.specs.Stimulus.{trace_text};
 ghost use Rattle.desk_core.specs.Answers.{netlist_reply, netlist_run_answer, show_answer, source_answer, source_reply};
 ghost use Rattle.desk_core.specs.Builds.{KeepsAll, RisesUpTo};
 ghost use Rattle.desk_core.specs.Netlist.{built_count, done_modules, netlist_answer, netlist_of};
 ghost use Rattle.desk_core.specs.Results.{outcomes_of};
+ghost use Rattle.desk_core.specs.Shaped.{IsShaped};
 ghost use Rattle.desk_core.specs.State.{answer};
 
 use crate::desk::Desk;
@@ -20,10 +22,9 @@ use design_edit::place_named;
 use desk_read::SimAsk;
 use reply_lines::{Reply, counted, error_reply, number_reply, put_counted, text_reply, told_reply};
 use rtl_bits::{Bits, Memory, Steps, Text};
-use rtl_check::{Checked, check};
-use rtl_ir::Design;
+use rtl_check::Checked;
 use rtl_write::module_text;
-use sim_trace::{StimulusFault, stimulus_of, trace_text};
+use sim_trace::{StimulusFault, stimulus_of, titled_trace, trace_text};
 use std::alloc::Global;
 
 impl Desk {
@@ -44,7 +45,8 @@ impl Desk {
     /// The present source of a module is run.
     #[tactic(auto, using(crate::proofs::Showing::unknown, crate::proofs::Showing::sourced, crate::proofs::Showing::bad_line))]
     pub(crate) fn run_source(&self, ask: &SimAsk) -> Result<Reply, Memory>
-        ensures ok { IfOk result (λ reply. answer reply self.now ≡ source_answer self.now ask.now.module ask.now.steps) }
+        ensures ok { IfOk result (λ reply. answer reply self.now ≡
+            source_answer self.now ask.now.module ask.now.steps) }
     {
         let modules = self.design.design().modules.as_slice();
         let Some(at) = place_named(modules, ask.module.as_slice()) else {
@@ -75,7 +77,8 @@ impl Desk {
         ask: &SimAsk,
         meter: &mut Steps<L>,
     ) -> Result<Reply, Memory>
-        ensures ok { IfOk result (λ reply. answer reply self.new ≡ netlist_run_answer self.old ask.now.module ask.now.steps) }
+        ensures ok { IfOk result (λ reply. answer reply self.new ≡
+            netlist_run_answer self.old ask.now.module ask.now.steps) }
         ensures err { OnErr result (KeepsAll self.old self.new) }
         ensures ticks { RisesUpTo (built_count self.old) meter.old meter.new }
     {
@@ -100,10 +103,14 @@ impl Desk {
     ) -> Result<Reply, Memory>
         requires in_range { at < length self.old.design.modules }
         ensures ok { (name : List ℕ) → place_named self.old.design.modules name ≡ Some at →
-            IfOk result (λ reply. answer reply self.new ≡ netlist_answer self.old (netlist_reply self.old name stimulus.now (module_named (netlist_of self.old).modules name))) }
+            IfOk result (λ reply. answer reply self.new ≡
+            netlist_answer self.old
+            (netlist_reply self.old name stimulus.now (module_named (netlist_of self.old).modules name))) }
         ensures err { OnErr result (KeepsAll self.old self.new) }
         ensures ticks { RisesUpTo (built_count self.old) meter.old meter.new }
     {
+        // The netlist comes of a script, which begins with `proc`: so it has no process.
+        let _words = self.script.as_slice();
         match tell(
             self.alloc,
             &self.design,
@@ -130,16 +137,18 @@ fn traced(
 ) -> Result<Reply, Memory>
     requires in_range { at < length (done_modules (outcomes_of design.now.design.modules results.now.found.items)) }
     requires small { length (done_modules (outcomes_of design.now.design.modules results.now.found.items)) < 2 ^ 32 }
-    ensures value { («module» : Module) → slice_get (done_modules (outcomes_of design.now.design.modules results.now.found.items)) at ≡ Some «module» →
-        IfOk result (λ reply. reply ≡ ok_reply (ok_line (words ++ counted (codes "steps") (length stimulus.now)) ++ trace_text (record { modules = done_modules (outcomes_of design.now.design.modules results.now.found.items) }) «module» stimulus.now)) }
+    requires gates { Each IsShaped (done_modules (outcomes_of design.now.design.modules results.now.found.items)) }
+    ensures value { («module» : Module) →
+        slice_get (done_modules (outcomes_of design.now.design.modules results.now.found.items)) at ≡ Some «module» →
+        IfOk result (λ reply. reply ≡ ok_reply (ok_line (words ++ counted (codes "steps") (length stimulus.now)) ++
+        trace_text (record {
+          modules =
+              done_modules (outcomes_of design.now.design.modules results.now.found.items);
+        }) «module» stimulus.now)) }
 {
     let modules = design.design().modules.as_slice();
-    let modules = netlist_modules(alloc, modules, results.found.as_slice())?;
-    // A netlist has no fault. No contract below says so yet, so it is looked at.
-    let Ok(netlist) = check(alloc, Design { modules }) else {
-        return Err(Memory);
-    };
-    let trace = trace_text(alloc, netlist.design(), at, stimulus)?;
+    let netlist = netlist_modules(alloc, modules, results.found.as_slice())?;
+    let trace = titled_trace(alloc, netlist.as_slice(), at, stimulus)?;
     let mut words = words;
     put_counted(&mut words, b"steps", stimulus.len())?;
     text_reply(alloc, words.as_slice(), trace.as_slice())

@@ -13,9 +13,12 @@ ghost use Rattle.desk_read.specs.Taking.{OpenBlock, Taken, TakesInTurn, commands
 /// by LF, and then come the commands of the lines behind it. With no such line it is `Unclosed`, and
 /// nothing comes behind it.
 pub fn blocks_are_whole()
-    ensures ended { (how : Opening) (first : List ℕ) (block lines : List (List ℕ)) → head_of first ≡ Opens how → AllByRecursion (λ line. is_end line ≡ false) block →
-        commands_of (first ∷ block ++ codes "." ∷ lines) ≡ block_command how (flat_map (λ line. line ++ 10 ∷ []) block) ∷ commands_of lines }
-    ensures unclosed { (how : Opening) (first : List ℕ) (block : List (List ℕ)) → head_of first ≡ Opens how → AllByRecursion (λ line. is_end line ≡ false) block →
+    ensures ended { (how : Opening) (first : List ℕ) (block lines : List (List ℕ)) → head_of first ≡ Opens how →
+        AllByRecursion (λ line. is_end line ≡ false) block →
+        commands_of (first ∷ block ++ codes "." ∷ lines) ≡
+        block_command how (flat_map (λ line. line ++ 10 ∷ []) block) ∷ commands_of lines }
+    ensures unclosed { (how : Opening) (first : List ℕ) (block : List (List ℕ)) → head_of first ≡ Opens how →
+        AllByRecursion (λ line. is_end line ≡ false) block →
         commands_of (first ∷ block) ≡ Unclosed ∷ [] }
 {}
 
@@ -23,5 +26,6 @@ pub fn blocks_are_whole()
 /// commands of the lines.
 pub fn answers_are_the_commands()
     ensures all { (lines : List Taken) (last : Option OpenBlock) → TakesInTurn None lines last →
-        flat_map (λ taken. option_to_list taken.answer) lines ++ commands_from last [] ≡ commands_of (map (λ taken. taken.line) lines) }
+        flat_map (λ taken. option_to_list taken.answer) lines ++ commands_from last [] ≡
+        commands_of (map (λ taken. taken.line) lines) }
 {}

@@ -1,7 +1,8 @@
 //! The operands of a cell, as they stand and as the rules mean them.
 
 ghost use Rattle.std.specs.Prelude.{◌≡◌, IfOk};
-ghost use Rattle.expr_rules.specs.Operands.{IsMeant, counted_as, counted_gate, meant_of, meant_signed, meant_width, operands_of};
+ghost use Rattle.expr_rules.specs.Operands.{IsMeant, counted_as, counted_gate, meant_of, meant_signed, meant_width};
+ghost use Rattle.expr_rules.specs.Operands.{operands_of};
 
 use cell_types::{BitwiseKind, CellKind, GateKind, Shape, UnaryKind, WordKind};
 use rtl_bits::{Bit, Memory};
@@ -15,11 +16,12 @@ pub struct Operands {
     pub a: SigSpec,
     pub b: SigSpec,
     pub s: SigSpec,
-    /// A and B as they are meant: of compares extended to the greater width of the two, of division cells to the greatest
-    /// of the three widths, else to the width of Y.
+    /// A and B as they are meant: of compares extended to the greater width of the two, of division cells to the
+    /// greatest of the three widths, else to the width of Y.
     pub left: SigSpec,
     pub right: SigSpec,
-    /// The A of an inverter of one bit whose Y is S: a `$not` or `$logic_not` with A_WIDTH and Y_WIDTH 1, or a `$_NOT_`.
+    /// The A of an inverter of one bit whose Y is S: a `$not` or `$logic_not` with A_WIDTH and Y_WIDTH 1, or a
+    /// `$_NOT_`.
     pub inverted: Option<SigBit>,
     /// The A of another `$not` or `$_NOT_` whose whole Y is A, as it stands in that cell now.
     pub inner: Option<SigSpec>,

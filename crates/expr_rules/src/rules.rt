@@ -13,7 +13,8 @@ mod wiring;
 ghost use Rattle.std.specs.Prelude.{◌≡◌, IfOk, None, Some};
 ghost use Rattle.expr_rules.specs.Laws.{IsComputed, Refines};
 ghost use Rattle.expr_rules.specs.Operands.{IsMeant, counted_as};
-ghost use Rattle.expr_rules.specs.Rules.{change_of, first_of, result_as, result_by, result_of, result_of_gate, rules_in_order};
+ghost use Rattle.expr_rules.specs.Rules.{change_of, first_of, result_as, result_by, result_of, result_of_gate};
+ghost use Rattle.expr_rules.specs.Rules.{rules_in_order};
 ghost use Rattle.expr_rules.specs.declared.change.Change.{Change};
 
 use crate::change::Change;

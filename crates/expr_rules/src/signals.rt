@@ -4,7 +4,8 @@ ghost use Rattle.std.specs.Prelude.{◌≡◌, ◌<◌, ◌^◌, ◌++◌, IfOk,
 ghost use Rattle.rtl_bits.specs.declared.bit.Bit.TheVariants.{X};
 ghost use Rattle.std.specs.List.{list_all};
 ghost use Rattle.rtl_sig.specs.declared.sig.SigBit.TheVariants.{Fixed};
-ghost use Rattle.expr_rules.specs.Signals.{code_of, filled, first_bit, is_bit, is_known_constant, is_one, is_unknown_constant, is_zero, part_of, same, same_word};
+ghost use Rattle.expr_rules.specs.Signals.{code_of, filled, first_bit, is_bit, is_known_constant, is_one};
+ghost use Rattle.expr_rules.specs.Signals.{is_unknown_constant, is_zero, part_of, same, same_word};
 
 use rtl_bits::{Bit, Copied, Memory};
 use rtl_sig::{SigBit, SigSpec};
@@ -104,8 +105,8 @@ fn same(a: SigBit, b: SigBit) -> bool
     }
 }
 
-/// Whether two words are one, place by place: of one length, and at each place one constant, where x and z differ, or one
-/// bit of a wire.
+/// Whether two words are one, place by place: of one length, and at each place one constant, where x and z differ, or
+/// one bit of a wire.
 #[tactic(auto, using(crate::proofs::Sameness::other_length))]
 pub fn same_word(a: &[SigBit], b: &[SigBit]) -> bool
     ensures value { result ≡ same_word a.now b.now }

@@ -24,3 +24,4 @@ pub mod Lining
 pub mod Fetching
 pub mod Ending
 pub mod Others
+pub mod Titling

@@ -1,5 +1,5 @@
 -- The rows of a module with its instances, one module after another.
-use Rattle.std.proofs.Common.{◌≡◌, ℕ, suc, ◌-◌, ◌<◌, ◌≤◌, Bool, true, false, List, [], ◌∷◌, ◌++◌, length, get_or, drop, Option, Some, None, slice_get, is_some, refl, sym, ◌∙◌, ap, subst, arith, append_assoc, true≢false}
+use Rattle.std.proofs.Common.{◌≡◌, ℕ, zero, suc, ◌-◌, ◌<◌, ◌≤◌, Bool, true, false, List, [], ◌∷◌, ◌++◌, length, get_or, drop, Option, Some, None, slice_get, is_some, refl, sym, ◌∙◌, ap, subst, arith, append_assoc, true≢false}
 use Rattle.std.proofs.lemmas.List.{append-nil}
 use Rattle.std.proofs.lemmas.Option.{slice_get_within, slice_get-get_or, get_or_from_slice_get}
 use Rattle.cell_types.specs.declared.kind.CellKind.{CellKind}
@@ -7,7 +7,7 @@ use Rattle.cell_types.specs.Kind.{kind_of}
 use Rattle.rtl_ir.specs.declared.cell.Cell.{Cell}
 use Rattle.rtl_ir.specs.declared.module.Design.{Design}
 use Rattle.rtl_ir.specs.declared.module.Module.{Module}
-use Rattle.rtl_ir.specs.Flat.Cell.{cell_kind, instance_of, instances, listed}
+use Rattle.rtl_ir.specs.Flat.Cell.{Ports, cell_kind, instance_of, instances, listed}
 use Rattle.rtl_ir.specs.Flat.Driver.{Driven}
 use Rattle.rtl_ir.specs.Flat.Place.{Frame, Path, frame}
 use Rattle.rtl_ir.specs.Flat.Tree.{design_ports, in_instances, in_module, in_tree, named}
@@ -69,6 +69,11 @@ pathed-behind : (ps : List Path) (vs ws : List Visit) → ArePathed ps (vs ++ ws
 pathed-behind ps [] ws h = h
 pathed-behind ps (v ∷ vs) ws h = pathed-behind ps vs ws h.1
 
+-- a module gives the rows of another that has its rows and its cells
+pub tree_like : (d : Design) (n : ℕ) (p : Path) (a b : Module) → ((ports : Ports) (q : Path) → rows_of ports q a ≡ rows_of ports q b) → a.cells ≡ b.cells → in_tree d (rows_of (design_ports d)) n p a ≡ in_tree d (rows_of (design_ports d)) n p b
+tree_like d zero p a b rows cells = refl
+tree_like d (suc n) p a b rows cells = λ i. rows (design_ports d) p i ++ in_instances d (in_tree d (rows_of (design_ports d)) n) p (instances (cells i))
+
 -- what a cell opens
 
 pub Opens-none : (d : Design) (paths : List Path) (old : List Visit) (below : ℕ) (p : Path) (cells : List Cell) → [] ≡ in_instances d (in_tree d (rows_of (design_ports d)) below) p (instances cells) → Opens d paths old old below p cells
@@ -127,7 +132,7 @@ module _ (d : Design) (paths : List Path) (old : List Visit) (below : ℕ) (p : 
 
       by : (m : Option Module) → Stands (Some entry) m → in_module (in_tree d (rows_of (design_ports d)) below) (frame c.name c.kind_name ∷ p) m ≡ in_tree d (rows_of (design_ports d)) below (frame c.name c.kind_name ∷ p) entry.body.now
       by None s = absurd s
-      by (Some m) s = ap (in_tree d (rows_of (design_ports d)) below (frame c.name c.kind_name ∷ p)) (sym s.body)
+      by (Some m) s = sym (tree_like d below (frame c.name c.kind_name ∷ p) entry.body.now m s.rows s.cells)
 
 -- the cells, from the last one on
 

@@ -23,3 +23,4 @@ pub mod Tables
 pub mod Visits
 pub mod Ends
 pub mod Net
+pub mod Titled

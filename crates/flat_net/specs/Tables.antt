@@ -7,6 +7,9 @@ use Rattle.std.specs.declared.hash.BuildHasherDefault.{BuildHasherDefault}
 use Rattle.std.proofs.Common.{Bor}
 use Rattle.rtl_ir.specs.declared.module.Module.{Module}
 use Rattle.rtl_ir.specs.declared.wire.Wire.{Wire}
+use Rattle.rtl_ir.specs.Flat.Cell.{Ports}
+use Rattle.rtl_ir.specs.Flat.Place.{Path}
+use Rattle.rtl_ir.specs.Flat.Rows.{rows_of}
 use Rattle.rtl_ir.specs.Flat.Tree.{named}
 use Rattle.rtl_ir.specs.Ports.{is_port, in_number_order}
 use Rattle.flat_net.specs.declared.modules.Entry.{Entry}
@@ -28,9 +31,10 @@ ports_in wires = in_number_order (filter (λ w. is_port w.role) wires)
 abbrev pub all_now : List (Bor Wire) → List Wire
 all_now wires = map (λ (w : Bor Wire). w.now) wires
 
--- an entry is a module with its ports in order of their numbers
+-- an entry is a module, which may stand under another name, with its ports in order of their numbers
 pub record IsEntry (e : Entry) (m : Module) : Type 0 where
-  pub body : e.body.now ≡ m
+  pub rows : (ports : Ports) (p : Path) → rows_of ports p e.body.now ≡ rows_of ports p m
+  pub cells : e.body.now.cells ≡ m.cells
   pub ports : all_now e.ports.items ≡ ports_in m.wires
 
 -- an entry stands for a module that may be there

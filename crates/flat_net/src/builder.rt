@@ -38,22 +38,25 @@ impl Builder {
         }
     }
 
-    /// The module that is run with all its instances, so many levels deep. Answers the numbers of its output bits.
+    /// The module that is run under this name with all its instances, so many levels deep. Answers the numbers of its
+    /// output bits.
     pub(crate) fn add_all<'a>(
         &mut self,
         alloc: Global,
         table: &Table<'a>,
+        id: &[u8],
         body: &'a Module,
         below: usize,
     ) -> Result<Seq<u32>, Memory>
         requires outside { slice_get self.old.places.paths 0 ≡ Some [] }
         ensures rows { (d : Design) → IsTable table.now d.modules →
             IfOk result (λ _. Adds self.old self.new
-            (given_rows (places (role_points Input (root body.now) (ports_of body.now.wires))) 0 ++ in_tree d
-            (rows_of (design_ports d)) (suc below) (root body.now) body.now)) }
-        ensures outputs { IfOk result (λ outputs. AreNumbers self.new.places.places outputs (output_places body.now)) }
+            (given_rows (places (role_points Input (root (record body.now { id = id.now })) (ports_of body.now.wires))) 0 ++ in_tree d
+            (rows_of (design_ports d)) (suc below) (root (record body.now { id = id.now })) body.now)) }
+        ensures outputs { IfOk result (λ outputs.
+            AreNumbers self.new.places.places outputs (output_places (record body.now { id = id.now }))) }
     {
-        let ends = self.places.ends(alloc, body)?;
+        let ends = self.places.ends(alloc, id, body)?;
         self.give(ends.inputs.as_slice())?;
         self.add_tree(alloc, table, body, ends.root, below)?;
         Ok(ends.outputs)

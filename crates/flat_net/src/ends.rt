@@ -18,15 +18,15 @@ pub(crate) struct Ends {
 }
 
 impl Places {
-    /// The inputs and outputs of the module that is run.
-    pub(crate) fn ends(&mut self, alloc: Global, body: &Module) -> Result<Ends, Memory>
+    /// The inputs and outputs of the module that is run, under this name.
+    pub(crate) fn ends(&mut self, alloc: Global, id: &[u8], body: &Module) -> Result<Ends, Memory>
         requires outside { slice_get self.old.paths 0 ≡ Some [] }
         ensures grows { OnOk result (Extends self.old self.new) }
-        ensures value { IfOk result (λ ends. IsEnds self.new ends body.now) }
+        ensures value { IfOk result (λ ends. IsEnds self.new ends (record body.now { id = id.now })) }
     {
         let found = port_wires(alloc, body.wires.as_slice())?;
         let ports = found.as_slice();
-        let root = self.enter(0, &[], body.id.as_slice())?;
+        let root = self.enter(0, &[], id)?;
         let inputs = self.role_numbers(alloc, root, ports, Role::Input)?;
         let outputs = self.role_numbers(alloc, root, ports, Role::Output)?;
         Ok(Ends {

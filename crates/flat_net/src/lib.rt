@@ -30,13 +30,15 @@ mod signals;
 mod sources;
 mod starts;
 mod stores;
+mod titled;
 mod tree;
 mod tree_bits;
 mod trees;
 mod words;
 
 pub use choices::{Assign, Branch, Choice, Tree};
-pub use flat::flatten;
+pub use flat::{flatten, flatten_titled};
 pub use leaves::{Held, HeldBit, Raced, Source};
 pub use memory::{Fetched, ReadPort, Remembered, WordBit, WritePort};
 pub use net::{Join, Logic, Net, Output, Part, Point, Storage, StoreBit, StorePins};
+pub use titled::Titled;

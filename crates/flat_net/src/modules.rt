@@ -4,7 +4,9 @@ ghost use Rattle.std.specs.Prelude.{◌≡◌, List, IfOk, option_map};
 ghost use Rattle.rtl_ir.specs.declared.module.Module.{Module};
 ghost use Rattle.rtl_ir.specs.Flat.Tree.{named};
 ghost use Rattle.flat_net.specs.Tables.{IsTable, Stands};
+ghost use Rattle.flat_net.specs.Titled.{HaveNoProcess, titled_design};
 
+use crate::titled::Titled;
 use rtl_bits::Memory;
 use rtl_ir::{Module, Wire, port_wires};
 use std::alloc::Global;
@@ -33,6 +35,21 @@ impl<'a> Table<'a> {
             let body = &modules[at];
             let ports = port_wires(alloc, body.wires.as_slice())?;
             found.insert(body.id.as_slice(), Entry { body, ports })?;
+        }
+        Ok(Table { modules: found })
+    }
+
+    /// The modules by the names under which they are lent. Of two of one name the first counts.
+    pub(crate) fn of_titled(alloc: Global, modules: &[Titled<'a>]) -> Result<Table<'a>, Memory>
+        requires plain { HaveNoProcess modules.now }
+        ensures value { IfOk result (λ table. IsTable table (titled_design modules.now).modules) }
+    {
+        let mut found = HashMap::new(alloc);
+        for at in (0..modules.len()).rev() {
+            let titled = &modules[at];
+            let body = titled.body;
+            let ports = port_wires(alloc, body.wires.as_slice())?;
+            found.insert(titled.id, Entry { body, ports })?;
         }
         Ok(Table { modules: found })
     }

@@ -10,5 +10,6 @@ ghost use Rattle.fsm_laws.specs.Codes.{OneHot, apart};
 /// operands have one bit that is 1 where all others are 0, so has the choice.
 pub fn choices_keep_codes()
     ensures apart { (a b s e : Bit) → Below (apart (mux_of a b s) e) (mux_of (apart a e) (apart b e) s) }
-    ensures hot { (count : ℕ) (u v : ℕ → Bit) (s : Bit) → OneHot count u → OneHot count v → OneHot count (λ i. mux_of (u i) (v i) s) }
+    ensures hot { (count : ℕ) (u v : ℕ → Bit) (s : Bit) → OneHot count u → OneHot count v →
+        OneHot count (λ i. mux_of (u i) (v i) s) }
 {}

@@ -18,8 +18,8 @@ use rtl_ir::{Machine, Module};
 
 /// Where a module may be given to a pass, and the fresh names of a machine of it are numbers of up to nine digits, the
 /// module in which the machine has its code has the same name, ports, instances, memories and processes, no bit gets a
-/// second driver, in whatever design it stands, and it may be given to the next pass, and to this one again. Its memories
-/// have names of their own as before.
+/// second driver, in whatever design it stands, and it may be given to the next pass, and to this one again. Its
+/// memories have names of their own as before.
 pub fn recoded_fits()
     ensures same_id { (ports : Ports) (m : Module) (at : ℕ) (machine : Machine) →
         IsReady ports m → machine_of ports m at ≡ Some machine → IsShort m machine →

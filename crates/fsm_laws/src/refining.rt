@@ -21,7 +21,8 @@ use rtl_ir::{Cell, Link, Machine, Module, PortTable, Wire};
 /// Where a module without processes has what is asked of it, part by part, the module with fresh wires, cells in the
 /// place of its own and further connections loses no known output bit.
 pub fn recodes_refine()
-    ensures refines { (n : Module) (fresh : List Wire) (cells : List Cell) (more : List Link) (width : ℕ) (states : List (List Bit)) (outputs : List Output) (code : ℕ) (over : flat.Ports) →
+    ensures refines { (n : Module) (fresh : List Wire) (cells : List Cell) (more : List Link) (width : ℕ)
+        (states : List (List Bit)) (outputs : List Output) (code : ℕ) (over : flat.Ports) →
         n.processes ≡ [] → IsWithin n → Recodes n fresh cells more width states outputs code over →
         RefinesOver n (record n { wires = n.wires ++ fresh; cells = cells; links = n.links ++ more }) over }
 {}
@@ -29,7 +30,8 @@ pub fn recodes_refine()
 /// A recoded module is the one with fresh wires behind its own, with what stands for each cell in the cell's place,
 /// and with the connections that come for its cells behind its own.
 pub fn recoded_by_parts()
-    ensures parts { (m : Module) (machine : Machine) (state : List SigBit) → recoded m machine state ≡ recoded_with m machine state }
+    ensures parts { (m : Module) (machine : Machine) (state : List SigBit) →
+        recoded m machine state ≡ recoded_with m machine state }
 {}
 
 /// Where a module may be given to a pass and drives no bit past the end of a wire, the module in which a machine of it

@@ -15,7 +15,8 @@ ghost use Rattle.opt_rounds.specs.Rounds.{opt_of};
 ghost use Rattle.tech_map.specs.Gates.{HasGatesAlone};
 ghost use Rattle.gate_laws.specs.Instances.{HaveSameInstances};
 
-/// A module of gates and instances alone stays one: `opt_expr` makes gates of gates, and the other passes make no cells.
+/// A module of gates and instances alone stays one: `opt_expr` makes gates of gates, and the other passes make no
+/// cells.
 pub fn gates_stay_gates()
     ensures expr { (ports : Ports) (m : Module) → HasGatesAlone m → HasGatesAlone (expr_of ports m) }
     ensures merge { (m : Module) → HasGatesAlone m → HasGatesAlone (merge_of m) }
@@ -26,6 +27,7 @@ pub fn gates_stay_gates()
 /// Where the modules of a second design have in turn the names and instances of a design without faults, and
 /// gates and instances alone, it is a netlist of gates: each instance is one of a module of the design.
 pub fn gates_make_a_netlist()
-    ensures netlist { (scope : Scope) (d n : Design) → faults_within scope d.modules ≡ [] → HaveSameInstances d.modules n.modules →
+    ensures netlist { (scope : Scope) (d n : Design) → faults_within scope d.modules ≡ [] →
+        HaveSameInstances d.modules n.modules →
         Each HasGatesAlone n.modules → is_gate_netlist n ≡ true }
 {}

@@ -36,8 +36,10 @@ pub(crate) fn chosen(
     selects: &[SigBit],
     builder: &mut Builder,
 ) -> Result<SigSpec, PassFault>
-    ensures exact { IfOk result (λ word. (word, builder.new) ≡ chosen_of (length a.now) a.now b.now selects.now builder.old) }
-    ensures over { result ≡ Err PassFault.Over → PassesLimit (chosen_of (length a.now) a.now b.now selects.now builder.old).1 }
+    ensures exact { IfOk result (λ word. (word, builder.new) ≡
+        chosen_of (length a.now) a.now b.now selects.now builder.old) }
+    ensures over { result ≡ Err PassFault.Over →
+        PassesLimit (chosen_of (length a.now) a.now b.now selects.now builder.old).1 }
     ensures within { IsInLimits builder.old → OnOk result (IsInLimits builder.new) }
 {
     let width = a.len();

@@ -2,7 +2,8 @@
 
 ghost use Rattle.std.specs.Prelude.{◌≡◌, Err, IfOk, OnOk};
 ghost use Rattle.net_index.specs.Builder.{IsInLimits, PassesLimit};
-ghost use Rattle.map_gates.specs.Folds.{different_of, equal_of, equality_of, fold_inverted, folded_of, joining, logic_of};
+ghost use Rattle.map_gates.specs.Folds.{different_of, equal_of, equality_of, fold_inverted, folded_of, joining};
+ghost use Rattle.map_gates.specs.Folds.{logic_of};
 
 use cell_types::{BitwiseKind, EqualKind, FoldKind, LogicKind};
 use gate_nets::{Gate, add_gate, bitwise, fold};

@@ -43,7 +43,8 @@ pub fn expand(
     ensures over { result ≡ Err PassFault.Over → PassesLimit (map_of shape.now cell.now builder.old) }
     ensures within { IsInLimits builder.old → OnOk result (IsInLimits builder.new) }
     ensures expansion { OnOk result (IsShapeOf cell.now shape.now → is_mapped shape.now.kind ≡ true →
-        IsWhole (length builder.old.body.wires) shape.now.kind cell.now → IsExpansion builder.old builder.new cell.now) }
+        IsWhole (length builder.old.body.wires) shape.now.kind cell.now →
+        IsExpansion builder.old builder.new cell.now) }
     ensures refines { OnOk result (IsShapeOf cell.now shape.now → is_mapped shape.now.kind ≡ true →
         (ports : Ports) (start : SigBit → Bit) (wires : List Wire) →
         StandsWith ports start wires cell.now (cells_added builder.old builder.new) (links_added builder.old builder.new)) }
@@ -97,8 +98,10 @@ fn give_value(
     shape: &Shape,
     builder: &mut Builder,
 ) -> Result<(), PassFault>
-    ensures exact { OnOk result (builder.new ≡ given (pin_signal cell.now Y) (value_of kind shape.now cell.now) builder.old) }
-    ensures over { result ≡ Err PassFault.Over → PassesLimit (given (pin_signal cell.now Y) (value_of kind shape.now cell.now) builder.old) }
+    ensures exact { OnOk result (builder.new ≡
+        given (pin_signal cell.now Y) (value_of kind shape.now cell.now) builder.old) }
+    ensures over { result ≡ Err PassFault.Over →
+        PassesLimit (given (pin_signal cell.now Y) (value_of kind shape.now cell.now) builder.old) }
     ensures within { IsInLimits builder.old → OnOk result (IsInLimits builder.new) }
 {
     let bits = value(alloc, kind, cell, shape, builder)?;

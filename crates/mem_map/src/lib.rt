@@ -28,11 +28,12 @@ use rtl_bits::Copied;
 use rtl_ir::{MemPlan, Module, Store};
 use std::alloc::Global;
 
-/// The module in which this memory is expanded by its plan, which is gathered from the module: each word becomes
-/// a register with a chain of multiplexers, one for each write port that reaches it, and each read port a tree
-/// of multiplexers; without write ports the words are constants. The memory and its cells go. Where the module may
-/// be given to a pass, so may the answer, its next memory may be expanded, and no known output bit is lost. `Over`
-/// comes where the module after the memory would pass a limit on cells, on bits of wires or on fresh names. After an error the module is given up. In the Yosys manual, the command `memory_map`.
+/// The module in which this memory is expanded by its plan, which is gathered from the module: each word becomes a
+/// register with a chain of multiplexers, one for each write port that reaches it, and each read port a tree of
+/// multiplexers; without write ports the words are constants. The memory and its cells go. Where the module may be
+/// given to a pass, so may the answer, its next memory may be expanded, and no known output bit is lost. `Over` comes
+/// where the module after the memory would pass a limit on cells, on bits of wires or on fresh names. After an error
+/// the module is given up. In the Yosys manual, the command `memory_map`.
 pub fn expand(alloc: Global, module: Module, plan: &MemPlan) -> Result<Module, PassFault>
     requires in_range { plan.now.store < length «module».memories }
     ensures exact { IfOk result (λ after. after ≡ expanded_memory «module» plan.now (planned_store «module» plan.now)) }
@@ -94,8 +95,10 @@ fn words_made(
     store: &Store,
     builder: &mut Builder,
 ) -> Result<Words, PassFault>
-    ensures exact { IfOk result (λ words. (words_of words, builder.new) ≡ words_made plan.now (nat_abs store.now.offset) builder.old) }
-    ensures over { result ≡ Err PassFault.Over → PassesLimit (words_made plan.now (nat_abs store.now.offset) builder.old).1 }
+    ensures exact { IfOk result (λ words. (words_of words, builder.new) ≡
+        words_made plan.now (nat_abs store.now.offset) builder.old) }
+    ensures over { result ≡ Err PassFault.Over →
+        PassesLimit (words_made plan.now (nat_abs store.now.offset) builder.old).1 }
     ensures within { IsInLimits builder.old → OnOk result (IsInLimits builder.new) }
 {
     let first = store.offset.unsigned_abs();

@@ -19,9 +19,9 @@ use rtl_ir::{Module, PortTable};
 use std::alloc::Global;
 
 /// The module in which all memories are words: in the order of the list each one is gathered from its cells and
-/// expanded. No memory is left, and no cell of one. `Over` comes where the module after one of
-/// the memories would pass a limit on cells, on bits of wires or on fresh names: its own cells count no more. In the Yosys manual,
-/// the commands `memory_collect` and `memory_map`.
+/// expanded. No memory is left, and no cell of one. `Over` comes where the module after one of the memories would pass
+/// a limit on cells, on bits of wires or on fresh names: its own cells count no more. In the Yosys manual, the commands
+/// `memory_collect` and `memory_map`.
 pub fn apply(alloc: Global, module: Module, ports: &PortTable) -> Result<Module, PassFault>
     requires ready { IsReady (table_ports ports.now.modules) «module» }
     requires named { HaveOwnNames «module» }

@@ -69,8 +69,8 @@ impl<'a> Memories<'a> {
         }
     }
 
-    /// Whether a cell that names this memory names none of the module, or is a fault of it, behind the cells so far. If it
-    /// is none, it counts among them.
+    /// Whether a cell that names this memory names none of the module, or is a fault of it, behind the cells so far. If
+    /// it is none, it counts among them.
     fn is_bad_in(
         &mut self,
         alloc: Global,
@@ -111,8 +111,8 @@ impl<'a> Memories<'a> {
         Ok(false)
     }
 
-    /// Whether a line of the rule names no memory of the module, or is a fault of it, behind the lines so far. If there is
-    /// none, they count among them.
+    /// Whether a line of the rule names no memory of the module, or is a fault of it, behind the lines so far. If there
+    /// is none, they count among them.
     fn has_bad_in(&mut self, alloc: Global, rule: &'a SyncRule) -> Result<bool, Memory>
         ensures bad { IfOk result (λ bad. (m : Module) (before : List EventLine) → KnowsLines self.old m before →
             bad ≡ lines.has_bad_line true m before (rule_lines rule.now)) }

@@ -53,8 +53,8 @@ impl Builder {
         Ok(Builder::numbered_from(alloc, next, module))
     }
 
-    /// The module, to which nothing is added yet, where fresh names go on from this number: that of a module of which this
-    /// one is a part, say. It takes no memory.
+    /// The module, to which nothing is added yet, where fresh names go on from this number: that of a module of which
+    /// this one is a part, say. It takes no memory.
     pub fn numbered_from(alloc: Global, next: u32, module: Module) -> Builder
         requires in_range { next ≤ 1000000000 }
         ensures value { result ≡ building_from next «module» }

@@ -12,7 +12,8 @@ ghost use Rattle.net_model.specs.Settle.{Pointwise, applied};
 ghost use Rattle.net_model.specs.Run.{Time, TimeBelow, rows_at, settle};
 ghost use Rattle.net_model.specs.Valuation.{Valuation};
 ghost use Rattle.net_model.specs.Value.{value_of, meanings};
-ghost use Rattle.net_model.specs.Refine.{Refines, RefinesIn, RowsRefine, EachRefines, IsWellDriven, AreWellDriven, HasOneDriver};
+ghost use Rattle.net_model.specs.Refine.{Refines, RefinesIn, RowsRefine, EachRefines, IsWellDriven, AreWellDriven};
+ghost use Rattle.net_model.specs.Refine.{HasOneDriver};
 ghost use Rattle.net_model.specs.Within.{IsWithin, AreInner, with_wires};
 
 use rtl_ir::{Design, Module, PortTable, Wire};

@@ -7,8 +7,10 @@ ghost use Rattle.rtl_ir.specs.Flat.Cell.{cell_shape};
 ghost use Rattle.rtl_ir.specs.Flat.Start.{start_of};
 ghost use Rattle.rtl_ir.specs.Follow.{follow};
 ghost use Rattle.net_alias.specs.Aliases.{IsAliases};
-ghost use Rattle.opt_merge.specs.Traits.{bit_number, inputs_of, level_number, output_of, plain_numbers, shape_numbers, starts_of, traits_of};
-ghost use Rattle.opt_merge.specs.Rows.{bits_numbers, inits_of, lists_numbers, place_numbers, row_of, signal_numbers, signals_numbers, sized};
+ghost use Rattle.opt_merge.specs.Traits.{bit_number, inputs_of, level_number, output_of, plain_numbers, shape_numbers};
+ghost use Rattle.opt_merge.specs.Traits.{starts_of, traits_of};
+ghost use Rattle.opt_merge.specs.Rows.{bits_numbers, inits_of, lists_numbers, place_numbers, row_of, signal_numbers};
+ghost use Rattle.opt_merge.specs.Rows.{signals_numbers, sized};
 ghost use Rattle.opt_merge.specs.View.{IsView, StaysView};
 
 use crate::attributes::start;

@@ -84,23 +84,22 @@ module _ (name : PinName) (bits : List SigBit) where
           pick false later = later
 
   -- what stands at the pin, if it is there
-  pub own_pin : (ps : List Pin) → (signal_at (with_signal name bits ps) (pin_text name) ≡ bits) ⊎ (signal_at ps (pin_text name) ≡ [])
-  own_pin [] = inr refl
+  pub own_pin : (ps : List Pin) → (signal_at (with_signal name bits ps) (pin_text name) ≡ bits) ⊎ ((signal_at ps (pin_text name) ≡ []) × (signal_at (with_signal name bits ps) (pin_text name) ≡ []))
+  own_pin [] = inr (refl, refl)
   own_pin (p ∷ ps) = by (bytes_eq p.name (pin_text name)) refl (own_pin ps)
     where
       self : bytes_eq (pin_text name) (pin_text name) ≡ true
       self = (bytes_eq-Decides (pin_text name) (pin_text name)).1 refl
 
-      by : (t : Bool) → bytes_eq p.name (pin_text name) ≡ t → (signal_at (with_signal name bits ps) (pin_text name) ≡ bits) ⊎ (signal_at ps (pin_text name) ≡ [])
-          → (option_map_or (λ (r : Pin). r.sig) (cond (bytes_eq (if t then record { name = pin_text name; sig = bits } else p).name (pin_text name)) (Some (if t then record { name = pin_text name; sig = bits } else p)) (find (λ (r : Pin). bytes_eq r.name (pin_text name)) (with_signal name bits ps))) [] ≡ bits)
-          ⊎ (option_map_or (λ (r : Pin). r.sig) (cond t (Some p) (find (λ (r : Pin). bytes_eq r.name (pin_text name)) ps)) [] ≡ [])
-      by true e later =
-          inl (ap (λ z. option_map_or (λ (r : Pin). r.sig) (cond z (Some (record { name = pin_text name; sig = bits })) (find (λ (r : Pin). bytes_eq r.name (pin_text name)) (with_signal name bits ps))) []) self)
-      by false e later =
-          ⊎_elim
-          (λ l. inl (ap (λ z. option_map_or (λ (r : Pin). r.sig) (cond z (Some p) (find (λ (r : Pin). bytes_eq r.name (pin_text name)) (with_signal name bits ps))) []) e ∙ l))
-          (λ r. inr r)
-          later
+      after : Bool → Bool → List SigBit
+      after t u =
+          option_map_or (λ (r : Pin). r.sig) (cond u (Some (if t then record { name = pin_text name; sig = bits } else p)) (find (λ (r : Pin). bytes_eq r.name (pin_text name)) (with_signal name bits ps))) []
+
+      by : (t : Bool) → bytes_eq p.name (pin_text name) ≡ t → (signal_at (with_signal name bits ps) (pin_text name) ≡ bits) ⊎ ((signal_at ps (pin_text name) ≡ []) × (signal_at (with_signal name bits ps) (pin_text name) ≡ []))
+          → (after t (bytes_eq (if t then record { name = pin_text name; sig = bits } else p).name (pin_text name)) ≡ bits)
+          ⊎ ((option_map_or (λ (r : Pin). r.sig) (cond t (Some p) (find (λ (r : Pin). bytes_eq r.name (pin_text name)) ps)) [] ≡ []) × (after t (bytes_eq (if t then record { name = pin_text name; sig = bits } else p).name (pin_text name)) ≡ []))
+      by true e later = inl (ap (after true) self)
+      by false e later = ⊎_elim (λ l. inl (ap (after false) e ∙ l)) (λ r. inr (r.0, ap (after false) e ∙ r.1)) later
 
   -- a pin that is not driven may have any signal
   pub no_constant : (type : CellType) → drives_pin type (pin_text name) ≡ false → (ps : List Pin) → has_constant_output type ps ≡ false → has_constant_output type (with_signal name bits ps) ≡ false

@@ -175,7 +175,7 @@ module _ (own : FoldKind) (c : Cell) (a : List SigBit) (fit : misfit (Word (Fold
   inputs_are =
       ⊎_elim (λ l. l)
       (λ r.
-      let none : number_in (given_params c.params) AWidth ≡ 0 = sym wide_a ∙ ap length r in
+      let none : number_in (given_params c.params) AWidth ≡ 0 = sym wide_a ∙ ap length r.0 in
       let positive : nat_lt 0 (number_in (given_params c.params) AWidth) ≡ true = (and_parts _ _ a_reads).1 in
       absurd (true≢false (sym positive ∙ ap (nat_lt 0) none)))
       (own_pin A a c.pins)

@@ -29,7 +29,7 @@ dropped (x ∷ xs) (suc at) d lt =
     let e : suc at + 1 ≡ suc (at + 1) = omega arith in
     dropped xs at d (omega arith) ∙ ap (λ z. slice_index_or xs at d ∷ drop z (x ∷ xs)) (sym e)
 
-none_left : {A : Type 0} (xs : List A) (at : ℕ) → length xs ≤ at → drop at xs ≡ []
+pub none_left : {A : Type 0} (xs : List A) (at : ℕ) → length xs ≤ at → drop at xs ≡ []
 none_left [] zero le = refl
 none_left [] (suc at) le = refl
 none_left (x ∷ xs) zero le = absurd (omega arith)

@@ -6,6 +6,7 @@ pub mod Fitting
 pub mod OtherCells
 pub mod FoldCells
 pub mod FoldSteps
+pub mod Stopping
 pub mod Reducing
 pub mod Sweeping
 pub mod MuxBits
@@ -15,6 +16,13 @@ pub mod Registering
 pub mod Settling
 pub mod Enabling
 pub mod MuxSteps
+pub mod Walks
+pub mod Knowing
+pub mod ArmChanges
+pub mod Learning
+pub mod ArmWays
+pub mod MuxEnds
+pub mod MuxTurns
 pub mod Muxing
 pub mod MuxSweeping
 pub mod DffSweeping

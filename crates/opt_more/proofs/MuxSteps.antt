@@ -25,7 +25,7 @@ use Rattle.net_model.proofs.Members.{In-right}
 use Rattle.net_model.specs.Lists.{In}
 use Rattle.pass_laws.proofs.SamePlaces.{signal_is}
 use Rattle.opt_expr.specs.Places.{place_of}
-use Rattle.opt_more.specs.Muxtree.{arm_of, gives_as, is_mux, muxed, muxed_arms, now_at, standing_now, walked, with_arm}
+use Rattle.opt_more.specs.Muxtree.{arm_of, chooses_as, gives_as, is_mux, muxed, muxed_arms, now_at, standing_now, walked, with_arm}
 
 -- where connections lead to, none leads on from
 no_way_on : (js : List Join) (n : ℕ) (s r : SigBit) → end_within js n s ≡ Some r → back js r ≡ None
@@ -93,14 +93,14 @@ module _ (arm : PinName) (links : List Link) (done : List (Option Cell)) (c : Ce
       by : (t : Bool) → gives_as links c word e ≡ t → (if t then Some (map (follow links) (signal_at e.pins (pin_text arm))) else None) ≡ Some next → IsStep arm links done c rest word next
       by false f g = absurd (cc)
       by true f g =
-          let one = and_parts (bytes_eq e.kind_name c.kind_name) (same_signal (map (follow links) (signal_at e.pins (pin_text S))) (signal_at c.pins (pin_text S)) && same_signal (signal_at e.pins (pin_text Y)) word) f in
-          let two = and_parts (same_signal (map (follow links) (signal_at e.pins (pin_text S))) (signal_at c.pins (pin_text S))) (same_signal (signal_at e.pins (pin_text Y)) word) one.1 in
+          let one = and_parts (chooses_as links c e) (same_signal (signal_at e.pins (pin_text Y)) word) f in
+          let two = and_parts (bytes_eq e.kind_name c.kind_name) (same_signal (map (follow links) (signal_at e.pins (pin_text S))) (signal_at c.pins (pin_text S))) one.0 in
           record {
             cell = e;
             among = among e refl;
-            kind = same_kind e c ((bytes_eq-Decides e.kind_name c.kind_name).0 one.0);
-            select = signal_is _ _ two.0;
-            whole = signal_is _ _ two.1;
+            kind = same_kind e c ((bytes_eq-Decides e.kind_name c.kind_name).0 two.0);
+            select = signal_is _ _ two.1;
+            whole = signal_is _ _ one.1;
             leads = (let same : map (follow links) (signal_at e.pins (pin_text arm)) ≡ next = cc in same);
           }
 
@@ -119,22 +119,6 @@ module _ (arm : PinName) (links : List Link) (done : List (Option Cell)) (c : Ce
       by (Some next) e later =
           later next (step word next (step_is word next (now_at (standing_now done c rest) (place_of cells word)) (λ q f. found (place_of cells word) q f) e) h)
 
-  -- the way goes on with a step, and ends where there is none
-  pub walk_next : (cells : List Cell) (slots : List (Option Cell)) (word next : List SigBit) (left : ℕ) → arm_of arm links c word (now_at slots (place_of cells word)) ≡ Some next → walked arm cells slots links c (suc left) word ≡ walked arm cells slots links c left next
-  walk_next cells slots word next left e = ap (λ o. option_map_or (walked arm cells slots links c left) o word) e
-
-  pub walk_none : (cells : List Cell) (slots : List (Option Cell)) (word : List SigBit) (left : ℕ) → arm_of arm links c word (now_at slots (place_of cells word)) ≡ None → walked arm cells slots links c left word ≡ word
-  walk_none cells slots word zero e = refl
-  walk_none cells slots word (suc left) e = ap (λ o. option_map_or (walked arm cells slots links c left) o word) e
-
   -- as many cells as there are before it, itself and behind it
   pub slots_long : length (standing_now done c rest) ≡ (length done + 1) + length rest
   slots_long = length-append done (Some c ∷ map Some rest) ∙ omega (arith, length-map rest Some)
-
--- a multiplexer with its inputs followed, and then its arms
-pub muxed_is : (told : Bool) (ports : Ports) (cells : List Cell) (done : List (Option Cell)) (rest : List Cell) (links : List Link) (cell followed first after : Cell) → told ≡ is_mux cell → told ≡ true → followed ≡ followed_cell ports links cell → first ≡ with_arm A cells done rest links followed
-    → after ≡ with_arm B cells done rest links first → after ≡ muxed ports cells done rest links cell
-muxed_is told ports cells done rest links cell followed first after is holds f one two =
-    two
-    ∙ ap (with_arm B cells done rest links) (one ∙ ap (with_arm A cells done rest links) f)
-    ∙ ap (λ t. if t then muxed_arms cells done rest links (followed_cell ports links cell) else cell) (sym holds ∙ is)

@@ -8,27 +8,23 @@ use Rattle.cell_types.specs.declared.pin_name.PinName.TheVariants.{A, B}
 use Rattle.rtl_sig.specs.declared.sig.SigBit.{SigBit}
 use Rattle.rtl_ir.specs.Flat.Cell.{cell_kind, listed}
 use Rattle.rtl_ir.specs.Follow.{follow}
-use Rattle.rtl_ir.specs.Outputs.{drives_pin}
 use Rattle.rtl_ir.specs.Parameters.{signal_at}
 use Rattle.rtl_ir.specs.Types as types
-use Rattle.rtl_ir.specs.Types.{CellType, cell_type}
 use Rattle.rtl_ir.specs.declared.cell.Cell.{Cell}
 use Rattle.rtl_ir.specs.declared.module.Link.{Link}
 use Rattle.rtl_ir.specs.declared.module.Module.{Module}
 use Rattle.rtl_ir.specs.declared.ports.PortTable.{PortTable}
 use Rattle.follow_laws.proofs.Passing.{followed_one}
-use Rattle.follow_laws.proofs.Signals.{signal_followed}
 use Rattle.follow_laws.specs.Inputs.{followed_cell}
-use Rattle.pass_laws.proofs.Faultless.{type_is}
 use Rattle.pass_laws.proofs.Passes.{IsPass_refl, IsPass_trans}
 use Rattle.pass_laws.specs.Pass.{IsPass}
 use Rattle.pass_laws.specs.Ready.{IsReady}
 use Rattle.opt_more.specs.Changed.{with_signal}
 use Rattle.opt_more.specs.Muxtree.{arm_end, is_mux, muxed_arms, muxtree_of, muxtree_visit, standing_now, with_arm}
+use Rattle.opt_more.proofs.ArmChanges.{arm_fixed}
 use Rattle.opt_more.proofs.Changing.{other_pin}
 use Rattle.opt_more.proofs.MuxBits.{IsArm, First, Second, IsMuxCell, mux_cell}
-use Rattle.opt_more.proofs.MuxSteps.{followed_twice}
-use Rattle.opt_more.proofs.Muxing.{arm_free, arm_passes}
+use Rattle.opt_more.proofs.Muxing.{arm_passes}
 use Rattle.opt_more.proofs.Sweeping.{ArePasses, sweep_passes}
 
 -- following, and another signal at an arm, leave a multiplexer one
@@ -39,14 +35,6 @@ mux_followed ports links c = refl
 mux_rewired : (arm : PinName) (bits : List SigBit) (c : Cell) → is_mux (record c { pins = with_signal arm bits c.pins }) ≡ is_mux c
 unfolding cell_kind
 mux_rewired arm bits c = refl
-
--- an arm of a followed multiplexer follows to itself
-arm_fixed : (ports : types.Ports) (links : List Link) (c : Cell) (mux : IsMuxCell c) (arm : PinName) → IsArm arm → map (follow links) (signal_at (followed_cell ports links c).pins (pin_text arm)) ≡ signal_at (followed_cell ports links c).pins (pin_text arm)
-arm_fixed ports links c mux arm a =
-    let type : CellType = cell_type ports c.kind_name in
-    let free : drives_pin type (pin_text arm) ≡ false = ap (λ t. drives_pin t (pin_text arm)) (type_is ports c mux.own mux.kind) ∙ arm_free mux.own mux.mux arm a in
-    let own : signal_at (followed_cell ports links c).pins (pin_text arm) ≡ map (follow links) (signal_at c.pins (pin_text arm)) = signal_followed type links (pin_text arm) c.pins ∙ ap (λ t. if t then signal_at c.pins (pin_text arm) else map (follow links) (signal_at c.pins (pin_text arm))) free in
-    ap (map (follow links)) own ∙ followed_twice links (signal_at c.pins (pin_text arm)) ∙ sym own
 
 module _ (table : PortTable) (m : Module) where
   abbrev so_far : List (Option Cell) → List Cell → List Link → Module

@@ -313,7 +313,7 @@ module _ (table : PortTable) (m : Module) (ready : IsReady (types.table_ports ta
 
   arm_is : 0 < length (signal_at c.pins (pin_text arm)) → signal_at (with_arm arm cells done rest m.links c).pins (pin_text arm) ≡ arm_end arm cells (standing_now done c rest) m.links c
   arm_is some =
-      ⊎_elim (λ l. l) (λ r. absurd (empty (ap length r))) (own_pin arm (arm_end arm cells (standing_now done c rest) m.links c) c.pins)
+      ⊎_elim (λ l. l) (λ r. absurd (empty (ap length r.0))) (own_pin arm (arm_end arm cells (standing_now done c rest) m.links c) c.pins)
     where
       empty : length (signal_at c.pins (pin_text arm)) ≡ 0 → ⊥
       empty e = omega (arith, e, some)

@@ -4,6 +4,8 @@ pub mod Changed
 pub mod Reduce
 pub mod Gather
 pub mod Muxtree
+pub mod Ends
+pub mod Ways
 pub mod Starts
 pub mod Dff
 pub mod Registers

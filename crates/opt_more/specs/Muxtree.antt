@@ -44,13 +44,15 @@ abbrev pub now_at : List (Option Cell) → Option ℕ → Option Cell
 now_at slots None = None
 now_at slots (Some at) = slice_index_or slots at None
 
--- a cell gives the word and chooses as another does: it has its type, its followed select is that of the other, and its
--- whole output is the word
-abbrev pub gives_as : List Link → Cell → List SigBit → Cell → Bool
-gives_as links c word e =
+-- a cell chooses as another does: it has its type, and its followed select is that of the other
+abbrev pub chooses_as : List Link → Cell → Cell → Bool
+chooses_as links c e =
     bytes_eq e.kind_name c.kind_name
-    && (same_signal (map (follow links) (signal_at e.pins (pin_text S))) (signal_at c.pins (pin_text S))
-    && same_signal (signal_at e.pins (pin_text Y)) word)
+    && same_signal (map (follow links) (signal_at e.pins (pin_text S))) (signal_at c.pins (pin_text S))
+
+-- a cell chooses as another does, and its whole output is the word
+abbrev pub gives_as : List Link → Cell → List SigBit → Cell → Bool
+gives_as links c word e = chooses_as links c e && same_signal (signal_at e.pins (pin_text Y)) word
 
 -- what such a cell has at an arm, followed
 abbrev pub arm_of : PinName → List Link → Cell → List SigBit → Option Cell → Option (List SigBit)
@@ -58,11 +60,18 @@ arm_of arm links c word None = None
 arm_of arm links c word (Some e) =
     if gives_as links c word e then Some (map (follow links) (signal_at e.pins (pin_text arm))) else None
 
+-- the way on from a word: to the arm of the cell that gives it
+abbrev pub way_on : PinName → List Cell → List (Option Cell) → List Link → Cell → List SigBit → Option (List SigBit)
+way_on arm cells slots links c word = arm_of arm links c word (now_at slots (place_of cells word))
+
+-- from a word on as long as there is a way on, at most so many times
+abbrev pub walk_by : (List SigBit → Option (List SigBit)) → ℕ → List SigBit → List SigBit
+walk_by on zero word = word
+walk_by on (suc n) word = option_map_or (walk_by on n) (on word) word
+
 -- from a word on to the arm of the cell that gives it, as long as there is one, at most so many times
 abbrev pub walked : PinName → List Cell → List (Option Cell) → List Link → Cell → ℕ → List SigBit → List SigBit
-walked arm cells slots links c zero word = word
-walked arm cells slots links c (suc n) word =
-    option_map_or (walked arm cells slots links c n) (arm_of arm links c word (now_at slots (place_of cells word))) word
+walked arm cells slots links c n word = walk_by (way_on arm cells slots links c) n word
 
 -- what the arm of a cell leads to, at most as often as there are cells
 abbrev pub arm_end : PinName → List Cell → List (Option Cell) → List Link → Cell → List SigBit

@@ -10,7 +10,7 @@ ghost use Rattle.rtl_ir.specs.declared.module.Link.{Link};
 ghost use Rattle.net_index.specs.Types.{AreTypes};
 ghost use Rattle.net_alias.specs.Aliases.{IsAliases};
 ghost use Rattle.opt_expr.specs.Places.{ArePlaces, begins_with};
-ghost use Rattle.opt_more.specs.Gather.{AreSeen};
+ghost use Rattle.opt_more.specs.Gather.{AreAlike, AreSeen};
 ghost use Rattle.opt_more.specs.Reduce.{
   fold_of,
   folds_to,
@@ -24,7 +24,7 @@ ghost use Rattle.opt_more.specs.Reduce.{
 };
 
 use crate::changed::with_inputs;
-use crate::gather::Gathered;
+use crate::gather::{Gathered, MOST};
 use crate::inputs::followed_cell;
 use crate::others::other_of;
 use crate::places::Places;
@@ -36,9 +36,6 @@ use rtl_ir::{Cell, is_kept, same_value, signal_at};
 use rtl_sig::{SigBit, SigSpec, WireBit};
 use std::alloc::Global;
 use std::collections::VecDeque;
-
-/// The most bits that a fold may read.
-const MOST: usize = 4096;
 
 /// What comes of a cell between those that are done and the rest: a fold without a nonzero `\keep` reads what other
 /// such folds read, any other cell stays.
@@ -95,7 +92,7 @@ fn reduced_to(alloc: Global, bits: SigSpec, cell: Cell) -> Result<Cell, Memory>
     }
 }
 
-/// What a fold of these bits reads.
+/// What a fold of these bits reads, or some of it that is more than a fold may read.
 fn gathered(
     alloc: Global,
     places: &Places,
@@ -106,7 +103,7 @@ fn gathered(
     inputs: &[SigBit],
 ) -> Result<SigSpec, Memory>
     ensures value { IfOk result (λ bits. (cells : List Cell) (links : List Link) → ArePlaces places.now cells →
-        IsAliases aliases.old links → bits ≡ gathered neutral cells done.now rest.now.items links inputs.now) }
+        IsAliases aliases.old links → AreAlike bits (gathered neutral cells done.now rest.now.items links inputs.now)) }
     ensures keeps { (links : List Link) → IsAliases aliases.old links → IsAliases aliases.new links }
 {
     let mut bits = Gathered::make(alloc);
@@ -117,7 +114,7 @@ fn gathered(
     Ok(all)
 }
 
-/// Adds what stands for the bit.
+/// Adds what stands for the bit, until there are more bits than a fold may read.
 fn add_standing(
     alloc: Global,
     places: &Places,
@@ -131,10 +128,14 @@ fn add_standing(
     requires seen { AreSeen bits.old }
     ensures bits { OnOk result ((cells : List Cell) (links : List Link) → ArePlaces places.now cells →
         IsAliases aliases.old links →
-        bits.new.bits ≡ fold (with_bit neutral) bits.old.bits (standing_for neutral cells done.now rest.now.items links bit)) }
+        AreAlike bits.new.bits
+        (fold (with_bit neutral) bits.old.bits (standing_for neutral cells done.now rest.now.items links bit))) }
     ensures seen { OnOk result (AreSeen bits.new) }
     ensures keeps { (links : List Link) → IsAliases aliases.old links → IsAliases aliases.new links }
 {
+    if bits.is_over() {
+        return Ok(());
+    }
     let SigBit::Wire(wire) = bit else {
         return bits.add(neutral, bit);
     };
@@ -147,7 +148,7 @@ fn add_standing(
     }
 }
 
-/// Adds what the bits follow to.
+/// Adds what the bits follow to, until there are more bits than a fold may read.
 fn add_followed(
     aliases: &mut Aliases,
     neutral: Bit,
@@ -156,11 +157,14 @@ fn add_followed(
 ) -> Result<(), Memory>
     requires seen { AreSeen bits.old }
     ensures bits { OnOk result ((links : List Link) → IsAliases aliases.old links →
-        bits.new.bits ≡ fold (with_bit neutral) bits.old.bits (map (follow links) inputs.now)) }
+        AreAlike bits.new.bits (fold (with_bit neutral) bits.old.bits (map (follow links) inputs.now))) }
     ensures seen { OnOk result (AreSeen bits.new) }
     ensures keeps { (links : List Link) → IsAliases aliases.old links → IsAliases aliases.new links }
 {
     for bit in inputs {
+        if bits.is_over() {
+            return Ok(());
+        }
         bits.add(neutral, aliases.follow(*bit))?;
     }
     Ok(())

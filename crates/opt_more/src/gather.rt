@@ -1,6 +1,6 @@
 //! Lists in which each bit stands once.
 
-ghost use Rattle.std.specs.Prelude.{◌≡◌, ◌∷◌, ◌++◌, [], IfOk, OnOk};
+ghost use Rattle.std.specs.Prelude.{◌≡◌, ◌∷◌, ◌++◌, [], IfOk, OnOk, length, nat_lt};
 ghost use Rattle.std.specs.List.{list_any};
 ghost use Rattle.rtl_ir.specs.Signals.{same_place, same_value};
 ghost use Rattle.opt_more.specs.Gather.{AreSeen};
@@ -11,6 +11,9 @@ use rtl_ir::{same_place, same_value};
 use rtl_sig::{SigBit, SigSpec, WireBit};
 use std::alloc::Global;
 use std::collections::HashSet;
+
+/// The most bits that a fold may read.
+pub(crate) const MOST: usize = 4096;
 
 /// A list in which each bit stands once, with tables of its bits: those of wires, and the constants.
 #[derive(Drop)]
@@ -45,6 +48,13 @@ impl Gathered {
             return Ok(());
         }
         self.put(bit)
+    }
+
+    /// Whether the list is longer than a fold may read.
+    pub(crate) fn is_over(&self) -> bool
+        ensures value { result ≡ nat_lt 4096 (length self.now.bits) }
+    {
+        self.bits.as_slice().len() > MOST
     }
 
     /// Whether the bit is in the list.

@@ -1,37 +1,41 @@
 //! Multiplexers below multiplexers that choose by the same bit.
 
-ghost use Rattle.std.specs.Prelude.{◌≡◌, List, IfOk};
+ghost use Rattle.std.specs.Prelude.{◌≡◌, List, IfOk, OnOk};
 ghost use Rattle.rtl_ir.specs.Flat.Cell.{cell_kind};
 ghost use Rattle.rtl_ir.specs.Types as rtl;
 ghost use Rattle.rtl_ir.specs.declared.cell.Cell.{Cell};
 ghost use Rattle.rtl_ir.specs.declared.module.Link.{Link};
 ghost use Rattle.net_index.specs.Types.{AreTypes};
 ghost use Rattle.net_alias.specs.Aliases.{IsAliases};
-ghost use Rattle.opt_expr.specs.Places.{ArePlaces, place_of};
-ghost use Rattle.opt_more.specs.Muxtree.{
-  arm_end,
-  arm_of,
-  gives_as,
-  is_mux,
-  is_mux_kind,
-  muxed,
-  now_at,
-  standing_now,
-  with_arm,
-};
+ghost use Rattle.opt_expr.specs.Places.{ArePlaces};
+ghost use Rattle.opt_more.specs.Ends.{AreArms, AreEnds};
+ghost use Rattle.opt_more.specs.Muxtree.{arm_end, gives_as, is_mux, is_mux_kind, muxed, standing_now, with_arm};
+ghost use Rattle.opt_more.specs.Ways.{IsWay, IsWithin};
 
 use crate::changed::with_signal;
+use crate::ends::{Arm, Arms, End};
 use crate::inputs::{followed_cell, followed_signal};
 use crate::others::now_at;
 use crate::places::{Places, place_of};
 use cell_types::{CellKind, GateKind, PinName, WordKind, kind_of};
 use net_alias::Aliases;
 use net_index::Types;
-use rtl_bits::Memory;
+use rtl_bits::{Copied, Memory};
 use rtl_ir::{Cell, is_kept, pin_signal, same_signal};
 use rtl_sig::{SigBit, SigSpec};
 use std::alloc::Global;
 use std::collections::VecDeque;
+
+/// The way on from a word.
+#[derive(Drop)]
+enum Way {
+    /// None leads on, or the word leads to itself.
+    Ends,
+    /// It passes the cell at the place, to a word.
+    On(usize, SigSpec),
+    /// It passes a cell from which the way on is known.
+    Known(End),
+}
 
 /// What comes of a cell between those that are done and the rest: the arms of a multiplexer without a nonzero `\keep`
 /// pass those that choose by the same bit, any other cell stays.
@@ -39,6 +43,7 @@ pub(crate) fn muxed(
     alloc: Global,
     types: &Types,
     places: &Places,
+    arms: &mut Arms,
     aliases: &mut Aliases,
     done: &[Option<Cell>],
     rest: &VecDeque<Cell>,
@@ -46,7 +51,12 @@ pub(crate) fn muxed(
 ) -> Result<Cell, Memory>
     ensures value { IfOk result (λ after. (ports : rtl.Ports) (cells : List Cell) (links : List Link) →
         AreTypes types.now ports → ArePlaces places.now cells → IsAliases aliases.old links →
+        AreArms arms.old cells (standing_now done.now cell rest.now.items) links →
         after ≡ muxed ports cells done.now rest.now.items links cell) }
+    ensures arms { IfOk result (λ after. (ports : rtl.Ports) (cells : List Cell) (links : List Link) →
+        AreTypes types.now ports → ArePlaces places.now cells → IsAliases aliases.old links →
+        AreArms arms.old cells (standing_now done.now cell rest.now.items) links →
+        AreArms arms.new cells (standing_now done.now after rest.now.items) links) }
     ensures keeps { (links : List Link) → IsAliases aliases.old links → IsAliases aliases.new links }
 {
     let mux = is_mux(alloc, &cell)?;
@@ -54,15 +64,15 @@ pub(crate) fn muxed(
         return Ok(cell);
     }
     let followed = followed_cell(alloc, types, aliases, cell)?;
-    let first = with_arm(alloc, PinName::A, places, aliases, done, rest, followed)?;
-    let after = with_arm(alloc, PinName::B, places, aliases, done, rest, first)?;
+    let first = with_arm(alloc, &mut arms.a, places, aliases, done, rest, followed)?;
+    let after = with_arm(alloc, &mut arms.b, places, aliases, done, rest, first)?;
     Ok(after)
 }
 
 /// The cell with what its arm leads to.
 fn with_arm(
     alloc: Global,
-    arm: PinName,
+    arm: &mut Arm,
     places: &Places,
     aliases: &mut Aliases,
     done: &[Option<Cell>],
@@ -70,18 +80,23 @@ fn with_arm(
     cell: Cell,
 ) -> Result<Cell, Memory>
     ensures value { IfOk result (λ after. (cells : List Cell) (links : List Link) → ArePlaces places.now cells →
-        IsAliases aliases.old links → after ≡ with_arm arm cells done.now rest.now.items links cell) }
+        IsAliases aliases.old links → AreEnds arm.old cells (standing_now done.now cell rest.now.items) links →
+        after ≡ with_arm arm.old.name cells done.now rest.now.items links cell) }
+    ensures name { arm.new.name ≡ arm.old.name }
+    ensures ends { OnOk result ((cells : List Cell) (links : List Link) → ArePlaces places.now cells →
+        IsAliases aliases.old links → AreEnds arm.old cells (standing_now done.now cell rest.now.items) links →
+        AreEnds arm.new cells (standing_now done.now cell rest.now.items) links) }
     ensures keeps { (links : List Link) → IsAliases aliases.old links → IsAliases aliases.new links }
 {
     let word = arm_end(alloc, arm, places, aliases, done, rest, &cell)?;
-    let pins = with_signal(alloc, arm, word.as_slice(), cell.pins.as_slice())?;
+    let pins = with_signal(alloc, arm.name, word.as_slice(), cell.pins.as_slice())?;
     Ok(Cell { pins, ..cell })
 }
 
 /// What the arm of the cell leads to, at most as often as the module has cells.
 fn arm_end(
     alloc: Global,
-    arm: PinName,
+    arm: &mut Arm,
     places: &Places,
     aliases: &mut Aliases,
     done: &[Option<Cell>],
@@ -89,14 +104,19 @@ fn arm_end(
     cell: &Cell,
 ) -> Result<SigSpec, Memory>
     ensures value { IfOk result (λ word. (cells : List Cell) (links : List Link) → ArePlaces places.now cells →
-        IsAliases aliases.old links → word ≡
-        arm_end arm cells (standing_now done.now cell.now rest.now.items) links cell.now) }
+        IsAliases aliases.old links → AreEnds arm.old cells (standing_now done.now cell.now rest.now.items) links →
+        word ≡ arm_end arm.old.name cells (standing_now done.now cell.now rest.now.items) links cell.now) }
+    ensures name { arm.new.name ≡ arm.old.name }
+    ensures ends { OnOk result ((cells : List Cell) (links : List Link) → ArePlaces places.now cells →
+        IsAliases aliases.old links → AreEnds arm.old cells (standing_now done.now cell.now rest.now.items) links →
+        AreEnds arm.new cells (standing_now done.now cell.now rest.now.items) links) }
     ensures keeps { (links : List Link) → IsAliases aliases.old links → IsAliases aliases.new links }
 {
-    let mut word = SigSpec::from_slice(alloc, pin_signal(cell.pins.as_slice(), arm))?;
+    let mut word = SigSpec::from_slice(alloc, pin_signal(cell.pins.as_slice(), arm.name))?;
+    let mut passed = Vec::new(alloc);
     let most = done.len() + 1 + rest.len();
-    for _step in 0..most {
-        let step = arm_of(
+    for step in 0..most {
+        let way = way_on(
             alloc,
             arm,
             places,
@@ -105,43 +125,61 @@ fn arm_end(
             rest,
             cell,
             word.as_slice(),
+            most - step,
         )?;
-        match step {
-            Some(next) => word = next,
-            None => return Ok(word),
+        match way {
+            Way::On(place, next) => {
+                passed.push(place)?;
+                word = next;
+            }
+            Way::Known(end) => {
+                arm.learn(passed.as_slice(), &end.word, end.steps + 1)?;
+                return end.word.copy();
+            }
+            Way::Ends => {
+                arm.learn_word(alloc, passed.as_slice(), word.as_slice())?;
+                return Ok(word);
+            }
         }
     }
     Ok(word)
 }
 
-/// The followed arm of the cell that gives the word and chooses as the cell does.
-fn arm_of(
+/// The way on from a word, of which so many steps may be gone.
+fn way_on(
     alloc: Global,
-    arm: PinName,
+    arm: &Arm,
     places: &Places,
     aliases: &mut Aliases,
     done: &[Option<Cell>],
     rest: &VecDeque<Cell>,
     cell: &Cell,
     word: &[SigBit],
-) -> Result<Option<SigSpec>, Memory>
-    ensures value { IfOk result (λ next. (cells : List Cell) (links : List Link) → ArePlaces places.now cells →
-        IsAliases aliases.old links → next ≡ arm_of arm links cell.now word.now
-        (now_at (standing_now done.now cell.now rest.now.items) (place_of cells word.now))) }
+    left: usize,
+) -> Result<Way, Memory>
+    ensures way { IfOk result (λ way. (cells : List Cell) (links : List Link) → ArePlaces places.now cells →
+        IsAliases aliases.old links → AreEnds arm.now cells (standing_now done.now cell.now rest.now.items) links →
+        IsWay arm.now.name cells (standing_now done.now cell.now rest.now.items) links cell.now word.now way) }
+    ensures within { IfOk result (IsWithin left) }
     ensures keeps { (links : List Link) → IsAliases aliases.old links → IsAliases aliases.new links }
 {
     let Some(place) = place_of(places, word) else {
-        return Ok(None);
+        return Ok(Way::Ends);
     };
     let Some(other) = now_at(place, done, cell, rest) else {
-        return Ok(None);
+        return Ok(Way::Ends);
     };
     if !gives_as(alloc, aliases, cell, word, other)? {
-        return Ok(None);
+        return Ok(Way::Ends);
     }
-    let signal = pin_signal(other.pins.as_slice(), arm);
-    let next = followed_signal(alloc, aliases, signal)?;
-    Ok(Some(next))
+    if let Some(end) = arm.known(place, left) {
+        return Ok(Way::Known(end.share()?));
+    }
+    let next = followed_signal(alloc, aliases, pin_signal(other.pins.as_slice(), arm.name))?;
+    if same_signal(next.as_slice(), word) {
+        return Ok(Way::Ends);
+    }
+    Ok(Way::On(place, next))
 }
 
 /// Whether another cell has the type of the cell, its followed select is that of the cell, and its whole output is the

@@ -53,7 +53,8 @@ pub(crate) fn now_at<'a>(
     cell: &'a Cell,
     rest: &'a VecDeque<Cell>,
 ) -> Option<&'a Cell>
-    ensures value { option_map (λ cell. cell.now) result ≡ now_at (standing_now done.now cell.now rest.now.items) (Some place) }
+    ensures value { option_map (λ cell. cell.now) result ≡
+        now_at (standing_now done.now cell.now rest.now.items) (Some place) }
 {
     let count = done.len();
     if place < count {

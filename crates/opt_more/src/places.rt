@@ -32,7 +32,8 @@ pub(crate) fn places_of(alloc: Global, cells: &[Cell]) -> Result<Places, Memory>
 
 /// Gives the bit that the word begins with this place.
 fn put_place(places: &mut Places, word: &[SigBit], at: usize) -> Result<(), Memory>
-    ensures ok { OnOk result ((b : WireBit) → get_by (same_bit b) places.new ≡ (if begins_with b word.now then Some at else get_by (same_bit b) places.old)) }
+    ensures ok { OnOk result ((b : WireBit) → get_by (same_bit b) places.new ≡
+        (if begins_with b word.now then Some at else get_by (same_bit b) places.old)) }
 {
     if let Some(SigBit::Wire(bit)) = word.first() {
         places.insert(*bit, at)?;

@@ -34,9 +34,9 @@ ghost use Rattle.opt_more.specs.Registers.{visit_of};
 ghost use Rattle.opt_more.specs.Starts.{inits_of};
 
 use crate::inputs::followed_cell;
-use crate::kinds::{has_reset, register_of, reset_at, storage_kind};
+use crate::kinds::{has_reset, register_of};
 use crate::starts::start;
-use cell_gate::active;
+use cell_gate::{active, reset_at, storage_kind};
 use cell_types::{CellKind, Level, ParamName, PinName, Shape, StorageGate, StorageKind};
 use net_alias::Aliases;
 use net_index::Types;
@@ -267,7 +267,8 @@ fn without_enable(alloc: Global, kind: CellKind, shape: &Shape, cell: Cell) -> R
 
 /// The pins of a register without an enable, as they are.
 fn enabled_pins(alloc: Global, kind: CellKind, pins: &[Pin]) -> Result<Seq<Pin>, Memory>
-    ensures value { IfOk result (λ after. (c : Cell) → pins.now ≡ c.pins → after ≡ map (same_pin c) (enabled_pins kind)) }
+    ensures value { IfOk result (λ after. (c : Cell) → pins.now ≡ c.pins →
+        after ≡ map (same_pin c) (enabled_pins kind)) }
 {
     let mut after = Seq::make(alloc);
     match kind {

@@ -36,7 +36,7 @@ pub(crate) fn start(inits: &[Bits], bit: SigBit) -> Bit
 }
 
 /// The bit at a place, past the end x.
-pub(crate) fn bit_at(bits: &[Bit], at: usize) -> Bit
+fn bit_at(bits: &[Bit], at: usize) -> Bit
     ensures value { result ≡ slice_index_or bits.now at X }
 {
     match bits.get(at) {

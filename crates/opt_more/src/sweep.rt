@@ -15,7 +15,6 @@ ghost use Rattle.opt_more.specs.Starts.{inits_of};
 ghost use Rattle.opt_more.specs.Visits.{visit_by};
 
 use crate::folds::reduced;
-use crate::muxes::muxed;
 use crate::places::{Places, places_of};
 use crate::registers::{Visited, registered};
 use crate::starts::inits;
@@ -31,8 +30,6 @@ use std::collections::VecDeque;
 pub(crate) enum Pass {
     /// Folds read what other folds read.
     Reduce,
-    /// Multiplexers pass those that choose by the same bit.
-    Muxtree,
     /// Registers that never change go, and those that are always enabled lose their enable.
     Dff,
 }
@@ -159,10 +156,12 @@ fn visit(
     cell: Cell,
     links: &mut Seq<Link>,
 ) -> Result<Option<Cell>, Memory>
-    ensures cell { IfOk result (λ slot. (ports : rtl.Ports) (wires : List Wire) (cells : List Cell) → AreTypes types.now ports →
+    ensures cell { IfOk result (λ slot. (ports : rtl.Ports) (wires : List Wire) (cells : List Cell) →
+        AreTypes types.now ports →
         inits.now ≡ inits_of wires → ArePlaces places.now cells → IsAliases aliases.old links.old →
         slot ≡ (visit_by pass ports wires cells done.now rest.now.items links.old cell).cell) }
-    ensures links { OnOk result ((ports : rtl.Ports) (wires : List Wire) (cells : List Cell) → AreTypes types.now ports →
+    ensures links { OnOk result ((ports : rtl.Ports) (wires : List Wire) (cells : List Cell) →
+        AreTypes types.now ports →
         inits.now ≡ inits_of wires → ArePlaces places.now cells → IsAliases aliases.old links.old →
         links.new ≡ links.old ++ (visit_by pass ports wires cells done.now rest.now.items links.old cell).links) }
     ensures aliases { OnOk result (IsAliases aliases.old links.old → IsAliases aliases.new links.new) }
@@ -170,10 +169,6 @@ fn visit(
     match pass {
         Pass::Reduce => {
             let after = reduced(alloc, types, places, aliases, done, rest, cell)?;
-            Ok(Some(after))
-        }
-        Pass::Muxtree => {
-            let after = muxed(alloc, types, places, aliases, done, rest, cell)?;
             Ok(Some(after))
         }
         Pass::Dff => {
@@ -204,7 +199,7 @@ fn leave(
 }
 
 /// The cells that have not gone.
-fn standing(alloc: Global, slots: Vec<Option<Cell>>) -> Result<Seq<Cell>, Memory>
+pub(crate) fn standing(alloc: Global, slots: Vec<Option<Cell>>) -> Result<Seq<Cell>, Memory>
     ensures value { IfOk result (λ cells. cells ≡ standing slots.items) }
 {
     let mut cells = Vec::with_capacity(alloc, slots.len())?;

@@ -1,6 +1,6 @@
 //! Large modules, each made by a loop.
 
-use crate::passes::{After, after_word};
+use crate::passes::{After, after_words};
 use rtl_bits::{Memory, Text};
 use std::alloc::Global;
 
@@ -20,6 +20,12 @@ enum Large {
     Passing,
     /// Gates that are all the same.
     Equal,
+    /// Registers that are always 1.
+    Constant,
+    /// Multiplexers with one select, of which each chooses between the one before it and a bit, the last one first.
+    Choosing,
+    /// Folds of which each reads the one before it.
+    Folding,
 }
 
 /// The cell of this number, as a text.
@@ -34,6 +40,15 @@ fn cell_text(alloc: Global, large: Large, number: u32) -> Result<String, Memory>
         )?,
         Large::Equal => format!(in alloc;
             " cell $_AND_ ${number}\n connect \\A \\a\n connect \\B \\b\n connect \\Y \\t{next}\n end\n"
+        )?,
+        Large::Choosing => format!(in alloc;
+            " cell $mux ${number}\n parameter \\WIDTH 1\n connect \\A \\t{number}\n connect \\B \\b\n connect \\S \\b\n connect \\Y \\t{next}\n end\n"
+        )?,
+        Large::Folding => format!(in alloc;
+            " cell $reduce_or ${number}\n parameter \\A_SIGNED 0\n parameter \\A_WIDTH 2\n parameter \\Y_WIDTH 1\n connect \\A {{ \\b \\t{number} }}\n connect \\Y \\t{next}\n end\n"
+        )?,
+        Large::Constant => format!(in alloc;
+            " cell $_DFF_P_ ${number}\n connect \\D 1'1\n connect \\C \\a\n connect \\Q \\t{next}\n end\n"
         )?,
     };
     Ok(text)
@@ -54,7 +69,11 @@ fn wires_text(alloc: Global, gates: u32) -> Result<Text, Memory> {
 /// The text of the module, of so many gates.
 fn module_text(alloc: Global, large: Large, gates: u32) -> Result<Text, Memory> {
     let mut text = wires_text(alloc, gates)?;
-    for number in 0..gates {
+    for place in 0..gates {
+        let number = match large {
+            Large::Choosing => gates - 1 - place,
+            _ => place,
+        };
         text.extend(cell_text(alloc, large, number)?.as_bytes())?;
     }
     let tail = match large {
@@ -89,9 +108,9 @@ fn memory_text(alloc: Global, ports: u32, gates: u32) -> Result<Text, Memory> {
     Ok(text)
 }
 
-/// Whether the first module of the text has so many cells after the word.
-fn has_cells(alloc: Global, text: &[u8], word: &str, cells: usize) -> Result<bool, Memory> {
-    let After::Netlist(netlist) = after_word(alloc, text, word.as_bytes())? else {
+/// Whether the first module of the text has so many cells after the words.
+fn has_cells(alloc: Global, text: &[u8], words: &str, cells: usize) -> Result<bool, Memory> {
+    let After::Netlist(netlist) = after_words(alloc, text, words.as_bytes())? else {
         return Ok(false);
     };
     let first = netlist.modules.as_slice().first();
@@ -116,6 +135,24 @@ pub fn is_merged(alloc: Global) -> Result<bool, Memory> {
     has_cells(alloc, text.as_slice(), "opt_merge", 1)
 }
 
+/// Whether one is left of 10,000 multiplexers with one select in a chain, the last one first in the text.
+pub fn is_chosen(alloc: Global) -> Result<bool, Memory> {
+    let text = module_text(alloc, Large::Choosing, 10_000)?;
+    has_cells(alloc, text.as_slice(), "opt_muxtree opt_clean", 1)
+}
+
+/// Whether one is left of 100,000 folds in a chain.
+pub fn is_reduced(alloc: Global) -> Result<bool, Memory> {
+    let text = module_text(alloc, Large::Folding, 100_000)?;
+    has_cells(alloc, text.as_slice(), "opt_reduce opt_clean", 1)
+}
+
+/// Whether nothing is left of 100,000 registers that are always 1.
+pub fn is_settled(alloc: Global) -> Result<bool, Memory> {
+    let text = module_text(alloc, Large::Constant, 100_000)?;
+    has_cells(alloc, text.as_slice(), "opt_dff", 0)
+}
+
 /// Whether a memory becomes a match, a choice and a register for each word, and the read tree.
 pub fn is_expanded(alloc: Global) -> Result<bool, Memory> {
     let text = memory_text(alloc, 1, 0)?;
@@ -131,5 +168,5 @@ pub fn is_largest(alloc: Global) -> Result<bool, Memory> {
 /// Whether the same memory beside two gates passes the limit.
 pub fn is_over(alloc: Global) -> Result<bool, Memory> {
     let text = memory_text(alloc, 7, 2)?;
-    Ok(matches!(after_word(alloc, text.as_slice(), b"memory")?, After::Over))
+    Ok(matches!(after_words(alloc, text.as_slice(), b"memory")?, After::Over))
 }

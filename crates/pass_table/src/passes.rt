@@ -1,17 +1,16 @@
-//! A script of `proc` and one more word over the design of a text, or `memory` and gates of bitwise cells.
+//! A script of `proc` and further words over the design of a text, or `memory` and gates of bitwise cells.
 
-ghost use Rattle.std.specs.Prelude.{◌≡◌, ◌<◌, [], ◌∷◌, IfOk, length, true};
+ghost use Rattle.std.specs.Prelude.{◌<◌, length};
 ghost use Rattle.rtl_readable.specs.Readable.{IsReadable};
-ghost use Rattle.script_core.specs.declared.word.Word.TheVariants.{Proc, Opt, Memory as WordMemory};
 
 use crate::bitwise::with_gates;
 use net_index::PassFault;
-use rtl_bits::{Copied, Memory, Seq, Steps};
+use rtl_bits::{Copied, Memory, Seq, Steps, Text};
 use rtl_check::{Checked, check};
 use rtl_ir::{Design, Module};
 use rtl_read::{ReadFault, read};
 use rtl_write::write;
-use script_core::{Outcome, Script, Word, build, key_of};
+use script_core::{Outcome, Script, ScriptFault, build, key_of, parse_script};
 use std::alloc::Global;
 
 /// The name of the counter of builds.
@@ -24,50 +23,19 @@ pub enum After {
     Netlist(Design),
     /// A limit would be passed.
     Over,
-    /// The text is none of a design without a fault, or the word is none.
+    /// The text is none of a design without a fault, or a word is none.
     Fault,
 }
 
-/// The words, by their names.
-const WORDS: [(&str, Word); 8] = [
-    ("proc", Word::Proc),
-    ("opt_expr", Word::OptExpr),
-    ("opt_merge", Word::OptMerge),
-    ("opt_clean", Word::OptClean),
-    ("opt", Word::Opt),
-    ("fsm", Word::Fsm),
-    ("memory", Word::Memory),
-    ("techmap", Word::Techmap),
-];
-
-/// The word of this name.
-fn word_of(name: &[u8]) -> Option<Word> {
-    for (own, word) in WORDS {
-        if own.as_bytes() == name {
-            return Some(word);
-        }
+/// The script of `proc` and these words; none where one of them is none.
+fn script_of(alloc: Global, words: &[u8]) -> Result<Option<Script>, Memory> {
+    let mut text = Text::from_slice(alloc, b"proc ")?;
+    text.extend(words)?;
+    match parse_script(alloc, text.as_slice()) {
+        Ok(script) => Ok(Some(script)),
+        Err(ScriptFault::Bad(_)) => Ok(None),
+        Err(ScriptFault::Memory) => Err(Memory),
     }
-    None
-}
-
-/// The script of `proc` and the word.
-fn script_of(alloc: Global, word: Word) -> Result<Script, Memory>
-    ensures words { IfOk result (λ script. script ≡ Proc ∷ word ∷ []) }
-{
-    let mut script = Script::make(alloc)?;
-    script.push(word)?;
-    Ok(script)
-}
-
-/// The script `proc opt memory opt`.
-#[tactic(auto, using(crate::proofs::Scripts::three_words, crate::proofs::Scripts::four_words))]
-fn memory_script(alloc: Global) -> Result<Script, Memory>
-    ensures words { IfOk result (λ script. script ≡ Proc ∷ Opt ∷ WordMemory ∷ Opt ∷ []) }
-{
-    let mut script = script_of(alloc, Word::Opt)?;
-    script.push(Word::Memory)?;
-    script.push(Word::Opt)?;
-    Ok(script)
 }
 
 /// The module at this place after the script, under its own name; none where a limit would be passed.
@@ -130,29 +98,34 @@ fn text_after(alloc: Global, text: &[u8], script: &Script) -> Result<After, Memo
     }
 }
 
+/// What `proc` and these words make of the design of the text.
+fn after_script(alloc: Global, text: &[u8], words: &[u8]) -> Result<After, Memory> {
+    match script_of(alloc, words)? {
+        Some(script) => text_after(alloc, text, &script),
+        None => Ok(After::Fault),
+    }
+}
+
 /// What `proc opt memory opt`, gates of bitwise cells, and `opt` make of the design of the text.
 fn after_bitwise(alloc: Global, text: &[u8]) -> Result<After, Memory> {
-    let design = match text_after(alloc, text, &memory_script(alloc)?)? {
+    let design = match after_script(alloc, text, b"opt memory opt")? {
         After::Netlist(design) => design,
         refused => return Ok(refused),
     };
     match with_gates(alloc, &design) {
         Ok(mapped) => {
             let between = write(alloc, &mapped)?;
-            text_after(alloc, between.as_slice(), &script_of(alloc, Word::Opt)?)
+            after_script(alloc, between.as_slice(), b"opt")
         }
         Err(PassFault::Over) => Ok(After::Over),
         Err(PassFault::Memory) => Err(Memory),
     }
 }
 
-/// What `proc` and the word of this name make of the design of the text, or what `bitwise` stands for.
-pub fn after_word(alloc: Global, text: &[u8], name: &[u8]) -> Result<After, Memory> {
-    if name == b"bitwise".as_slice() {
+/// What `proc` and these words make of the design of the text, or what `bitwise` stands for.
+pub fn after_words(alloc: Global, text: &[u8], words: &[u8]) -> Result<After, Memory> {
+    if words == b"bitwise".as_slice() {
         return after_bitwise(alloc, text);
     }
-    match word_of(name) {
-        Some(word) => text_after(alloc, text, &script_of(alloc, word)?),
-        None => Ok(After::Fault),
-    }
+    after_script(alloc, text, words)
 }

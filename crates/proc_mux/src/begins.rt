@@ -54,7 +54,8 @@ fn put_line(
 
 /// The bits at these places.
 fn bits_of(alloc: Global, places: &[SigBit]) -> Result<HashSet<WireBit>, Memory>
-    ensures bits { IfOk result (λ bits. (b : WireBit) → contains same_bit bits b ≡ list_any (λ s. is_bit s b) places.now) }
+    ensures bits { IfOk result (λ bits. (b : WireBit) →
+        contains same_bit bits b ≡ list_any (λ s. is_bit s b) places.now) }
 {
     let mut bits = HashSet::new(alloc);
     for place in places {
@@ -65,7 +66,8 @@ fn bits_of(alloc: Global, places: &[SigBit]) -> Result<HashSet<WireBit>, Memory>
 
 /// Puts in the bit at a place, where that is a bit of a wire.
 fn put_bit(bits: &mut HashSet<WireBit>, place: SigBit) -> Result<(), Memory>
-    ensures bits { OnOk result ((b : WireBit) → contains same_bit bits.new b ≡ (contains same_bit bits.old b || is_bit place b)) }
+    ensures bits { OnOk result ((b : WireBit) → contains same_bit bits.new b ≡
+        (contains same_bit bits.old b || is_bit place b)) }
 {
     if let SigBit::Wire(bit) = place {
         bits.insert(bit)?;
@@ -80,7 +82,8 @@ fn put_all_next(
     places: &[SigBit],
 ) -> Result<(), Memory>
     ensures begins { OnOk result ((a b : WireBit) → IsNext a b →
-        contains same_bit begins.new b ≡ (contains same_bit begins.old b || list_any (λ s. is_bit s a && not (contains same_bit named.now b)) places.now)) }
+        contains same_bit begins.new b ≡ (contains same_bit begins.old b || list_any (λ s.
+        is_bit s a && not (contains same_bit named.now b)) places.now)) }
 {
     for place in places {
         put_next(begins, named, *place)?;
@@ -95,7 +98,8 @@ fn put_all_own(
     places: &[SigBit],
 ) -> Result<(), Memory>
     ensures begins { OnOk result ((a b : WireBit) → IsNext a b →
-        contains same_bit begins.new b ≡ (contains same_bit begins.old b || list_any (λ s. is_bit s b && not (contains same_bit named.now a)) places.now)) }
+        contains same_bit begins.new b ≡ (contains same_bit begins.old b || list_any (λ s.
+        is_bit s b && not (contains same_bit named.now a)) places.now)) }
 {
     for place in places {
         put_own(begins, named, *place)?;
@@ -106,7 +110,8 @@ fn put_all_own(
 /// Puts in the bit behind a place, where it is not named.
 fn put_next(begins: &mut Begins, named: &HashSet<WireBit>, place: SigBit) -> Result<(), Memory>
     ensures begins { OnOk result ((a b : WireBit) → IsNext a b →
-        contains same_bit begins.new b ≡ (contains same_bit begins.old b || (is_bit place a && not (contains same_bit named.now b)))) }
+        contains same_bit begins.new b ≡
+        (contains same_bit begins.old b || (is_bit place a && not (contains same_bit named.now b)))) }
 {
     let SigBit::Wire(bit) = place else {
         return Ok(());
@@ -124,7 +129,8 @@ fn put_next(begins: &mut Begins, named: &HashSet<WireBit>, place: SigBit) -> Res
 /// Puts in the bit at a place, where the bit before it is not named.
 fn put_own(begins: &mut Begins, named: &HashSet<WireBit>, place: SigBit) -> Result<(), Memory>
     ensures begins { OnOk result ((a b : WireBit) → IsNext a b →
-        contains same_bit begins.new b ≡ (contains same_bit begins.old b || (is_bit place b && not (contains same_bit named.now a)))) }
+        contains same_bit begins.new b ≡
+        (contains same_bit begins.old b || (is_bit place b && not (contains same_bit named.now a)))) }
 {
     let SigBit::Wire(bit) = place else {
         return Ok(());

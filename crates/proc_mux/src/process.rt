@@ -86,8 +86,10 @@ fn tree_value(
     start: SigSpec,
 ) -> Result<SigSpec, PassFault>
     requires table { HasSwitches table.now 1 root.now.switches }
-    ensures exact { IfOk result (λ value. (value, seen trees.new) ≡ switches_value given.now 1 root.now.switches start (seen trees.old)) }
-    ensures over { result ≡ Err PassFault.Over → PassesLimit (switches_value given.now 1 root.now.switches start (seen trees.old)).1.building }
+    ensures exact { IfOk result (λ value. (value, seen trees.new) ≡
+        switches_value given.now 1 root.now.switches start (seen trees.old)) }
+    ensures over { result ≡ Err PassFault.Over →
+        PassesLimit (switches_value given.now 1 root.now.switches start (seen trees.old)).1.building }
     ensures within { IsInLimits trees.old.builder → OnOk result (IsInLimits trees.new.builder) }
 {
     switches_value(trees, table, given, 1, root.switches.as_slice(), start)

@@ -6,7 +6,8 @@ ghost use Rattle.rtl_ir.specs.Signals.{same_bit};
 ghost use Rattle.rtl_sig.specs.declared.sig.WireBit.{WireBit};
 ghost use Rattle.match_cells.specs.Numbers.{behind_case, behind_switch};
 ghost use Rattle.proc_mux.specs.Lines.{is_bit};
-ghost use Rattle.proc_mux.specs.Rows.{AreRows, case_row, ends_at, joins_row, row_at, source_at, switch_row, with_placed};
+ghost use Rattle.proc_mux.specs.Rows.{AreRows, case_row, ends_at, joins_row, row_at, source_at, switch_row};
+ghost use Rattle.proc_mux.specs.Rows.{with_placed};
 
 use rtl_bits::{Bit, Memory};
 use rtl_ir::{Case, Link, Switch};
@@ -69,7 +70,8 @@ fn next_node(node: usize) -> Result<usize, Memory>
 
 /// Puts in what the assigns of the case at this node give.
 fn put_assigns(alloc: Global, rows: &mut Rows, node: usize, assigns: &[Link]) -> Result<(), Memory>
-    ensures rows { OnOk result ((b : WireBit) → row_at rows.new b ≡ joins_row node b (all_joins assigns.now) (row_at rows.old b)) }
+    ensures rows { OnOk result ((b : WireBit) → row_at rows.new b ≡
+        joins_row node b (all_joins assigns.now) (row_at rows.old b)) }
 {
     for line in assigns {
         put_line(
@@ -91,7 +93,8 @@ fn put_line(
     left: &[SigBit],
     right: &[SigBit],
 ) -> Result<(), Memory>
-    ensures rows { OnOk result ((b : WireBit) → row_at rows.new b ≡ joins_row node b (joins left.now right.now) (row_at rows.old b)) }
+    ensures rows { OnOk result ((b : WireBit) → row_at rows.new b ≡
+        joins_row node b (joins left.now right.now) (row_at rows.old b)) }
 {
     for at in 0..left.len().min(right.len()) {
         put_place(alloc, rows, node, left[at], right[at])?;
@@ -107,7 +110,8 @@ fn put_place(
     left: SigBit,
     source: SigBit,
 ) -> Result<(), Memory>
-    ensures rows { OnOk result ((b : WireBit) → row_at rows.new b ≡ (if is_bit left b then with_placed node source (row_at rows.old b) else row_at rows.old b)) }
+    ensures rows { OnOk result ((b : WireBit) → row_at rows.new b ≡
+        (if is_bit left b then with_placed node source (row_at rows.old b) else row_at rows.old b)) }
 {
     match left {
         SigBit::Fixed(_) => Ok(()),
@@ -123,7 +127,8 @@ fn put_bit(
     bit: WireBit,
     source: SigBit,
 ) -> Result<(), Memory>
-    ensures rows { OnOk result ((b : WireBit) → row_at rows.new b ≡ (if same_bit bit b then with_placed node source (row_at rows.old b) else row_at rows.old b)) }
+    ensures rows { OnOk result ((b : WireBit) → row_at rows.new b ≡
+        (if same_bit bit b then with_placed node source (row_at rows.old b) else row_at rows.old b)) }
 {
     let mut row = match rows.remove(&bit) {
         Some(row) => row,

@@ -27,8 +27,10 @@ pub(crate) fn switches_value(
     prior: SigSpec,
 ) -> Result<SigSpec, PassFault>
     requires table { HasSwitches table.now node (switches_of switches.now) }
-    ensures exact { IfOk result (λ value. (value, seen trees.new) ≡ switches_value given.now node (switches_of switches.now) prior (seen trees.old)) }
-    ensures over { result ≡ Err PassFault.Over → PassesLimit (switches_value given.now node (switches_of switches.now) prior (seen trees.old)).1.building }
+    ensures exact { IfOk result (λ value. (value, seen trees.new) ≡
+        switches_value given.now node (switches_of switches.now) prior (seen trees.old)) }
+    ensures over { result ≡ Err PassFault.Over →
+        PassesLimit (switches_value given.now node (switches_of switches.now) prior (seen trees.old)).1.building }
     ensures within { IsInLimits trees.old.builder → OnOk result (IsInLimits trees.new.builder) }
 {
     let mut node = node;
@@ -52,8 +54,10 @@ fn switch_value(
 ) -> Result<SigSpec, PassFault>
     requires behind { slice_get table.now node ≡ Some (behind_switch node switch.now.cases) }
     requires table { HasCases table.now (node + 1) switch.now.cases }
-    ensures exact { IfOk result (λ value. (value, seen trees.new) ≡ switch_value given.now node switch.now.signal switch.now.cases prior (seen trees.old)) }
-    ensures over { result ≡ Err PassFault.Over → PassesLimit (switch_value given.now node switch.now.signal switch.now.cases prior (seen trees.old)).1.building }
+    ensures exact { IfOk result (λ value. (value, seen trees.new) ≡
+        switch_value given.now node switch.now.signal switch.now.cases prior (seen trees.old)) }
+    ensures over { result ≡ Err PassFault.Over →
+        PassesLimit (switch_value given.now node switch.now.signal switch.now.cases prior (seen trees.old)).1.building }
     ensures within { IsInLimits trees.old.builder → OnOk result (IsInLimits trees.new.builder) }
 {
     if !has_between(given, node, behind(table, node)) {
@@ -83,8 +87,10 @@ fn cases_value(
     prior: SigSpec,
 ) -> Result<SigSpec, PassFault>
     requires table { HasCases table.now node (cases_of cases.now) }
-    ensures exact { IfOk result (λ value. (value, seen trees.new) ≡ cases_value given.now node signal.now (cases_of cases.now) prior (seen trees.old)) }
-    ensures over { result ≡ Err PassFault.Over → PassesLimit (cases_value given.now node signal.now (cases_of cases.now) prior (seen trees.old)).1.building }
+    ensures exact { IfOk result (λ value. (value, seen trees.new) ≡
+        cases_value given.now node signal.now (cases_of cases.now) prior (seen trees.old)) }
+    ensures over { result ≡ Err PassFault.Over →
+        PassesLimit (cases_value given.now node signal.now (cases_of cases.now) prior (seen trees.old)).1.building }
     ensures within { IsInLimits trees.old.builder → OnOk result (IsInLimits trees.new.builder) }
 {
     let nodes = case_nodes(trees.alloc, table, node, cases)?;
@@ -119,8 +125,12 @@ fn case_value(
 ) -> Result<SigSpec, PassFault>
     requires behind { slice_get table.now node ≡ Some (behind_case node case.now.switches) }
     requires table { HasSwitches table.now (node + 1) case.now.switches }
-    ensures exact { IfOk result (λ value. (value, seen trees.new) ≡ case_value given.now node signal.now case.now.patterns case.now.switches prior.now acc (seen trees.old)) }
-    ensures over { result ≡ Err PassFault.Over → PassesLimit (case_value given.now node signal.now case.now.patterns case.now.switches prior.now acc (seen trees.old)).1.building }
+    ensures exact { IfOk result (λ value. (value, seen trees.new) ≡
+        case_value given.now node signal.now case.now.patterns case.now.switches prior.now acc (seen trees.old)) }
+    ensures over { result ≡ Err PassFault.Over →
+        PassesLimit
+        (case_value given.now node signal.now case.now.patterns case.now.switches prior.now acc
+        (seen trees.old)).1.building }
     ensures within { IsInLimits trees.old.builder → OnOk result (IsInLimits trees.new.builder) }
 {
     let start = start_of(trees.alloc, given, node, prior)?;

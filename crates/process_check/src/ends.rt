@@ -108,7 +108,8 @@ impl Ends {
     fn add(&mut self, at: usize, count: usize) -> Result<(), Memory>
         ensures ending { self.new.ending ≡ self.old.ending }
         ensures left { OnOk result (length self.new.left.items ≡ length self.old.left.items + 1) }
-        ensures waiting { OnOk result ((n : ℕ) → at < n → AreBelow n self.old.waiting.items → AreBelow n self.new.waiting.items) }
+        ensures waiting { OnOk result ((n : ℕ) → at < n → AreBelow n self.old.waiting.items →
+            AreBelow n self.new.waiting.items) }
     {
         self.left.push(count)?;
         if count == 0 {
@@ -138,7 +139,8 @@ impl Ends {
         ensures ending { OnOk result (self.new.ending ≡ self.old.ending) }
         ensures left { OnOk result (length self.new.left.items ≡ length self.old.left.items) }
         ensures waiting { OnOk result (AreBelow (length self.old.left.items) self.new.waiting.items) }
-        ensures work { OnOk result (to_do self.new.left.items self.new.waiting.items ≡ to_do self.old.left.items self.old.waiting.items) }
+        ensures work { OnOk result (to_do self.new.left.items self.new.waiting.items ≡
+            to_do self.old.left.items self.old.waiting.items) }
     {
         for place in places {
             self.free(*place)?;
@@ -151,8 +153,10 @@ impl Ends {
         requires in_range { place < length self.old.left.items }
         ensures ending { OnOk result (self.new.ending ≡ self.old.ending) }
         ensures left { OnOk result (length self.new.left.items ≡ length self.old.left.items) }
-        ensures waiting { OnOk result ((n : ℕ) → place < n → AreBelow n self.old.waiting.items → AreBelow n self.new.waiting.items) }
-        ensures work { OnOk result (to_do self.new.left.items self.new.waiting.items ≡ to_do self.old.left.items self.old.waiting.items) }
+        ensures waiting { OnOk result ((n : ℕ) → place < n → AreBelow n self.old.waiting.items →
+            AreBelow n self.new.waiting.items) }
+        ensures work { OnOk result (to_do self.new.left.items self.new.waiting.items ≡
+            to_do self.old.left.items self.old.waiting.items) }
     {
         match self.left[place] {
             0 => {}

@@ -3,7 +3,8 @@
 ghost use Rattle.std.specs.Prelude.{◌≡◌, ◌||◌};
 ghost use Rattle.std.specs.List.{list_any};
 ghost use Rattle.rtl_ir.specs.Faults.ProcessLimits.{gives_to_constant, has_uneven, is_too_wide};
-ghost use Rattle.process_check.specs.Flaws.{case_has, line_has, other_width, patterns_have, rule_has, signal_has, switch_has, write_has};
+ghost use Rattle.process_check.specs.Flaws.{case_has, line_has, other_width, patterns_have, rule_has, signal_has};
+ghost use Rattle.process_check.specs.Flaws.{switch_has, write_has};
 
 use crate::lines::{has_constant, is_uneven};
 use rtl_ir::{Case, Link, Process, Switch, SyncRule, WriteLine};

@@ -17,9 +17,9 @@ use rtl_bits::Memory;
 use rtl_ir::{Module, Process};
 use std::alloc::Global;
 
-/// Whether a process of the module is none that is taken: its rules do not stand together, a tree bit depends on itself,
-/// a start value is no constant, or neither of two edges is a reset. The tables of tests are made at the first process
-/// with two edges. In the Yosys manual, "The RTL Intermediate Language (RTLIL)", the section "RTLIL::Process".
+/// Whether a process of the module is none that is taken: its rules do not stand together, a tree bit depends on
+/// itself, a start value is no constant, or neither of two edges is a reset. The tables of tests are made at the first
+/// process with two edges. In the Yosys manual, "The RTL Intermediate Language (RTLIL)", the section "RTLIL::Process".
 pub fn is_bad_process(
     alloc: Global,
     types: &Types,
@@ -27,8 +27,10 @@ pub fn is_bad_process(
     module: &Module,
     process: &Process,
 ) -> Result<bool, Memory>
-    ensures asked { OnOk result ((ports : Ports) → AreTypes types.now ports → WereAsked tests.old ports «module».now → WereAsked tests.new ports «module».now) }
-    ensures value { IfOk result (λ bad. (ports : Ports) → AreTypes types.now ports → WereAsked tests.old ports «module».now → DoCellsFit ports «module».now →
+    ensures asked { OnOk result ((ports : Ports) → AreTypes types.now ports → WereAsked tests.old ports «module».now →
+        WereAsked tests.new ports «module».now) }
+    ensures value { IfOk result (λ bad. (ports : Ports) → AreTypes types.now ports →
+        WereAsked tests.old ports «module».now → DoCellsFit ports «module».now →
         bad ≡ processes.is_bad_process ports «module».now process.now) }
 {
     if !rules_stand(process.syncs.as_slice()) {

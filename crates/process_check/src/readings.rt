@@ -9,7 +9,8 @@ ghost use Rattle.rtl_ir.specs.Follow.{joins};
 ghost use Rattle.rtl_ir.specs.Signals.{same_bit, wire_bits};
 ghost use Rattle.std.specs.Option.{option_and_then, option_or, option_to_list};
 ghost use Rattle.process_trees.specs.Numbers.{AreNumbers};
-ghost use Rattle.process_check.specs.Readings.{AreSources, bit_edges, case_edges, assign_edges, edges_to, number_at, numbers_in, place_edges, switch_edges};
+ghost use Rattle.process_check.specs.Readings.{AreSources, bit_edges, case_edges, assign_edges, edges_to, number_at};
+ghost use Rattle.process_check.specs.Readings.{numbers_in, place_edges, switch_edges};
 
 use process_trees::{Numbers, numbers_of};
 use rtl_bits::Memory;
@@ -48,7 +49,8 @@ fn put_case(
     signals: &[usize],
     case: &Case,
 ) -> Result<(), Memory>
-    ensures ok { OnOk result ((bits : List WireBit) → AreNumbers numbers.now bits → edges.new.items ≡ edges.old.items ++ case_edges bits signals.now case.now) }
+    ensures ok { OnOk result ((bits : List WireBit) → AreNumbers numbers.now bits →
+        edges.new.items ≡ edges.old.items ++ case_edges bits signals.now case.now) }
 {
     put_assigns(alloc, edges, numbers, signals, case.assigns.as_slice())?;
     for switch in &case.switches {
@@ -66,7 +68,8 @@ fn put_switch(
     signals: &[usize],
     switch: &Switch,
 ) -> Result<(), Memory>
-    ensures ok { OnOk result ((bits : List WireBit) → AreNumbers numbers.now bits → edges.new.items ≡ edges.old.items ++ switch_edges bits signals.now switch.now) }
+    ensures ok { OnOk result ((bits : List WireBit) → AreNumbers numbers.now bits →
+        edges.new.items ≡ edges.old.items ++ switch_edges bits signals.now switch.now) }
 {
     let mut all = Vec::from_slice(alloc, signals)?;
     put_numbers(&mut all, numbers, switch.signal.as_slice())?;
@@ -78,7 +81,8 @@ fn put_switch(
 
 /// Puts the numbers of the tree bits of a signal last.
 fn put_numbers(all: &mut Vec<usize>, numbers: &Numbers, signal: &[SigBit]) -> Result<(), Memory>
-    ensures ok { OnOk result ((bits : List WireBit) → AreNumbers numbers.now bits → all.new.items ≡ all.old.items ++ numbers_in bits signal.now) }
+    ensures ok { OnOk result ((bits : List WireBit) → AreNumbers numbers.now bits →
+        all.new.items ≡ all.old.items ++ numbers_in bits signal.now) }
 {
     for bit in signal {
         put_number(all, number_at(numbers, *bit))?;
@@ -114,7 +118,8 @@ fn put_assigns(
     signals: &[usize],
     assigns: &[Link],
 ) -> Result<(), Memory>
-    ensures ok { OnOk result ((bits : List WireBit) → AreNumbers numbers.now bits → edges.new.items ≡ edges.old.items ++ assign_edges bits signals.now assigns.now) }
+    ensures ok { OnOk result ((bits : List WireBit) → AreNumbers numbers.now bits →
+        edges.new.items ≡ edges.old.items ++ assign_edges bits signals.now assigns.now) }
 {
     let sources = sources_of(alloc, assigns)?;
     for line in assigns {
@@ -131,7 +136,8 @@ fn put_line(
     signals: &[usize],
     left: &[SigBit],
 ) -> Result<(), Memory>
-    ensures ok { OnOk result ((bits : List WireBit) → AreNumbers numbers.now bits → (assigns : List Link) → AreSources sources.now assigns →
+    ensures ok { OnOk result ((bits : List WireBit) → AreNumbers numbers.now bits → (assigns : List Link) →
+        AreSources sources.now assigns →
         edges.new.items ≡ edges.old.items ++ flat_map (bit_edges bits signals.now assigns) (wire_bits left.now)) }
 {
     for bit in left {
@@ -148,7 +154,8 @@ fn put_place(
     signals: &[usize],
     place: SigBit,
 ) -> Result<(), Memory>
-    ensures ok { OnOk result ((bits : List WireBit) → AreNumbers numbers.now bits → (assigns : List Link) → AreSources sources.now assigns →
+    ensures ok { OnOk result ((bits : List WireBit) → AreNumbers numbers.now bits → (assigns : List Link) →
+        AreSources sources.now assigns →
         edges.new.items ≡ edges.old.items ++ place_edges bits signals.now assigns place) }
 {
     match place {
@@ -165,7 +172,8 @@ fn put_bit(
     signals: &[usize],
     bit: WireBit,
 ) -> Result<(), Memory>
-    ensures ok { OnOk result ((bits : List WireBit) → AreNumbers numbers.now bits → (assigns : List Link) → AreSources sources.now assigns →
+    ensures ok { OnOk result ((bits : List WireBit) → AreNumbers numbers.now bits → (assigns : List Link) →
+        AreSources sources.now assigns →
         edges.new.items ≡ edges.old.items ++ bit_edges bits signals.now assigns bit) }
 {
     if let Some(from) = numbers.get(&bit).copied() {
@@ -187,7 +195,8 @@ fn put_edge(edges: &mut Vec<Edge>, from: usize, to: Option<usize>) -> Result<(),
 
 /// The number of what is assigned to a bit, where that is a tree bit.
 fn source_of(numbers: &Numbers, sources: &Sources, bit: WireBit) -> Option<usize>
-    ensures value { (bits : List WireBit) → AreNumbers numbers.now bits → (assigns : List Link) → AreSources sources.now assigns →
+    ensures value { (bits : List WireBit) → AreNumbers numbers.now bits → (assigns : List Link) →
+        AreSources sources.now assigns →
         result ≡ option_and_then (number_at bits) (assigned assigns bit) }
 {
     match sources.get(&bit).copied() {
@@ -219,7 +228,8 @@ fn sources_of(alloc: Global, assigns: &[Link]) -> Result<Sources, Memory>
 
 /// Puts in what an assign gives to bits, in the place of what was given before.
 fn put_sources(sources: &mut Sources, left: &[SigBit], right: &[SigBit]) -> Result<(), Memory>
-    ensures ok { OnOk result ((b : WireBit) → get_by (same_bit b) sources.new ≡ option_or (last_source (joins left.now right.now) b) (get_by (same_bit b) sources.old)) }
+    ensures ok { OnOk result ((b : WireBit) → get_by (same_bit b) sources.new ≡
+        option_or (last_source (joins left.now right.now) b) (get_by (same_bit b) sources.old)) }
 {
     for at in 0..left.len().min(right.len()) {
         put_source(sources, left[at], right[at])?;
@@ -229,7 +239,8 @@ fn put_sources(sources: &mut Sources, left: &[SigBit], right: &[SigBit]) -> Resu
 
 /// Puts in what is given to a place, where that is a bit of a wire.
 fn put_source(sources: &mut Sources, left: SigBit, source: SigBit) -> Result<(), Memory>
-    ensures ok { OnOk result ((b : WireBit) → get_by (same_bit b) sources.new ≡ option_or (last_source (joins (left ∷ []) (source ∷ [])) b) (get_by (same_bit b) sources.old)) }
+    ensures ok { OnOk result ((b : WireBit) → get_by (same_bit b) sources.new ≡
+        option_or (last_source (joins (left ∷ []) (source ∷ [])) b) (get_by (same_bit b) sources.old)) }
 {
     if let SigBit::Wire(bit) = left {
         sources.insert(bit, source)?;

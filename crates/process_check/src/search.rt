@@ -3,7 +3,8 @@
 ghost use Rattle.std.specs.Prelude.{◌≡◌, ◌<◌, length, true, slice_set, IfOk, OnOk};
 ghost use Rattle.std.specs.Bool.{OnFalse, OnTrue};
 ghost use Rattle.rtl_ir.specs.Faults.Recursion.{leads_within};
-ghost use Rattle.process_check.specs.Search.{IsGraph, Searching, Visiting, Within, followers, rows_of, with_new, work_left};
+ghost use Rattle.process_check.specs.Search.{IsGraph, Searching, Visiting, Within, followers, rows_of, with_new};
+ghost use Rattle.process_check.specs.Search.{work_left};
 
 use rtl_bits::Memory;
 use std::alloc::Global;
@@ -40,10 +41,13 @@ pub(crate) fn leads_back(alloc: Global, graph: &[Vec<usize>], start: usize) -> R
 /// Puts the followers of a place that are new among those that wait. Answers whether the start is among them.
 fn visit(search: &mut Search, graph: &[Vec<usize>], start: usize, at: usize) -> Result<bool, Memory>
     requires graph { IsGraph (rows_of graph.now) }
-    requires visiting { Visiting (rows_of graph.now) start search.old.seen.items search.old.waiting.items at (followers (rows_of graph.now) at) }
+    requires visiting { Visiting (rows_of graph.now) start search.old.seen.items search.old.waiting.items at
+        (followers (rows_of graph.now) at) }
     ensures back { IfOk result (λ back. OnTrue back (Within (rows_of graph.now) (length graph.now) start start)) }
-    ensures work { IfOk result (λ back. OnFalse back (work_left search.new.seen.items search.new.waiting.items ≡ work_left search.old.seen.items search.old.waiting.items)) }
-    ensures searching { IfOk result (λ back. OnFalse back (Searching (rows_of graph.now) start search.new.seen.items search.new.waiting.items)) }
+    ensures work { IfOk result (λ back. OnFalse back (work_left search.new.seen.items search.new.waiting.items ≡
+        work_left search.old.seen.items search.old.waiting.items)) }
+    ensures searching { IfOk result (λ back.
+        OnFalse back (Searching (rows_of graph.now) start search.new.seen.items search.new.waiting.items)) }
 {
     for next in &graph[at] {
         let next = *next;
@@ -59,7 +63,8 @@ fn visit(search: &mut Search, graph: &[Vec<usize>], start: usize, at: usize) -> 
 fn look_at(search: &mut Search, place: usize) -> Result<(), Memory>
     requires in_range { place < length search.old.seen.items }
     ensures seen { OnOk result (search.new.seen.items ≡ slice_set search.old.seen.items place true) }
-    ensures waiting { OnOk result (search.new.waiting.items ≡ with_new search.old.seen.items search.old.waiting.items place) }
+    ensures waiting { OnOk result (search.new.waiting.items ≡
+        with_new search.old.seen.items search.old.waiting.items place) }
 {
     if search.seen[place] {
         return Ok(());

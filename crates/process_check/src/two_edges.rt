@@ -27,7 +27,8 @@ pub(crate) struct Tree<'a> {
     pub(crate) bits: &'a [WireBit],
 }
 
-/// Whether one of two edges is a reset, where the rules that act are at two. The tables are made where they are missing.
+/// Whether one of two edges is a reset, where the rules that act are at two. The tables are made where they are
+/// missing.
 pub(crate) fn two_edges_stand(
     alloc: Global,
     types: &Types,
@@ -36,9 +37,12 @@ pub(crate) fn two_edges_stand(
     tree: &Tree,
     acting: Acting,
 ) -> Result<bool, Memory>
-    ensures asked { OnOk result ((ports : Ports) → AreTypes types.now ports → WereAsked tests.old ports «module».now → WereAsked tests.new ports «module».now) }
-    ensures value { IfOk result (λ stand. (ports : Ports) → AreTypes types.now ports → WereAsked tests.old ports «module».now → DoCellsFit ports «module».now →
-        (rules : List SyncRule) → Acts acting.entry rules → stand ≡ edges.two_edges_stand ports «module».now tree.now.root.now tree.now.bits.now rules) }
+    ensures asked { OnOk result ((ports : Ports) → AreTypes types.now ports → WereAsked tests.old ports «module».now →
+        WereAsked tests.new ports «module».now) }
+    ensures value { IfOk result (λ stand. (ports : Ports) → AreTypes types.now ports →
+        WereAsked tests.old ports «module».now → DoCellsFit ports «module».now →
+        (rules : List SyncRule) → Acts acting.entry rules →
+        stand ≡ edges.two_edges_stand ports «module».now tree.now.root.now tree.now.bits.now rules) }
 {
     match acting {
         Acting::Pair(first, second) => {
@@ -58,9 +62,13 @@ fn edges_stand(
     first: &SyncRule,
     second: &SyncRule,
 ) -> Result<bool, Memory>
-    ensures asked { OnOk result ((ports : Ports) → AreTypes types.now ports → WereAsked tests.old ports «module».now → WereAsked tests.new ports «module».now) }
-    ensures value { IfOk result (λ stand. (ports : Ports) → AreTypes types.now ports → WereAsked tests.old ports «module».now → DoCellsFit ports «module».now →
-        stand ≡ edges.events_reset ports «module».now tree.now.root.now tree.now.bits.now (all_joins first.now.updates) (edges.edge_bit first.now.event) (edges.edge_bit second.now.event)) }
+    ensures asked { OnOk result ((ports : Ports) → AreTypes types.now ports → WereAsked tests.old ports «module».now →
+        WereAsked tests.new ports «module».now) }
+    ensures value { IfOk result (λ stand. (ports : Ports) → AreTypes types.now ports →
+        WereAsked tests.old ports «module».now → DoCellsFit ports «module».now →
+        stand ≡
+        edges.events_reset ports «module».now tree.now.root.now tree.now.bits.now (all_joins first.now.updates)
+        (edges.edge_bit first.now.event) (edges.edge_bit second.now.event)) }
 {
     let lines = first.updates.as_slice();
     match (edge_bit(&first.event), edge_bit(&second.event)) {
@@ -82,9 +90,13 @@ fn asked_resets(
     one: EdgeBit,
     other: EdgeBit,
 ) -> Result<bool, Memory>
-    ensures asked { OnOk result ((ports : Ports) → AreTypes types.now ports → WereAsked tests.old ports «module».now → WereAsked tests.new ports «module».now) }
-    ensures value { IfOk result (λ stand. (ports : Ports) → AreTypes types.now ports → WereAsked tests.old ports «module».now → DoCellsFit ports «module».now →
-        stand ≡ edges.one_resets ports «module».now tree.now.root.now tree.now.bits.now (all_joins lines.now) (edge_as one) (edge_as other)) }
+    ensures asked { OnOk result ((ports : Ports) → AreTypes types.now ports → WereAsked tests.old ports «module».now →
+        WereAsked tests.new ports «module».now) }
+    ensures value { IfOk result (λ stand. (ports : Ports) → AreTypes types.now ports →
+        WereAsked tests.old ports «module».now → DoCellsFit ports «module».now →
+        stand ≡
+        edges.one_resets ports «module».now tree.now.root.now tree.now.bits.now (all_joins lines.now) (edge_as one)
+        (edge_as other)) }
 {
     if let Some(tests) = tests {
         return one_resets(alloc, tests, module, tree, lines, one, other);
@@ -105,8 +117,11 @@ fn one_resets(
     one: EdgeBit,
     other: EdgeBit,
 ) -> Result<bool, Memory>
-    ensures value { IfOk result (λ stand. (ports : Ports) → AreTests tests.now ports «module».now → DoCellsFit ports «module».now →
-        stand ≡ edges.one_resets ports «module».now tree.now.root.now tree.now.bits.now (all_joins lines.now) (edge_as one) (edge_as other)) }
+    ensures value { IfOk result (λ stand. (ports : Ports) → AreTests tests.now ports «module».now →
+        DoCellsFit ports «module».now →
+        stand ≡
+        edges.one_resets ports «module».now tree.now.root.now tree.now.bits.now (all_joins lines.now) (edge_as one)
+        (edge_as other)) }
 {
     let tested = tests.is_tested(alloc, module, one.bit, tree.root)?;
     let other_tested = tests.is_tested(alloc, module, other.bit, tree.root)?;
@@ -129,8 +144,11 @@ fn resets_well(
     lines: &[Link],
     reset: EdgeBit,
 ) -> Result<bool, Memory>
-    ensures value { IfOk result (λ well. (ports : Ports) → AreTests tests.now ports «module».now → DoCellsFit ports «module».now →
-        well ≡ edges.resets_well ports «module».now tree.now.root.now tree.now.bits.now (all_joins lines.now) (edge_as reset)) }
+    ensures value { IfOk result (λ well. (ports : Ports) → AreTests tests.now ports «module».now →
+        DoCellsFit ports «module».now →
+        well ≡
+        edges.resets_well ports «module».now tree.now.root.now tree.now.bits.now (all_joins lines.now)
+        (edge_as reset)) }
 {
     let by = Level {
         tests,

@@ -36,7 +36,8 @@ fn put_rule(
     rule: &SyncRule,
 ) -> Result<(), Memory>
     ensures counts { OnOk result (AreCounts most.old given.old.items → AreCounts most.new given.new.items) }
-    ensures raised { OnOk result (AreCounts most.old given.old.items → AreRaised given.old.items (own_bits rule.now) given.new.items) }
+    ensures raised { OnOk result (AreCounts most.old given.old.items →
+        AreRaised given.old.items (own_bits rule.now) given.new.items) }
 {
     if !acts(rule) {
         return Ok(());
@@ -53,7 +54,8 @@ fn put_bits(
     own: &[WireBit],
 ) -> Result<(), Memory>
     ensures counts { OnOk result (AreCounts most.old given.old.items → AreCounts most.new given.new.items) }
-    ensures raised { OnOk result (AreCounts most.old given.old.items → AreRaised given.old.items own.now given.new.items) }
+    ensures raised { OnOk result (AreCounts most.old given.old.items →
+        AreRaised given.old.items own.now given.new.items) }
 {
     let mut here = HashMap::new(alloc);
     for bit in own {
@@ -84,7 +86,8 @@ fn put_bit(
 /// Counts the bit once more, up to twice, and answers its count.
 fn one_more(counts: &mut Counts, bit: WireBit) -> Result<u8, Memory>
     ensures count { IfOk result (λ count. count ≡ min 2 (counted counts.old bit + 1)) }
-    ensures counts { OnOk result ((b : WireBit) → counted counts.new b ≡ (if same_bit b bit then min 2 (counted counts.old bit + 1) else counted counts.old b)) }
+    ensures counts { OnOk result ((b : WireBit) → counted counts.new b ≡
+        (if same_bit b bit then min 2 (counted counts.old bit + 1) else counted counts.old b)) }
 {
     let count = if count_of(counts, bit) == 0 { 1 } else { 2 };
     set_count(counts, bit, count)?;
@@ -93,7 +96,8 @@ fn one_more(counts: &mut Counts, bit: WireBit) -> Result<u8, Memory>
 
 /// Says that the bit was counted so often.
 fn set_count(counts: &mut Counts, bit: WireBit, count: u8) -> Result<(), Memory>
-    ensures counts { OnOk result ((b : WireBit) → counted counts.new b ≡ (if same_bit b bit then count else counted counts.old b)) }
+    ensures counts { OnOk result ((b : WireBit) → counted counts.new b ≡
+        (if same_bit b bit then count else counted counts.old b)) }
 {
     counts.insert(bit, count)?;
     Ok(())

@@ -23,7 +23,8 @@ pub(crate) fn are_settled(
     itself: bool,
     lines: &[Link],
 ) -> Result<bool, Memory>
-    ensures value { IfOk result (λ settled. settled ≡ list_all (is_settled root.now bits.now itself) (all_joins lines.now)) }
+    ensures value { IfOk result (λ settled. settled ≡
+        list_all (is_settled root.now bits.now itself) (all_joins lines.now)) }
 {
     if lines.is_empty() {
         return Ok(true);
@@ -34,7 +35,8 @@ pub(crate) fn are_settled(
 
 /// The same by the leaves of the tree bits.
 fn settle_lines(leaves: &Leaves, itself: bool, lines: &[Link]) -> bool
-    ensures value { (root : CaseView) (bits : List WireBit) → AreLeaves leaves.now root bits → result ≡ list_all (is_settled root bits itself) (all_joins lines.now) }
+    ensures value { (root : CaseView) (bits : List WireBit) → AreLeaves leaves.now root bits →
+        result ≡ list_all (is_settled root bits itself) (all_joins lines.now) }
 {
     for line in lines {
         if !settle_line(leaves, itself, line.left.as_slice(), line.right.as_slice()) {
@@ -46,7 +48,8 @@ fn settle_lines(leaves: &Leaves, itself: bool, lines: &[Link]) -> bool
 
 /// The same of one line with these sides.
 fn settle_line(leaves: &Leaves, itself: bool, left: &[SigBit], right: &[SigBit]) -> bool
-    ensures value { (root : CaseView) (bits : List WireBit) → AreLeaves leaves.now root bits → result ≡ list_all (is_settled root bits itself) (joins left.now right.now) }
+    ensures value { (root : CaseView) (bits : List WireBit) → AreLeaves leaves.now root bits →
+        result ≡ list_all (is_settled root bits itself) (joins left.now right.now) }
 {
     for at in 0..left.len().min(right.len()) {
         if !settle_place(leaves, itself, left[at], right[at]) {
@@ -58,7 +61,8 @@ fn settle_line(leaves: &Leaves, itself: bool, left: &[SigBit], right: &[SigBit])
 
 /// The same of a place of a line.
 fn settle_place(leaves: &Leaves, itself: bool, left: SigBit, source: SigBit) -> bool
-    ensures value { (root : CaseView) (bits : List WireBit) → AreLeaves leaves.now root bits → result ≡ list_all (is_settled root bits itself) (joins (left ∷ []) (source ∷ [])) }
+    ensures value { (root : CaseView) (bits : List WireBit) → AreLeaves leaves.now root bits →
+        result ≡ list_all (is_settled root bits itself) (joins (left ∷ []) (source ∷ [])) }
 {
     match left {
         SigBit::Fixed(_) => true,
@@ -68,7 +72,8 @@ fn settle_place(leaves: &Leaves, itself: bool, left: SigBit, source: SigBit) -> 
 
 /// The same of a bit that is given this source.
 fn is_settled(leaves: &Leaves, itself: bool, bit: WireBit, source: SigBit) -> bool
-    ensures value { (root : CaseView) (bits : List WireBit) → AreLeaves leaves.now root bits → result ≡ is_settled root bits itself (record { bit = bit; source = source }) }
+    ensures value { (root : CaseView) (bits : List WireBit) → AreLeaves leaves.now root bits →
+        result ≡ is_settled root bits itself (record { bit = bit; source = source }) }
 {
     let summary = leaves.of_source(source);
     summary.is_one_constant() || (itself && summary.are_all(bit))

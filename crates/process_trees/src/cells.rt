@@ -18,7 +18,8 @@ pub(crate) fn cells_of(
     module: &Module,
     types: &Types,
 ) -> Result<BitTable<Driver>, Memory>
-    ensures value { IfOk result (λ table. (ports : rtl.Ports) → AreTypes types.now ports → HasDrivers table (cell_drives ports 0 «module».now.cells)) }
+    ensures value { IfOk result (λ table. (ports : rtl.Ports) → AreTypes types.now ports →
+        HasDrivers table (cell_drives ports 0 «module».now.cells)) }
 {
     let mut drivers = BitTable::of(alloc, module.wires.as_slice())?;
     add_cells(&mut drivers, types, module.cells.as_slice())?;
@@ -27,7 +28,8 @@ pub(crate) fn cells_of(
 
 /// What the cells drive.
 fn add_cells(drivers: &mut BitTable<Driver>, types: &Types, cells: &[Cell]) -> Result<(), Memory>
-    ensures ok { OnOk result ((ports : rtl.Ports) → AreTypes types.now ports → Adds drivers.old (cell_drives ports 0 cells.now) drivers.new) }
+    ensures ok { OnOk result ((ports : rtl.Ports) → AreTypes types.now ports →
+        Adds drivers.old (cell_drives ports 0 cells.now) drivers.new) }
 {
     for (place, cell) in cells.iter().enumerate() {
         let cell_type = types.find(cell.kind_name.as_slice());
@@ -50,7 +52,8 @@ fn add_pins(
     cell: u32,
     pins: &[Pin],
 ) -> Result<(), Memory>
-    ensures ok { OnOk result ((type : rtl.CellType) → IsType cell_type.now type → Adds drivers.old (pin_drives type cell 0 pins.now) drivers.new) }
+    ensures ok { OnOk result ((type : rtl.CellType) → IsType cell_type.now type →
+        Adds drivers.old (pin_drives type cell 0 pins.now) drivers.new) }
 {
     for (place, pin) in pins.iter().enumerate() {
         add_pin(drivers, cell_type, cell, place as u64, pin)?;
@@ -66,7 +69,8 @@ fn add_pin(
     place: u64,
     pin: &Pin,
 ) -> Result<(), Memory>
-    ensures ok { OnOk result ((type : rtl.CellType) → IsType cell_type.now type → Adds drivers.old (drives_of_pin type cell place pin.now) drivers.new) }
+    ensures ok { OnOk result ((type : rtl.CellType) → IsType cell_type.now type →
+        Adds drivers.old (drives_of_pin type cell place pin.now) drivers.new) }
 {
     if drives_pin(cell_type, pin.name.as_slice()) {
         return add_places(drivers, cell, place, pin.sig.as_slice());

@@ -52,7 +52,8 @@ impl EventTests {
     ) -> Result<Option<SigBit>, Memory>
         ensures value { (links : List Link) → AreLinks self.now links → IfOk result (λ found.
             let inputs = flat_map (λ (s : List SigBit). s) (map (λ s. s.now) signals.now) in
-            found ≡ (if count_by (is_open (all_joins links)) inputs == 1 then find (is_open (all_joins links)) inputs else None)) }
+            found ≡ (if count_by (is_open (all_joins links)) inputs ==
+            1 then find (is_open (all_joins links)) inputs else None)) }
     {
         let mut inputs = Vec::new(alloc);
         for signal in signals {
@@ -64,7 +65,8 @@ impl EventTests {
     /// The one of these places that follows to no constant, where it is one.
     fn only_open(&self, inputs: &[SigBit]) -> Option<SigBit>
         ensures value { (links : List Link) → AreLinks self.now links →
-            result ≡ (if count_by (is_open (all_joins links)) inputs.now == 1 then find (is_open (all_joins links)) inputs.now else None) }
+            result ≡ (if count_by (is_open (all_joins links)) inputs.now ==
+            1 then find (is_open (all_joins links)) inputs.now else None) }
     {
         let mut found = None;
         for place in inputs {

@@ -27,8 +27,8 @@ pub struct Leaves {
 }
 
 impl Leaves {
-    /// Those below a root whose switches are read by the rules, which assigns these bits. One bit may be asked for, whether it
-    /// is among the leaves.
+    /// Those below a root whose switches are read by the rules, which assigns these bits. One bit may be asked for,
+    /// whether it is among the leaves.
     pub fn of(
         alloc: Global,
         root: &Case,
@@ -49,7 +49,8 @@ impl Leaves {
 
     /// What the leaves of a value come to: a constant and a bit that is no tree bit come to themselves.
     pub fn of_source(&self, source: SigBit) -> Summary
-        ensures value { (root : CaseView) (bits : List WireBit) → AreLeaves self.now root bits → result ≡ summary_of self.now.asked (leaves_of (expanded root bits source)) }
+        ensures value { (root : CaseView) (bits : List WireBit) → AreLeaves self.now root bits →
+            result ≡ summary_of self.now.asked (leaves_of (expanded root bits source)) }
     {
         let round = Round {
             numbers: &self.numbers,
@@ -69,7 +70,8 @@ impl Reaching {
         bit: WireBit,
         source: SigBit,
     ) -> Result<bool, Memory>
-        ensures value { IfOk result (λ holds. (root : CaseView) → AreReaching self.now root bits.now → holds ≡ flat.may_hold root bits.now (record { bit = bit; source = source })) }
+        ensures value { IfOk result (λ holds. (root : CaseView) → AreReaching self.now root bits.now →
+            holds ≡ flat.may_hold root bits.now (record { bit = bit; source = source })) }
     {
         if !is_bit(bit, source) && !self.is_read(bit) {
             return Ok(false);
@@ -90,7 +92,8 @@ impl Reaching {
         bits: &[WireBit],
         asked: Option<WireBit>,
     ) -> Result<Vec<Summary>, Memory>
-        ensures value { IfOk result (λ summaries. (root : CaseView) → AreReaching self.now root bits.now → AreAfter asked root bits.now (length bits.now) summaries.items) }
+        ensures value { IfOk result (λ summaries. (root : CaseView) → AreReaching self.now root bits.now →
+            AreAfter asked root bits.now (length bits.now) summaries.items) }
     {
         let mut summaries = first(alloc, bits, asked)?;
         for _round in 0..bits.len() {

@@ -30,8 +30,10 @@ pub struct Level<'a> {
 /// The root in which each switch that tests the bit keeps only the case that is taken with the bit at the level, as a
 /// default, and none where none is taken. The root's switches are read by the rules.
 pub fn at_level(alloc: Global, by: &Level, root: &Case) -> Result<Case, Memory>
-    ensures value { (ports : Ports) → AreTests by.now.tests.now ports by.now.«module».now → DoCellsFit ports by.now.«module».now →
-        IfOk result (λ made. made ≡ open_case (switch_test ports by.now.«module».now by.now.event) by.now.level root.now) }
+    ensures value { (ports : Ports) → AreTests by.now.tests.now ports by.now.«module».now →
+        DoCellsFit ports by.now.«module».now →
+        IfOk result (λ made. made ≡
+        open_case (switch_test ports by.now.«module».now by.now.event) by.now.level root.now) }
 {
     decided_case(alloc, by, root.patterns.copy()?, root)
 }
@@ -44,8 +46,10 @@ fn decided_case(
     patterns: Seq<SigSpec>,
     case: &Case,
 ) -> Result<Case, Memory>
-    ensures value { (ports : Ports) → AreTests by.now.tests.now ports by.now.«module».now → DoCellsFit ports by.now.«module».now →
-        IfOk result (λ made. made ≡ case_at (switch_test ports by.now.«module».now by.now.event) by.now.level patterns case.now) }
+    ensures value { (ports : Ports) → AreTests by.now.tests.now ports by.now.«module».now →
+        DoCellsFit ports by.now.«module».now →
+        IfOk result (λ made. made ≡
+        case_at (switch_test ports by.now.«module».now by.now.event) by.now.level patterns case.now) }
 {
     let mut switches = Vec::with_capacity(alloc, case.switches.len())?;
     for switch in &case.switches {
@@ -62,8 +66,10 @@ fn decided_case(
 /// The switch, decided where it tests the bit.
 #[cycle(tree)]
 fn decided_switch(alloc: Global, by: &Level, switch: &Switch) -> Result<Switch, Memory>
-    ensures value { (ports : Ports) → AreTests by.now.tests.now ports by.now.«module».now → DoCellsFit ports by.now.«module».now →
-        IfOk result (λ made. made ≡ switch_at (switch_test ports by.now.«module».now by.now.event) by.now.level switch.now) }
+    ensures value { (ports : Ports) → AreTests by.now.tests.now ports by.now.«module».now →
+        DoCellsFit ports by.now.«module».now →
+        IfOk result (λ made. made ≡
+        switch_at (switch_test ports by.now.«module».now by.now.event) by.now.level switch.now) }
 {
     match by.tests.switch_test(alloc, by.module, by.event, switch)? {
         None => open_switch(alloc, by, switch),
@@ -74,8 +80,10 @@ fn decided_switch(alloc: Global, by: &Level, switch: &Switch) -> Result<Switch, 
 /// The switch with the switches in its cases decided.
 #[cycle(tree)]
 fn open_switch(alloc: Global, by: &Level, switch: &Switch) -> Result<Switch, Memory>
-    ensures value { (ports : Ports) → AreTests by.now.tests.now ports by.now.«module».now → DoCellsFit ports by.now.«module».now →
-        IfOk result (λ made. made ≡ switch_by (switch_test ports by.now.«module».now by.now.event) by.now.level None switch.now) }
+    ensures value { (ports : Ports) → AreTests by.now.tests.now ports by.now.«module».now →
+        DoCellsFit ports by.now.«module».now →
+        IfOk result (λ made. made ≡
+        switch_by (switch_test ports by.now.«module».now by.now.event) by.now.level None switch.now) }
 {
     let mut cases = Vec::with_capacity(alloc, switch.cases.len())?;
     for case in &switch.cases {
@@ -87,8 +95,10 @@ fn open_switch(alloc: Global, by: &Level, switch: &Switch) -> Result<Switch, Mem
 /// The switch with the case alone that is taken.
 #[cycle(tree)]
 fn taken_switch(alloc: Global, by: &Level, inverse: bool, switch: &Switch) -> Result<Switch, Memory>
-    ensures value { (ports : Ports) → AreTests by.now.tests.now ports by.now.«module».now → DoCellsFit ports by.now.«module».now →
-        IfOk result (λ made. made ≡ switch_by (switch_test ports by.now.«module».now by.now.event) by.now.level (Some inverse) switch.now) }
+    ensures value { (ports : Ports) → AreTests by.now.tests.now ports by.now.«module».now →
+        DoCellsFit ports by.now.«module».now →
+        IfOk result (λ made. made ≡
+        switch_by (switch_test ports by.now.«module».now by.now.event) by.now.level (Some inverse) switch.now) }
 {
     let bit = tested_bit(by.level, inverse);
     let mut cases = Vec::new(alloc);

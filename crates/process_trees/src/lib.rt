@@ -1,5 +1,5 @@
-//! The trees of decisions of processes: switches by their rules, the bits that a tree drives and what leaves their values
-//! may come to, which switches test the bit of an event, and the rules that act.
+//! The trees of decisions of processes: switches by their rules, the bits that a tree drives and what leaves their
+//! values may come to, which switches test the bit of an event, and the rules that act.
 #![tactic(auto)]
 
 mod acting;

@@ -75,7 +75,8 @@ fn begin(alloc: Global, count: usize) -> Result<Walk, Memory>
 fn ended(walk: Walk) -> Result<Vec<Vec<SigBit>>, Memory>
     ensures size { IfOk result (λ rows. length rows.items ≡ length walk.sources.items) }
     ensures value { IfOk result (λ rows. (k : ℕ) → k < length walk.sources.items →
-        sources_at rows.items k ≡ sources_at walk.sources.items k ++ if_kept (unset_at walk.unset.items k) (Fixed X ∷ [])) }
+        sources_at rows.items k ≡ sources_at walk.sources.items k ++
+        if_kept (unset_at walk.unset.items k) (Fixed X ∷ [])) }
 {
     let Walk { mut sources, unset } = walk;
     for at in 0..sources.len() {
@@ -87,7 +88,8 @@ fn ended(walk: Walk) -> Result<Vec<Vec<SigBit>>, Memory>
 /// Puts x last in the row of the number, where a value of before the tree may be left.
 fn end_row(rows: &mut Vec<Vec<SigBit>>, at: usize, is_unset: bool) -> Result<(), Memory>
     requires in_range { at < length rows.old.items }
-    ensures rows { OnOk result (rows_of rows.new.items ≡ slice_set (rows_of rows.old.items) at (sources_at rows.old.items at ++ if_kept is_unset (Fixed X ∷ []))) }
+    ensures rows { OnOk result (rows_of rows.new.items ≡
+        slice_set (rows_of rows.old.items) at (sources_at rows.old.items at ++ if_kept is_unset (Fixed X ∷ []))) }
 {
     if is_unset {
         return put_source(rows, at, SigBit::Fixed(Bit::X));
@@ -97,7 +99,8 @@ fn end_row(rows: &mut Vec<Vec<SigBit>>, at: usize, is_unset: bool) -> Result<(),
 
 /// The bits that stand in these rows.
 fn read_bits(alloc: Global, rows: &[Vec<SigBit>]) -> Result<HashSet<WireBit>, Memory>
-    ensures read { IfOk result (λ read. (q : WireBit) → contains same_bit read q ≡ list_any (list_any (is_bit q)) (rows_of rows.now)) }
+    ensures read { IfOk result (λ read. (q : WireBit) →
+        contains same_bit read q ≡ list_any (list_any (is_bit q)) (rows_of rows.now)) }
 {
     let mut read = HashSet::new(alloc);
     for row in rows {
@@ -108,7 +111,8 @@ fn read_bits(alloc: Global, rows: &[Vec<SigBit>]) -> Result<HashSet<WireBit>, Me
 
 /// Puts in the bits that stand in a row.
 fn put_read(read: &mut HashSet<WireBit>, row: &[SigBit]) -> Result<(), Memory>
-    ensures read { OnOk result ((q : WireBit) → contains same_bit read.new q ≡ (contains same_bit read.old q || list_any (is_bit q) row.now)) }
+    ensures read { OnOk result ((q : WireBit) → contains same_bit read.new q ≡
+        (contains same_bit read.old q || list_any (is_bit q) row.now)) }
 {
     for source in row {
         put_place(read, *source)?;
@@ -118,7 +122,8 @@ fn put_read(read: &mut HashSet<WireBit>, row: &[SigBit]) -> Result<(), Memory>
 
 /// Puts in a place, where it is a bit of a wire.
 fn put_place(read: &mut HashSet<WireBit>, source: SigBit) -> Result<(), Memory>
-    ensures read { OnOk result ((q : WireBit) → contains same_bit read.new q ≡ (contains same_bit read.old q || is_bit q source)) }
+    ensures read { OnOk result ((q : WireBit) → contains same_bit read.new q ≡
+        (contains same_bit read.old q || is_bit q source)) }
 {
     if let SigBit::Wire(bit) = source {
         read.insert(bit)?;

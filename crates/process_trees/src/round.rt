@@ -23,7 +23,8 @@ pub(crate) struct Round<'a> {
 impl Round<'_> {
     /// What the leaf comes to.
     pub(crate) fn leaf(&self, source: SigBit) -> Summary
-        ensures value { (bits : List WireBit) → AreNumbers self.now.numbers.now bits → result ≡ leaf_summary self.now.asked bits self.now.summaries.now source }
+        ensures value { (bits : List WireBit) → AreNumbers self.now.numbers.now bits →
+            result ≡ leaf_summary self.now.asked bits self.now.summaries.now source }
     {
         let own = Summary::of(self.asked, source);
         let SigBit::Wire(bit) = source else {
@@ -37,7 +38,8 @@ impl Round<'_> {
 
     /// What these sources come to together, the constant x where there are none.
     pub(crate) fn together(&self, sources: &[SigBit]) -> Summary
-        ensures value { (bits : List WireBit) → AreNumbers self.now.numbers.now bits → result ≡ sources_summary (leaf_summary self.now.asked bits self.now.summaries.now) sources.now }
+        ensures value { (bits : List WireBit) → AreNumbers self.now.numbers.now bits →
+            result ≡ sources_summary (leaf_summary self.now.asked bits self.now.summaries.now) sources.now }
     {
         let Some(first) = sources.first() else {
             return self.leaf(SigBit::Fixed(Bit::X));

@@ -71,7 +71,8 @@ impl EventTests {
     /// The cell that drives a bit.
     fn cell_behind<'a>(&self, module: &'a Module, bit: WireBit) -> Option<&'a Cell>
         ensures value { (ports : Ports) → AreTests self.now ports «module».now →
-            option_map (λ c. c.now) result ≡ option_and_then (cell_in «module».now.cells) (driver_in (cell_drives ports 0 «module».now.cells) bit) }
+            option_map (λ c. c.now) result ≡
+            option_and_then (cell_in «module».now.cells) (driver_in (cell_drives ports 0 «module».now.cells) bit) }
     {
         match self.cells.get(bit) {
             Some(Driver::Cell(place)) => module.cells.as_slice().get(place.cell as usize),
@@ -116,7 +117,8 @@ impl EventTests {
     fn words(&self, alloc: Global, signals: &[&[SigBit]], bit: Bit) -> Result<Vec<Bits>, Memory>
         ensures widths { IfOk result (λ words. map length words.items ≡ map length (map (λ s. s.now) signals.now)) }
         ensures value { (links : List Link) → AreLinks self.now links →
-            IfOk result (λ words. words.items ≡ map (map (λ s. probed bit (follow_joins (all_joins links) s))) (map (λ s. s.now) signals.now)) }
+            IfOk result (λ words. words.items ≡
+            map (map (λ s. probed bit (follow_joins (all_joins links) s))) (map (λ s. s.now) signals.now)) }
     {
         let mut words = Vec::with_capacity(alloc, signals.len())?;
         for signal in signals {

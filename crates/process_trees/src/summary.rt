@@ -43,14 +43,16 @@ impl Summary {
 
     /// Whether all leaves are one constant.
     pub fn is_one_constant(self) -> bool
-        ensures value { (asked : Option WireBit) (leaves : List SigBit) → self ≡ summary_of asked leaves → result ≡ are_one_constant leaves }
+        ensures value { (asked : Option WireBit) (leaves : List SigBit) → self ≡ summary_of asked leaves →
+            result ≡ are_one_constant leaves }
     {
         matches!(self.only, Some(SigBit::Fixed(_)))
     }
 
     /// Whether all leaves are the bit.
     pub fn are_all(self, bit: WireBit) -> bool
-        ensures value { (asked : Option WireBit) (d : Decision) → self ≡ summary_of asked (leaves_of d) → result ≡ are_all bit (leaves_of d) }
+        ensures value { (asked : Option WireBit) (d : Decision) → self ≡ summary_of asked (leaves_of d) →
+            result ≡ are_all bit (leaves_of d) }
     {
         match self.only {
             Some(leaf) => is_bit(bit, leaf),

@@ -29,7 +29,8 @@ pub struct EventTests {
 impl EventTests {
     /// The tables of the module, of which these are the types of the cells.
     pub fn of(alloc: Global, module: &Module, types: &Types) -> Result<EventTests, Memory>
-        ensures value { IfOk result (λ tests. (ports : rtl.Ports) → AreTypes types.now ports → AreTests tests ports «module».now) }
+        ensures value { IfOk result (λ tests. (ports : rtl.Ports) → AreTypes types.now ports →
+            AreTests tests ports «module».now) }
     {
         Ok(EventTests {
             cells: cells_of(alloc, module, types)?,
@@ -69,7 +70,8 @@ impl EventTests {
 
     /// What the first connection of a bit gives it.
     fn source(&self, bit: WireBit) -> Option<SigBit>
-        ensures value { (links : List Link) → AreLinks self.now links → result ≡ back (all_joins links) (SigBit.Wire bit) }
+        ensures value { (links : List Link) → AreLinks self.now links →
+            result ≡ back (all_joins links) (SigBit.Wire bit) }
     {
         linked(self.links.driver(bit))
     }

@@ -55,7 +55,8 @@ impl EventTests {
         switch: &Switch,
     ) -> Result<Option<bool>, Memory>
         ensures value { (ports : Ports) → AreTests self.now ports «module».now → DoCellsFit ports «module».now →
-            IfOk result (λ test. test ≡ switch_test ports «module».now event switch.now.signal (cases_patterns switch.now.cases)) }
+            IfOk result (λ test. test ≡
+            switch_test ports «module».now event switch.now.signal (cases_patterns switch.now.cases)) }
     {
         match only_place(switch.signal.as_slice()) {
             Some(place) => self.place_test(alloc, module, event, place, &switch.cases),
@@ -73,7 +74,8 @@ impl EventTests {
         cases: &[Case],
     ) -> Result<Option<bool>, Memory>
         ensures value { (ports : Ports) → AreTests self.now ports «module».now → DoCellsFit ports «module».now →
-            IfOk result (λ test. test ≡ switch_test ports «module».now event (place ∷ []) (cases_patterns (cases_of cases.now))) }
+            IfOk result (λ test. test ≡ switch_test ports «module».now event (place ∷
+            []) (cases_patterns (cases_of cases.now))) }
     {
         if have_constants(cases) {
             self.test_of(alloc, module, event, place)

@@ -36,7 +36,8 @@ pub(crate) fn lowest_bit(
 /// The lowest bit of the value of a cell on words, x where its parameters and pins have a fault.
 fn word_bit(alloc: Global, kind: WordKind, cell: &Cell, words: &[Bits]) -> Result<Bit, Memory>
     requires widths { map length words.now ≡ map length (input_signals (Cells.Word kind) cell.now) }
-    ensures value { misfit (Cells.Word kind) cell.now ≡ None → IfOk result (λ bit. bit ≡ lowest_bit (Cells.Word kind) cell.now words.now) }
+    ensures value { misfit (Cells.Word kind) cell.now ≡ None →
+        IfOk result (λ bit. bit ≡ lowest_bit (Cells.Word kind) cell.now words.now) }
 {
     match cell_shape(alloc, CellKind::Word(kind), cell) {
         Ok(shape) => {

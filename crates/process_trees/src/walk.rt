@@ -1,11 +1,13 @@
 //! A walk back through a tree for all its bits at once.
 
-ghost use Rattle.std.specs.Prelude.{◌≡◌, ◌&&◌, ◌<◌, ◌++◌, ◌∷◌, [], ℕ, Bool, not, List, if◌then◌else◌, Some, None, length, slice_set, filter, true, false, IfOk, OnOk};
+ghost use Rattle.std.specs.Prelude.{◌≡◌, ◌&&◌, ◌<◌, ◌++◌, ◌∷◌, [], ℕ, Bool, not, List, if◌then◌else◌, Some, None};
+ghost use Rattle.std.specs.Prelude.{length, slice_set, filter, true, false, IfOk, OnOk};
 ghost use Rattle.rtl_ir.specs.Assigns.{assigned, last_source};
 ghost use Rattle.rtl_ir.specs.Follow.{joins};
 ghost use Rattle.process_trees.specs.Lines.{is_bit};
 ghost use Rattle.process_trees.specs.Reach.{given_last, reach_case, reach_switch};
-ghost use Rattle.process_trees.specs.Walk.{AreSet, Gives, Walked, is_among, marked, rows_of, sources_at, unset_among, unset_at};
+ghost use Rattle.process_trees.specs.Walk.{AreSet, Gives, Walked, is_among, marked, rows_of, sources_at, unset_among};
+ghost use Rattle.process_trees.specs.Walk.{unset_at};
 
 use crate::numbers::Numbers;
 use rtl_bits::Memory;
@@ -77,7 +79,8 @@ fn is_default(case: &Case) -> bool
     case.patterns.as_slice().is_empty()
 }
 
-/// Of the numbers that all cases before set, those that this case sets too: where there is none before, all that it sets.
+/// Of the numbers that all cases before set, those that this case sets too: where there is none before, all that it
+/// sets.
 fn set_by_all(
     alloc: Global,
     unset: &[bool],
@@ -139,7 +142,8 @@ fn walk_assigns(
     assigns: &[Link],
 ) -> Result<(), Memory>
     ensures walked { OnOk result (Walked numbers.now (λ b. given_last (assigned assigns.now b)) walk.old walk.new) }
-    ensures set { OnOk result ((before : List Bool) → AreSet set.old.items before walk.old.unset.items → AreSet set.new.items before walk.new.unset.items) }
+    ensures set { OnOk result ((before : List Bool) → AreSet set.old.items before walk.old.unset.items →
+        AreSet set.new.items before walk.new.unset.items) }
 {
     for at in (0..assigns.len()).rev() {
         let line = &assigns[at];
@@ -162,8 +166,10 @@ fn walk_line(
     left: &[SigBit],
     right: &[SigBit],
 ) -> Result<(), Memory>
-    ensures walked { OnOk result (Walked numbers.now (λ b. given_last (last_source (joins left.now right.now) b)) walk.old walk.new) }
-    ensures set { OnOk result ((before : List Bool) → AreSet set.old.items before walk.old.unset.items → AreSet set.new.items before walk.new.unset.items) }
+    ensures walked { OnOk result (Walked numbers.now (λ b.
+        given_last (last_source (joins left.now right.now) b)) walk.old walk.new) }
+    ensures set { OnOk result ((before : List Bool) → AreSet set.old.items before walk.old.unset.items →
+        AreSet set.new.items before walk.new.unset.items) }
 {
     for at in (0..left.len().min(right.len())).rev() {
         walk_place(numbers, walk, set, left[at], right[at])?;
@@ -179,8 +185,10 @@ fn walk_place(
     left: SigBit,
     source: SigBit,
 ) -> Result<(), Memory>
-    ensures walked { OnOk result (Walked numbers.now (λ b. given_last (if is_bit left b then Some source else None)) walk.old walk.new) }
-    ensures set { OnOk result ((before : List Bool) → AreSet set.old.items before walk.old.unset.items → AreSet set.new.items before walk.new.unset.items) }
+    ensures walked { OnOk result (Walked numbers.now (λ b.
+        given_last (if is_bit left b then Some source else None)) walk.old walk.new) }
+    ensures set { OnOk result ((before : List Bool) → AreSet set.old.items before walk.old.unset.items →
+        AreSet set.new.items before walk.new.unset.items) }
 {
     let SigBit::Wire(bit) = left else {
         return Ok(());
@@ -195,7 +203,8 @@ impl Walk {
     /// Gives the bit of the number this source, where a value of before may be left of it; none is then.
     fn give(&mut self, set: &mut Vec<usize>, at: usize, source: SigBit) -> Result<(), Memory>
         ensures gives { OnOk result (Gives at source self.old self.new) }
-        ensures set { OnOk result ((before : List Bool) → AreSet set.old.items before self.old.unset.items → AreSet set.new.items before self.new.unset.items) }
+        ensures set { OnOk result ((before : List Bool) → AreSet set.old.items before self.old.unset.items →
+            AreSet set.new.items before self.new.unset.items) }
     {
         if at < self.sources.len() && at < self.unset.len() && self.unset[at] {
             put_source(&mut self.sources, at, source)?;
@@ -213,7 +222,8 @@ pub(crate) fn put_source(
     source: SigBit,
 ) -> Result<(), Memory>
     requires in_range { at < length rows.old.items }
-    ensures rows { OnOk result (rows_of rows.new.items ≡ slice_set (rows_of rows.old.items) at (sources_at rows.old.items at ++ (source ∷ []))) }
+    ensures rows { OnOk result (rows_of rows.new.items ≡
+        slice_set (rows_of rows.old.items) at (sources_at rows.old.items at ++ (source ∷ []))) }
 {
     rows[at].push(source)?;
     Ok(())

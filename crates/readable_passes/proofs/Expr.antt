@@ -257,7 +257,7 @@ module _ (table : PortTable) (m : Module) (ready : IsReady (types.table_ports ta
     links = All-nil (IsLink m.wires);
   }
 
-standing-more : (done : List (Option Cell)) (slot : Option Cell) (rest : List Cell) → flat_map listed done ++ (listed slot ++ rest) ≡ flat_map listed (done ++ slot ∷ []) ++ rest
+pub standing-more : (done : List (Option Cell)) (slot : Option Cell) (rest : List Cell) → flat_map listed done ++ (listed slot ++ rest) ≡ flat_map listed (done ++ slot ∷ []) ++ rest
 standing-more done slot rest =
     sym (append_assoc (flat_map listed done) (listed slot) rest)
     ∙ ap (λ z. (flat_map listed done ++ z) ++ rest) (sym (append-nil (listed slot)))

@@ -4,6 +4,10 @@ pub mod Merge
 pub mod Expr
 pub mod Clean
 pub mod Rounds
+pub mod Visits
+pub mod Reduce
+pub mod Muxtree
+pub mod Dff
 pub mod Carried
 pub mod Tree
 pub mod Reset

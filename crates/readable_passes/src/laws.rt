@@ -20,12 +20,16 @@ ghost use Rattle.memory_laws.specs.Named as words;
 ghost use Rattle.opt_clean.specs.Clean.{clean_of};
 ghost use Rattle.opt_expr.specs.Sweep.{expr_of};
 ghost use Rattle.opt_merge.specs.Merge.{merge_of};
+ghost use Rattle.opt_more.specs.Dff.{dff_of};
+ghost use Rattle.opt_more.specs.Muxtree.{muxtree_of};
+ghost use Rattle.opt_more.specs.Reduce.{reduce_of};
 ghost use Rattle.opt_rounds.specs.Rounds.{opt_of};
 ghost use Rattle.readable_passes.specs.Named.{NamesMemories};
 
 use rtl_ir::{Module, PortTable};
 
-/// A module that a text can give stays one under `opt_expr`, `opt_merge`, `opt_clean` and `opt`.
+/// A module that a text can give stays one under `opt_expr`, `opt_merge`, `opt_clean` and `opt`, and under
+/// `opt_muxtree`, `opt_reduce` and `opt_dff`.
 pub fn optimized_modules_are_readable()
     ensures folded { (table : PortTable) (m : Module) → IsReady (table_ports table.modules) m → IsReadableModule m →
         IsReadableModule (expr_of (table_ports table.modules) m) }
@@ -34,6 +38,9 @@ pub fn optimized_modules_are_readable()
         IsReadableModule (clean_of ports m) }
     ensures rounds { (table : PortTable) (m : Module) → IsReady (table_ports table.modules) m → IsReadableModule m →
         IsReadableModule (opt_of (table_ports table.modules) m) }
+    ensures chosen { (ports : Ports) (m : Module) → IsReadableModule m → IsReadableModule (muxtree_of ports m) }
+    ensures gathered { (ports : Ports) (m : Module) → IsReadableModule m → IsReadableModule (reduce_of ports m) }
+    ensures settled { (ports : Ports) (m : Module) → IsReadableModule m → IsReadableModule (dff_of ports m) }
 {}
 
 /// A module that a text can give stays one under the first three steps of `proc`, and its items are such as a text can

@@ -6,3 +6,4 @@ pub mod Scripts
 pub mod Cold
 pub mod Driven
 pub mod Recursion
+pub mod Faultless

@@ -14,6 +14,9 @@ use Rattle.opt_clean.specs.Clean.{clean_of, is_all_inside}
 use Rattle.opt_expr.specs.Sweep.{expr_of}
 use Rattle.opt_merge.specs.Merge.{merge_of}
 use Rattle.opt_rounds.specs.Rounds.{opt_of}
+use Rattle.opt_more.specs.Dff.{dff_of}
+use Rattle.opt_more.specs.Muxtree.{muxtree_of}
+use Rattle.opt_more.specs.Reduce.{reduce_of}
 use Rattle.fsm_steps.specs.Within as machines
 use Rattle.fsm_steps.proofs.Giving as machine_giving
 use Rattle.mem_steps.specs.Within as memories
@@ -24,17 +27,20 @@ use Rattle.proc_steps.proofs.Limits as steps
 use Rattle.tech_map.specs.Techmap.{beside, techmap_of}
 use Rattle.script_core.specs.declared.outcome.Outcome.TheVariants.{Done}
 use Rattle.script_core.specs.declared.word.Word.{Word}
-use Rattle.script_core.specs.declared.word.Word.TheVariants.{Proc, OptExpr, OptMerge, OptClean, Opt, Fsm, Memory, Techmap}
+use Rattle.script_core.specs.declared.word.Word.TheVariants.{Proc, OptExpr, OptMerge, OptClean, Opt, Fsm, Memory, Techmap, Muxtree, Reduce, Dff}
 use Rattle.script_core.specs.Fold.{MayBeGiven, MayGoOn, MayStart, StartsWithProc, after_word, fold_script, pass_of, techmap_within}
 use Rattle.script_core.proofs.Stepping.{given_word, word_goes}
 use Rattle.rtl_readable.specs.Readable.{IsReadableModule}
 use Rattle.readable_passes.specs.Named.{IsNamed, NamesMemories}
 use Rattle.readable_passes.proofs.Clean.{clean_reads}
+use Rattle.readable_passes.proofs.Dff.{dff_reads}
 use Rattle.readable_passes.proofs.Expr.{expr_reads}
 use Rattle.readable_passes.proofs.Limits.{items_of, within_limits}
 use Rattle.readable_passes.proofs.Machines.{fsm_reads}
 use Rattle.readable_passes.proofs.Memories.{all_memories_read}
 use Rattle.readable_passes.proofs.Merge.{merge_reads}
+use Rattle.readable_passes.proofs.Muxtree.{muxtree_reads}
+use Rattle.readable_passes.proofs.Reduce.{reduce_reads}
 use Rattle.readable_passes.proofs.Rounds.{opt_reads}
 use Rattle.readable_maps.proofs.Techmap.{techmap_fewer, techmap_reads}
 use Rattle.readable_runs.proofs.Fitting.{codes_fit, readable_fits, words_fit}
@@ -115,6 +121,9 @@ word_reads table Opt m n given names is e = reads_same table m is (opt_of (table
 word_reads table Fsm m n given names is e = fsm_word table m is given n e
 word_reads table Memory m n given names is e = memory_word table m is given n e
 word_reads table Techmap m n given names is e = techmap_word table m is n e
+word_reads table Muxtree m n given names is e = reads_same table m is (muxtree_of (table_ports table.modules) m) n (muxtree_reads (table_ports table.modules) m is) e
+word_reads table Reduce m n given names is e = reads_same table m is (reduce_of (table_ports table.modules) m) n (reduce_reads (table_ports table.modules) m is) e
+word_reads table Dff m n given names is e = reads_same table m is (dff_of (table_ports table.modules) m) n (dff_reads (table_ports table.modules) m is) e
 
 -- words
 module _ (table : PortTable) where

@@ -1,9 +1,10 @@
 //! Laws of scripts and of cold runs over modules that a text can give. Each is the contract of a function that does
 //! nothing.
 
-ghost use Rattle.std.specs.Prelude.{◌≡◌, ℕ, List, [], Some, slice_get};
-ghost use Rattle.rtl_ir.specs.Faults.{check_faults};
+ghost use Rattle.std.specs.Prelude.{◌≡◌, ℕ, List, [], Some, slice_get, true};
+ghost use Rattle.rtl_ir.specs.Faults.{check_faults, faults_within};
 ghost use Rattle.rtl_ir.specs.Faults.Recursion.{recursion_faults};
+ghost use Rattle.rtl_ir.specs.Scope.{without_processes};
 ghost use Rattle.net_model.specs.Refine.{HasOneDriver};
 ghost use Rattle.rtl_read.specs.Reads.{Reads};
 ghost use Rattle.rtl_write.specs.Text.{text_of};
@@ -14,6 +15,7 @@ ghost use Rattle.script_core.specs.Built.{IsValueOf};
 ghost use Rattle.script_core.specs.Cold.{IsNetlist, cold};
 ghost use Rattle.script_core.specs.Fold.{MayBeGiven, MayStart, StartsWithProc, fold_script, pass_of};
 ghost use Rattle.script_core.specs.Keys.{key_of};
+ghost use Rattle.script_core.specs.Mapping.{maps_all};
 ghost use Rattle.readable_runs.specs.Short.{HasShortMemories, NamesShortMemories};
 
 use rtl_ir::{Design, Module, PortTable};
@@ -49,10 +51,18 @@ pub fn built_modules_are_readable()
         StartsWithProc script → IsValueOf (key_of d.modules at script) (Done after) → IsReadableModule after }
 {}
 
-/// Where the cold run of an accepted design is a netlist, no bit of it has two drivers, and no module stands in itself.
+/// Where the cold run of an accepted design is a netlist, no bit of it has two drivers, no module stands in itself, and
+/// the check finds no fault in it: none at all where the script maps all to gates, and else none as far as the clocks
+/// of the write ports of a memory are not compared, since a pass may join two of them or take them apart.
 pub fn cold_runs_are_well_formed()
     ensures one_driver { (d netlist : Design) (script : List Word) → IsReadable d → check_faults d.modules ≡ [] →
         StartsWithProc script → IsNetlist (cold script d) netlist → HasOneDriver netlist }
     ensures no_recursion { (d netlist : Design) (script : List Word) → IsReadable d → check_faults d.modules ≡ [] →
         StartsWithProc script → IsNetlist (cold script d) netlist → recursion_faults netlist.modules ≡ [] }
+    ensures faultless { (d netlist : Design) (script : List Word) → IsReadable d → check_faults d.modules ≡ [] →
+        StartsWithProc script → IsNetlist (cold script d) netlist →
+        faults_within without_processes netlist.modules ≡ [] }
+    ensures accepted { (d netlist : Design) (script : List Word) → IsReadable d → check_faults d.modules ≡ [] →
+        StartsWithProc script → maps_all script ≡ true → IsNetlist (cold script d) netlist →
+        check_faults netlist.modules ≡ [] }
 {}

@@ -4,7 +4,8 @@ ghost use Rattle.std.specs.Prelude.{◌≡◌, ◌+◌, ◌<◌, ◌≤◌, true
 ghost use Rattle.result_cache.specs.declared.call.Act.TheVariants.{GiveBack};
 ghost use Rattle.result_cache.specs.Tickets.{has_ticket, HoldsNoTicket};
 ghost use Rattle.result_cache.specs.Shared.{shard_of};
-ghost use Rattle.result_cache.specs.Seats.{HasClaimed, HasFilled, HasWaited, Made, claims, fills, give_backs, count_of, capped};
+ghost use Rattle.result_cache.specs.Seats.{HasClaimed, HasFilled, HasWaited, Made, claims, fills, give_backs, count_of};
+ghost use Rattle.result_cache.specs.Seats.{capped};
 
 use crate::keyed::Keyed;
 use crate::seat::{Seat, SeatCalls};

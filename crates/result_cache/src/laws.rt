@@ -1,13 +1,15 @@
 //! Laws of legal histories, and what holds of every shard.
 
-ghost use Rattle.std.specs.Prelude.{◌≡◌, ◌↔◌, ◌≤◌, ◌+◌, ◌++◌, ◌∷◌, [], ℕ, List, Some, true, if◌then◌else◌, IfSome, IsSome};
+ghost use Rattle.std.specs.Prelude.{◌≡◌, ◌↔◌, ◌≤◌, ◌+◌, ◌++◌, ◌∷◌, [], ℕ, List, Some, true, if◌then◌else◌, IfSome};
+ghost use Rattle.std.specs.Prelude.{IsSome};
 ghost use Rattle.std.specs.Option.{is_some};
 ghost use Rattle.std.specs.Str.{bytes_eq};
 ghost use Rattle.rtl_sig.specs.Names.{AreDistinct, has_name};
 ghost use Rattle.result_cache.specs.History.{held, filled, state_after, IsFilled, IsLegal};
 ghost use Rattle.result_cache.specs.History.{call};
 ghost use Rattle.result_cache.specs.declared.call.Act.TheVariants.{Hit, Busy, Yours, Fill, GiveBack};
-ghost use Rattle.result_cache.specs.Tickets.{calls_by, has_ticket, ticket_after, times_filled, given, returned, HoldsNoTicket, HoldsOnly};
+ghost use Rattle.result_cache.specs.Tickets.{calls_by, has_ticket, ticket_after, times_filled, given, returned};
+ghost use Rattle.result_cache.specs.Tickets.{HoldsNoTicket, HoldsOnly};
 ghost use Rattle.result_cache.specs.Stored.{Contents, KeepsValues, value_at, mode_at, kept_mode, held_keys};
 ghost use Rattle.result_cache.specs.Filled.{filled_keys, with_key};
 
@@ -19,15 +21,18 @@ use crate::shard::Shard;
 #[tactic(auto, using(crate::proofs::Filled::filled_once, crate::proofs::Filled::filled_stays))]
 pub fn keys_are_filled_once()
     ensures once { (calls : List Call) (key : List ℕ) → IsLegal calls → times_filled key calls ≤ 1 }
-    ensures stays { (calls more : List Call) (key : List ℕ) (number : ℕ) → IsLegal (calls ++ more) → state_after calls key ≡ filled number → state_after (calls ++ more) key ≡ filled number }
+    ensures stays { (calls more : List Call) (key : List ℕ) (number : ℕ) → IsLegal (calls ++ more) →
+        state_after calls key ≡ filled number → state_after (calls ++ more) key ≡ filled number }
 {}
 
 /// In a legal history a seat holds just the keys that it has the tickets of by its own calls, and
 /// no two seats have the ticket of one key.
 #[tactic(auto, using(crate::proofs::Holders::own_ticket, crate::proofs::Holders::one_holder))]
 pub fn keys_have_one_holder()
-    ensures own { (calls : List Call) (seat : ℕ) (key : List ℕ) → IsLegal calls → (state_after calls key ≡ held seat) ↔ (has_ticket (calls_by seat calls) key ≡ true) }
-    ensures one { (calls : List Call) (a b : ℕ) (key : List ℕ) → IsLegal calls → has_ticket (calls_by a calls) key ≡ true → has_ticket (calls_by b calls) key ≡ true → a ≡ b }
+    ensures own { (calls : List Call) (seat : ℕ) (key : List ℕ) → IsLegal calls →
+        (state_after calls key ≡ held seat) ↔ (has_ticket (calls_by seat calls) key ≡ true) }
+    ensures one { (calls : List Call) (a b : ℕ) (key : List ℕ) → IsLegal calls →
+        has_ticket (calls_by a calls) key ≡ true → has_ticket (calls_by b calls) key ≡ true → a ≡ b }
 {}
 
 /// What a call of a seat does to its tickets: a claim that is answered `Yours` gives it the key's

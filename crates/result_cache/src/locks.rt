@@ -8,7 +8,8 @@ ghost use Rattle.result_cache.specs.declared.call.Act.TheVariants.{Fill, GiveBac
 ghost use Rattle.result_cache.specs.History.{held};
 ghost use Rattle.result_cache.specs.Stored.{mode_at, AddsCall};
 ghost use Rattle.result_cache.specs.Claims.{Claimed, IfHit};
-ghost use Rattle.result_cache.specs.Shared.{TakenIf, Entered, MayGive, MayGiveUp, Holds, Swaps, view_of, seat_of, released, alone};
+ghost use Rattle.result_cache.specs.Shared.{TakenIf, Entered, MayGive, MayGiveUp, Holds, Swaps, view_of, seat_of};
+ghost use Rattle.result_cache.specs.Shared.{released, alone};
 ghost use Rattle.result_cache.specs.Seats.{first_view};
 
 use crate::cache::SharedCache;

@@ -1,6 +1,7 @@
 //! One shard: its keys with what is kept of each, and the history of the calls on them.
 
-ghost use Rattle.std.specs.Prelude.{◌≡◌, ◌≢◌, ◌+◌, ◌<◌, ◌≤◌, ◌↔◌, ℕ, List, [], Option, IfOk, IfSome, IsSome, OnErr, OnOk, Some, None, length, slice_get, if◌then◌else◌, false};
+ghost use Rattle.std.specs.Prelude.{◌≡◌, ◌≢◌, ◌+◌, ◌<◌, ◌≤◌, ◌↔◌, ℕ, List, [], Option, IfOk, IfSome, IsSome, OnErr};
+ghost use Rattle.std.specs.Prelude.{OnOk, Some, None, length, slice_get, if◌then◌else◌, false};
 ghost use Rattle.std.specs.Str.{bytes_eq};
 ghost use Rattle.std.specs.Vec.{vec_capacity};
 ghost use Rattle.rtl_sig.specs.Names.{has_name, AreDistinct};
@@ -141,7 +142,8 @@ impl<V: Keyed> Shard<V> {
         requires held { mode_at self.old ticket.key ≡ held seat }
         requires stands { V.stands_for value ticket.key }
         ensures history { AddsCall self.old self.new seat ticket.key (Act.Fill (length self.old.history)) }
-        ensures values { (key : List ℕ) → value_at self.new key ≡ (if bytes_eq ticket.key key then Some value else value_at self.old key) }
+        ensures values { (key : List ℕ) → value_at self.new key ≡
+            (if bytes_eq ticket.key key then Some value else value_at self.old key) }
     {
         let Ticket { seat: _, key } = ticket;
         let Some(id) = self.keys.find(key.as_slice()) else {

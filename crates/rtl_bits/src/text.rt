@@ -15,8 +15,8 @@ const INLINE: usize = 14;
 /// The most bytes that lie in a box of this size.
 const BOXED: usize = 39;
 
-/// A text, as its bytes. Up to 14 of them lie in the value itself, up to 39 in a box, more in a list on the heap. It keeps
-/// the allocator that it was made with.
+/// A text, as its bytes. Up to 14 of them lie in the value itself, up to 39 in a box, more in a list on the heap. It
+/// keeps the allocator that it was made with.
 #[derive(Drop)]
 pub struct Text {
     alloc: Global,

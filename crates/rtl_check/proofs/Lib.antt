@@ -9,3 +9,9 @@ pub mod PlaceLemmas
 pub mod Recursions
 pub mod Designs
 pub mod ProcessLemmas
+pub mod Testing
+pub mod OverPorts
+pub mod Edited
+pub mod PortLines
+pub mod Noting
+pub mod Refusing

@@ -4,3 +4,5 @@ pub mod Named
 pub mod Numbers
 pub mod Tallies
 pub mod Places
+pub mod Due
+pub mod Edits

@@ -9,7 +9,8 @@ ghost use Rattle.rtl_ir.specs.Types as rtl;
 ghost use Rattle.net_index.specs.Numbering.{widths_of};
 ghost use Rattle.net_index.specs.Types.{AreTypes, IsType};
 ghost use Rattle.rtl_check.specs.Finds.{Finds, first_answer};
-ghost use Rattle.rtl_check.specs.Tallies.{HasCounted, Tells, bits_of_cell, bits_of_link, bits_of_pin, bits_of_port, bits_of_rules, bits_of_tree, port_bits, with_bits};
+ghost use Rattle.rtl_check.specs.Tallies.{HasCounted, Tells, bits_of_cell, bits_of_link, bits_of_pin, bits_of_port};
+ghost use Rattle.rtl_check.specs.Tallies.{bits_of_rules, bits_of_tree, port_bits, with_bits};
 
 use crate::fault::{CheckFault, WireSpot};
 use crate::tally::Tally;
@@ -41,7 +42,8 @@ pub(crate) fn check_bits(alloc: Global, types: &Types, body: &Module) -> Result<
 /// The first fault of the bits of these wires.
 fn check_wires(id: &Text, tally: &Tally, wires: &[Wire]) -> Result<(), CheckFault>
     requires widths { tally.now.widths ≡ widths_of wires.now }
-    ensures first { (drives : List Drive) → Tells tally.now drives → Finds result (bits_faults id.now drives 0 wires.now) }
+    ensures first { (drives : List Drive) → Tells tally.now drives →
+        Finds result (bits_faults id.now drives 0 wires.now) }
 {
     for (place, wire) in wires.iter().enumerate() {
         check_wire(id, tally, place_of(place)?, wire)?;
@@ -115,7 +117,8 @@ fn count_wire(tally: &mut Tally, wire: u32, width: u32)
 /// Counts the bits that the cells drive.
 fn count_cells(tally: &mut Tally, types: &Types, cells: &[Cell])
     ensures widths { tally.new.widths ≡ tally.old.widths }
-    ensures value { (ports : rtl.Ports) → AreTypes types.now ports → tally.new ≡ with_bits tally.old (flat_map (bits_of_cell ports) cells.now) }
+    ensures value { (ports : rtl.Ports) → AreTypes types.now ports →
+        tally.new ≡ with_bits tally.old (flat_map (bits_of_cell ports) cells.now) }
 {
     for cell in cells {
         let cell_type = types.find(cell.kind_name.as_slice());
@@ -126,7 +129,8 @@ fn count_cells(tally: &mut Tally, types: &Types, cells: &[Cell])
 /// Counts the bits that a cell of this type drives by these pins.
 fn count_pins(tally: &mut Tally, cell_type: &CellType, pins: &[Pin])
     ensures widths { tally.new.widths ≡ tally.old.widths }
-    ensures value { (type : rtl.CellType) → IsType cell_type.now type → tally.new ≡ with_bits tally.old (flat_map (bits_of_pin type) pins.now) }
+    ensures value { (type : rtl.CellType) → IsType cell_type.now type →
+        tally.new ≡ with_bits tally.old (flat_map (bits_of_pin type) pins.now) }
 {
     for pin in pins {
         count_pin(tally, cell_type, pin);
@@ -136,7 +140,8 @@ fn count_pins(tally: &mut Tally, cell_type: &CellType, pins: &[Pin])
 /// Counts the bits that a cell of this type drives by this pin.
 fn count_pin(tally: &mut Tally, cell_type: &CellType, pin: &Pin)
     ensures widths { tally.new.widths ≡ tally.old.widths }
-    ensures value { (type : rtl.CellType) → IsType cell_type.now type → tally.new ≡ with_bits tally.old (bits_of_pin type pin.now) }
+    ensures value { (type : rtl.CellType) → IsType cell_type.now type →
+        tally.new ≡ with_bits tally.old (bits_of_pin type pin.now) }
 {
     if drives_pin(cell_type, pin.name.as_slice()) {
         tally.add_all(pin.sig.as_slice());

@@ -41,7 +41,8 @@ pub(crate) fn check_cells<'a>(
     ensures first { (ports : rtl.Ports) → AreTypes types.now ports →
         Finds result (cells.cell_faults everything ports body.now [] body.now.cells) }
     ensures fit { OnOk result ((ports : rtl.Ports) → AreTypes types.now ports → DoCellsFit ports body.now) }
-    ensures noted { OnOk result ((ports : rtl.Ports) → AreTypes types.now ports → KnowsCells memories.new body.now body.now.cells) }
+    ensures noted { OnOk result ((ports : rtl.Ports) → AreTypes types.now ports →
+        KnowsCells memories.new body.now body.now.cells) }
 {
     for cell in body.cells.as_slice() {
         let cell_type = types.find(cell.kind_name.as_slice());
@@ -58,9 +59,11 @@ fn check_cell<'a>(
     cell: &'a Cell,
     cell_type: &CellType,
 ) -> Result<(), CheckFault>
-    ensures first { (type : rtl.CellType) → IsType cell_type.now type → (m : Module) → m.id ≡ id.now → (earlier : List Cell) → KnowsCells memories.old m earlier →
+    ensures first { (type : rtl.CellType) → IsType cell_type.now type → (m : Module) → m.id ≡ id.now →
+        (earlier : List Cell) → KnowsCells memories.old m earlier →
         Finds result (cells.faults_by_type everything m earlier cell.now type) }
-    ensures noted { OnOk result ((type : rtl.CellType) → IsType cell_type.now type → Names cell.now.kind_name type → (m : Module) (earlier : List Cell) → KnowsCells memories.old m earlier →
+    ensures noted { OnOk result ((type : rtl.CellType) → IsType cell_type.now type → Names cell.now.kind_name type →
+        (m : Module) (earlier : List Cell) → KnowsCells memories.old m earlier →
         KnowsCells memories.new m (earlier ++ cell.now ∷ [])) }
 {
     match cell_type {
@@ -81,7 +84,8 @@ fn check_library_cell<'a>(
 ) -> Result<(), CheckFault>
     ensures first { (m : Module) → m.id ≡ id.now → (earlier : List Cell) → KnowsCells memories.old m earlier →
         Finds result (cells.faults_by_type everything m earlier cell.now (rtl.Library kind)) }
-    ensures noted { OnOk result (kind_of cell.now.kind_name ≡ Some kind → (m : Module) (earlier : List Cell) → KnowsCells memories.old m earlier →
+    ensures noted { OnOk result (kind_of cell.now.kind_name ≡ Some kind → (m : Module) (earlier : List Cell) →
+        KnowsCells memories.old m earlier →
         KnowsCells memories.new m (earlier ++ cell.now ∷ [])) }
 {
     let shape = check_shape(alloc, id, cell, kind)?;
@@ -101,9 +105,11 @@ fn check_memory_cell<'a>(
     kind: MemoryKind,
     shape: &Shape,
 ) -> Result<(), CheckFault>
-    ensures first { (m : Module) → m.id ≡ id.now → (earlier : List Cell) → KnowsCells memories.old m earlier → HasShape shape.now kind cell.now →
+    ensures first { (m : Module) → m.id ≡ id.now → (earlier : List Cell) → KnowsCells memories.old m earlier →
+        HasShape shape.now kind cell.now →
         Finds result (cells.memory_faults true m earlier cell.now (Cells.Memory kind)) }
-    ensures noted { OnOk result (kind_of cell.now.kind_name ≡ Some (Cells.Memory kind) → HasShape shape.now kind cell.now → (m : Module) (earlier : List Cell) → KnowsCells memories.old m earlier →
+    ensures noted { OnOk result (kind_of cell.now.kind_name ≡ Some (Cells.Memory kind) →
+        HasShape shape.now kind cell.now → (m : Module) (earlier : List Cell) → KnowsCells memories.old m earlier →
         KnowsCells memories.new m (earlier ++ cell.now ∷ [])) }
 {
     if memories.is_bad_cell(alloc, cell, kind, shape)? {
@@ -142,7 +148,8 @@ fn check_outputs(id: &Text, cell: &Cell, cell_type: &CellType) -> Result<(), Che
 
 /// The first fault of an instance of a module with these ports.
 fn check_instance(id: &Text, cell: &Cell, ports: &PortNames) -> Result<(), CheckFault>
-    ensures first { (lines : List PortLine) → IsTable ports.now lines → (m : Module) → m.id ≡ id.now → (earlier : List Cell) →
+    ensures first { (lines : List PortLine) → IsTable ports.now lines → (m : Module) → m.id ≡ id.now →
+        (earlier : List Cell) →
         Finds result (cells.faults_by_type everything m earlier cell.now (rtl.Instance lines)) }
 {
     if !cell.params.as_slice().is_empty() || lacks_port(cell.pins.as_slice(), ports) {
@@ -156,7 +163,8 @@ fn check_instance(id: &Text, cell: &Cell, ports: &PortNames) -> Result<(), Check
 
 /// Whether a pin is no port.
 fn lacks_port(pins: &[Pin], ports: &PortNames) -> bool
-    ensures value { (lines : List PortLine) → IsTable ports.now lines → result ≡ list_any (cells.lacks_port lines) pins.now }
+    ensures value { (lines : List PortLine) → IsTable ports.now lines →
+        result ≡ list_any (cells.lacks_port lines) pins.now }
 {
     for pin in pins {
         if is_lacking(pin, ports) {
@@ -175,7 +183,8 @@ fn is_lacking(pin: &Pin, ports: &PortNames) -> bool
 
 /// Whether a pin that is connected has another width than its port.
 fn has_other_width(pins: &[Pin], ports: &PortNames) -> bool
-    ensures value { (lines : List PortLine) → IsTable ports.now lines → result ≡ list_any (cells.has_other_width lines) pins.now }
+    ensures value { (lines : List PortLine) → IsTable ports.now lines →
+        result ≡ list_any (cells.has_other_width lines) pins.now }
 {
     for pin in pins {
         if is_misfit(pin, ports) {

@@ -3,7 +3,9 @@
 ghost use Rattle.std.specs.Prelude.{◌≡◌, []};
 ghost use Rattle.rtl_ir.specs.Faults.{check_faults};
 
+use rtl_bits::Seq;
 use rtl_ir::Design;
+use std::alloc::Global;
 
 /// A design that has no fault.
 #[derive(Drop)]
@@ -19,6 +21,15 @@ impl Checked {
         ensures value { result.design ≡ design }
     {
         Checked { design }
+    }
+
+    /// The design without modules. It takes no memory.
+    pub fn empty(alloc: Global) -> Checked
+        ensures value { result.design.modules ≡ [] }
+    {
+        Checked::make(Design {
+            modules: Seq::make(alloc),
+        })
     }
 
     /// The design.

@@ -20,7 +20,8 @@ use std::alloc::Global;
 
 /// The first fault of a module.
 pub(crate) fn check_module(alloc: Global, types: &Types, body: &Module) -> Result<(), CheckFault>
-    ensures first { (ports : rtl.Ports) → AreTypes types.now ports → Finds result (module_faults everything ports body.now) }
+    ensures first { (ports : rtl.Ports) → AreTypes types.now ports →
+        Finds result (module_faults everything ports body.now) }
 {
     check_wires(alloc, &body.id, body.wires.as_slice())?;
     check_stores(&body.id, body.memories.as_slice())?;

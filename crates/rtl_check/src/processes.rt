@@ -28,7 +28,8 @@ pub(crate) fn check_processes<'a>(
     memories: &mut Memories<'a>,
     body: &'a Module,
 ) -> Result<(), CheckFault>
-    ensures first { (ports : Ports) → AreTypes types.now ports → DoCellsFit ports body.now → KnowsCells memories.old body.now body.now.cells →
+    ensures first { (ports : Ports) → AreTypes types.now ports → DoCellsFit ports body.now →
+        KnowsCells memories.old body.now body.now.cells →
         Finds result (process_faults everything ports body.now [] body.now.processes) }
 {
     let mut tests = None;
@@ -48,10 +49,14 @@ fn check_process<'a>(
     body: &Module,
     process: &'a Process,
 ) -> Result<(), CheckFault>
-    ensures asked { OnOk result ((ports : Ports) → AreTypes types.now ports → WereAsked tests.old ports body.now → WereAsked tests.new ports body.now) }
-    ensures noted { OnOk result ((before : List EventLine) → KnowsLines memories.old body.now before → KnowsLines memories.new body.now (before ++ write_lines process.now)) }
-    ensures first { (ports : Ports) → AreTypes types.now ports → WereAsked tests.old ports body.now → DoCellsFit ports body.now →
-        (earlier : List Process) → KnowsLines memories.old body.now (flat_map write_lines earlier) → Finds result (faults_of_process everything ports body.now earlier process.now) }
+    ensures asked { OnOk result ((ports : Ports) → AreTypes types.now ports → WereAsked tests.old ports body.now →
+        WereAsked tests.new ports body.now) }
+    ensures noted { OnOk result ((before : List EventLine) → KnowsLines memories.old body.now before →
+        KnowsLines memories.new body.now (before ++ write_lines process.now)) }
+    ensures first { (ports : Ports) → AreTypes types.now ports → WereAsked tests.old ports body.now →
+        DoCellsFit ports body.now →
+        (earlier : List Process) → KnowsLines memories.old body.now (flat_map write_lines earlier) →
+        Finds result (faults_of_process everything ports body.now earlier process.now) }
 {
     let id = &body.id;
     if is_too_wide(process) {

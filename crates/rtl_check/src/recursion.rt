@@ -2,21 +2,20 @@
 
 ghost use Rattle.std.specs.Prelude.{◌≡◌, ◌<◌, List, length, IfOk, OnOk};
 ghost use Rattle.rtl_ir.specs.declared.module.Module.{Module};
-ghost use Rattle.rtl_ir.specs.Faults.Recursion.{instance_graph, instance_place, instance_places, leads_within, recursion_faults};
+ghost use Rattle.rtl_ir.specs.Faults.Recursion.{instance_graph, instance_place, instance_places, leads_within};
+ghost use Rattle.rtl_ir.specs.Faults.Recursion.{recursion_faults};
 ghost use Rattle.process_check.specs.Ends.{AreEnding};
 ghost use Rattle.rtl_check.specs.Finds.{Finds};
-ghost use Rattle.rtl_check.specs.Places.{ArePlaces, with_place};
+ghost use Rattle.rtl_check.specs.Places.{with_place};
+ghost use Rattle.design_edit.specs.Table.{ArePlaces};
 ghost use Rattle.process_check.specs.Search.{IsGraph, rows_of};
 
 use crate::fault::CheckFault;
+use design_edit::{Places, places_of};
 use process_check::{Graph, ending_places, is_recursive};
 use rtl_bits::{Copied, Memory};
 use rtl_ir::{Cell, Module, is_library_cell};
 use std::alloc::Global;
-use std::collections::HashMap;
-
-/// The places of modules by their names.
-type Places<'a> = HashMap<&'a [u8], usize>;
 
 /// The first module that instantiates itself, through other modules or not.
 pub(crate) fn check_recursion(alloc: Global, modules: &[Module]) -> Result<(), CheckFault>
@@ -45,21 +44,10 @@ fn graph_of(alloc: Global, modules: &[Module]) -> Result<Graph, Memory>
     Ok(graph)
 }
 
-/// The modules by their names. Of two of one name the first counts.
-fn places_of<'a>(alloc: Global, modules: &'a [Module]) -> Result<Places<'a>, Memory>
-    ensures places { IfOk result (λ places. ArePlaces places modules.now) }
-{
-    let mut places = HashMap::new(alloc);
-    for at in (0..modules.len()).rev() {
-        let module = &modules[at];
-        places.insert(module.id.as_slice(), at)?;
-    }
-    Ok(places)
-}
-
 /// The places of the modules that these cells are instances of.
 fn instance_places(alloc: Global, places: &Places, cells: &[Cell]) -> Result<Vec<usize>, Memory>
-    ensures value { IfOk result (λ found. (modules : List Module) → ArePlaces places.now modules → found.items ≡ instance_places modules cells.now) }
+    ensures value { IfOk result (λ found. (modules : List Module) → ArePlaces places.now modules →
+        found.items ≡ instance_places modules cells.now) }
 {
     let mut found = Vec::new(alloc);
     for cell in cells {

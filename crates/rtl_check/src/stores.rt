@@ -11,8 +11,8 @@ use memory_check::is_bad_store;
 use rtl_bits::Text;
 use rtl_ir::Store;
 
-/// The first fault of the memories of a module of this name: one without words, with an address below 0 or with too many
-/// bits.
+/// The first fault of the memories of a module of this name: one without words, with an address below 0 or with too
+/// many bits.
 pub(crate) fn check_stores(id: &Text, stores: &[Store]) -> Result<(), CheckFault>
     ensures first { Finds result (flat_map (store_faults everything id.now) stores.now) }
 {

@@ -64,7 +64,8 @@ impl Tally {
 
     /// Whether the bit was counted more than once.
     pub(crate) fn has_two(&self, bit: WireBit) -> bool
-        ensures value { (number : ℕ) → number_of self.now.widths bit ≡ Some number → result ≡ nat_lt 1 (slice_index self.now.counts number) }
+        ensures value { (number : ℕ) → number_of self.now.widths bit ≡ Some number →
+            result ≡ nat_lt 1 (slice_index self.now.counts number) }
     {
         match self.numbering.find(bit) {
             Some(number) => self.counts[number] > 1,

@@ -30,7 +30,8 @@ pub(crate) fn check_wires(alloc: Global, id: &Text, wires: &[Wire]) -> Result<()
 /// Whether the wire is no good port behind ports of these numbers. If it is none, its number is put beside them.
 fn is_bad_port(numbers: &mut HashSet<i32>, wire: &Wire) -> Result<bool, Memory>
     ensures bad { IfOk result (λ bad. (seen : List ℤ) → Holds numbers.old seen → bad ≡ is_bad_port seen wire.now) }
-    ensures numbers { IfOk result (λ bad. (seen : List ℤ) → Holds numbers.old seen → bad ≡ false → Holds numbers.new (with_number seen wire.now)) }
+    ensures numbers { IfOk result (λ bad. (seen : List ℤ) → Holds numbers.old seen → bad ≡ false →
+        Holds numbers.new (with_number seen wire.now)) }
 {
     if !is_port(wire.role) {
         return Ok(false);

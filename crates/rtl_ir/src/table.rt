@@ -40,8 +40,9 @@ impl<'a> DesignPorts<'a> {
         Ok(DesignPorts { modules, by_name })
     }
 
-    /// The ports of the modules of the design that the module at this place instantiates: each once, in order of its name,
-    /// with its ports in order of their numbers. Of two ports of one number the one that is declared first comes first.
+    /// The ports of the modules of the design that the module at this place instantiates: each once, in order of its
+    /// name, with its ports in order of their numbers. Of two ports of one number the one that is declared first comes
+    /// first.
     pub fn table_of(&self, alloc: Global, at: u32) -> Result<PortTable, Memory>
         requires in_range { at < length self.now.modules.now }
         ensures value { IfOk result (λ table. table.modules ≡ port_table_of self.now.modules.now at) }

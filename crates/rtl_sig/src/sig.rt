@@ -54,8 +54,8 @@ impl Copied for SigBit {
     }
 }
 
-/// A signal: a list of bits, the least significant first. One bit lies in the value itself, more on the heap. It keeps the
-/// allocator that it was made with.
+/// A signal: a list of bits, the least significant first. One bit lies in the value itself, more on the heap. It keeps
+/// the allocator that it was made with.
 #[derive(Drop)]
 pub struct SigSpec {
     alloc: Global,

@@ -1,4 +1,4 @@
-//! The program: reads a design from standard input, and writes its netlist to standard output.
+//! The program: what the words of the command line ask for, over standard input and output.
 #![tactic(auto)]
 
 use rtl_bits::Steps;
@@ -8,7 +8,7 @@ use std::process::ExitCode;
 use std::rt::Env;
 use std::{env, io};
 use synth_io::{StdSink, StdSource};
-pub use synth_run::{Mode, Status, run};
+pub use synth_run::{Mode, Plan, Status, WordFault, read_words, run};
 
 /// The program's arguments without its own name. One that is no text has no meaning.
 fn words_of(rt: &(impl Env + AllocGlobal)) -> Result<Vec<String>, Status> {

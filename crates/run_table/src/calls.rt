@@ -10,7 +10,7 @@ use table_rows::str_of;
 pub struct Builds;
 
 /// The most bytes that a call may write.
-const ROOM: u32 = 8_000_000;
+pub const ROOM: u32 = 8_000_000;
 
 /// What a call is given: its words, parted by blanks, the numbers of the read and the write that fail, or none, and
 /// its input.
@@ -31,7 +31,7 @@ pub struct Ended {
 }
 
 /// The list of the number in a field, or of none.
-fn numbers_of(alloc: Global, field: &[u8]) -> Result<Vec<u64>, Memory> {
+pub fn numbers_of(alloc: Global, field: &[u8]) -> Result<Vec<u64>, Memory> {
     let mut numbers = Vec::new(alloc);
     if let Ok(number) = str_of(field).parse::<u64>() {
         numbers.push(number)?;

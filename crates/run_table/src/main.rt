@@ -5,7 +5,9 @@ mod calls;
 mod designs;
 mod devices;
 mod outside;
+mod pieces;
 mod scripts;
+mod sessions;
 
 use rtl_bits::Memory;
 use std::alloc::Global;
@@ -13,8 +15,8 @@ use std::process::ExitCode;
 use table_rows::{LINES, TEXTS, Tally, report};
 
 /// The files whose fields are texts.
-const FILES: [&str; 7] = [
-    "texts", "designs", "widths", "calls", "counts", "accepted", "scripts",
+const FILES: [&str; 9] = [
+    "texts", "designs", "widths", "calls", "counts", "accepted", "scripts", "sessions", "words",
 ];
 
 /// Whether a row of the file of this name holds.
@@ -24,6 +26,8 @@ fn holds(alloc: Global, file: &str, fields: &[&[u8]]) -> Result<bool, Memory> {
         "counts" => calls::has_lines(alloc, fields),
         "accepted" => designs::is_accepted(alloc, fields),
         "scripts" => scripts::is_read(alloc, fields),
+        "sessions" => sessions::is_answered(alloc, fields),
+        "words" => sessions::is_taken(alloc, fields),
         _ => Ok(false),
     }
 }
@@ -51,6 +55,10 @@ fn count_outside(rt: &HostRuntime, tally: &mut Tally) -> Result<(), Memory> {
     let table = "by hand";
     tally.count(table, b"the longest input", outside::is_longest(alloc)?)?;
     tally.count(table, b"one byte more", outside::is_too_long(alloc)?)?;
+    tally.count(table, b"the longest session", sessions::is_longest(alloc)?)?;
+    tally.count(table, b"a longer session", sessions::is_too_long(alloc)?)?;
+    tally.count(table, b"a cut session", sessions::is_cut(alloc)?)?;
+    tally.count(table, b"an ended session", sessions::is_ended(alloc)?)?;
     tally.count(table, b"sure objects", outside::is_sure(alloc)?)?;
     tally.count(table, b"standard objects", outside::is_standard(alloc)?)?;
     tally.count(table, b"default script", scripts::is_default(alloc)?)

@@ -3,7 +3,6 @@
 use rtl_bits::{Memory, Text};
 use script_core::{ScriptFault, Word, default_script, parse_script};
 use std::alloc::Global;
-use synth_run::word_name;
 
 /// The words as they are written, parted by blanks.
 fn written(alloc: Global, words: &[Word]) -> Result<Text, Memory> {
@@ -12,7 +11,7 @@ fn written(alloc: Global, words: &[Word]) -> Result<Text, Memory> {
         if !text.as_slice().is_empty() {
             text.push(b' ')?;
         }
-        text.extend(word_name(*word))?;
+        text.extend(word.spelling())?;
     }
     Ok(text)
 }

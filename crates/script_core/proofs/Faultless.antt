@@ -101,13 +101,13 @@ line_in ws n i =
     let from = In-mapped line_of n (filter (λ w. is_port w.role) ws) i in
     subst (λ (k : PortLine). In k (ports_of ws)) (sym from.2) (In-map line_of from.0 (in_number_order (filter (λ w. is_port w.role) ws)) (ordered_in from.0 (filter (λ w. is_port w.role) ws) from.1))
 
-same_lines : (ws : List Wire) → Distinct (map (λ (w : Wire). w.name) ws) → (name : List ℕ) → port_named (port_lines ws) name ≡ port_named (ports_of ws) name
+pub same_lines : (ws : List Wire) → Distinct (map (λ (w : Wire). w.name) ws) → (name : List ℕ) → port_named (port_lines ws) name ≡ port_named (ports_of ws) name
 same_lines ws u = same_found (port_lines ws) (ports_of ws) (lines_distinct ws u) (ports_distinct ws u) (line_in ws) (λ n i. (ordered_lines ws).each n i)
 
 -- ---- types of cells
 
 -- the same type, or an instance whose ports are found alike
-data Alike : CellType → CellType → Type 0 where
+pub data Alike : CellType → CellType → Type 0 where
   SameType : (t : CellType) → Alike t t
   SamePorts : (p q : List PortLine) → ((name : List ℕ) → port_named p name ≡ port_named q name) → Alike (Instance p) (Instance q)
 
@@ -138,7 +138,7 @@ named_found (m ∷ ms) id n e = by (λ h. named_found ms id n h) (bytes_eq m.id 
     by later true h = inl cc
     by later false h = inr (later h)
 
-named_is : (ms : List Module) (id : List ℕ) → module_named ms id ≡ named ms id
+pub named_is : (ms : List Module) (id : List ℕ) → module_named ms id ≡ named ms id
 named_is [] id = refl
 named_is (m ∷ ms) id = ap (cond (bytes_eq m.id id) (Some m)) (named_is ms id)
 
@@ -165,7 +165,7 @@ alike_type modules sound m c i = by (kind_of c.kind_name) refl
 -- ---- faults and drivers over other ports
 
 -- the types of these cells are alike over two tables
-abbrev AreAlike : Ports → Ports → List Cell → Type 0
+abbrev pub AreAlike : Ports → Ports → List Cell → Type 0
 AreAlike P Q cells = (c : Cell) → In c cells → Alike (cell_type P c.kind_name) (cell_type Q c.kind_name)
 
 module _ (P Q : Ports) where
@@ -336,7 +336,7 @@ cells_none scope P m name earlier (c ∷ cs) e =
 -- ---- the module
 
 -- a module has no fault over ports that are found alike, under any name
-over_others : (scope : Scope) (P Q : Ports) (m : Module) (name : List ℕ) → AreAlike P Q m.cells → module_faults scope P m ≡ [] → module_faults scope Q (record m { id = name }) ≡ []
+pub over_others : (scope : Scope) (P Q : Ports) (m : Module) (name : List ℕ) → AreAlike P Q m.cells → module_faults scope P m ≡ [] → module_faults scope Q (record m { id = name }) ≡ []
 over_others scope P Q m name h e =
     let n : Module = record m { id = name } in
     let wires = wire_faults m.id [] m.wires in

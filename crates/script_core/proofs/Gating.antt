@@ -26,7 +26,7 @@ use Rattle.gate_laws.proofs.Sweeping.{expr_gates}
 use Rattle.proc_steps.specs.Limits.{is_within}
 use Rattle.script_core.specs.declared.outcome.Outcome.TheVariants.{Done}
 use Rattle.script_core.specs.declared.word.Word.{Word}
-use Rattle.script_core.specs.declared.word.Word.TheVariants.{Proc, OptExpr, OptMerge, OptClean, Opt, Fsm, Memory, Techmap}
+use Rattle.script_core.specs.declared.word.Word.TheVariants.{Proc, OptExpr, OptMerge, OptClean, Opt, Fsm, Memory, Techmap, Muxtree, Reduce, Dff}
 use Rattle.script_core.specs.Fold.{StartsWithProc, MayGoOn, MayStart, after_word, fold_script, pass_of, techmap_within}
 use Rattle.script_core.specs.Mapping.{is_opt, maps_all, maps_last}
 use Rattle.script_core.proofs.Stepping.{GoesOn, given_word, still_none, word_goes}
@@ -70,6 +70,9 @@ module _ (table : PortTable) where
   tidied (Fsm ∷ ws) m n e gates f = absurd cc
   tidied (Memory ∷ ws) m n e gates f = absurd cc
   tidied (Techmap ∷ ws) m n e gates f = absurd cc
+  tidied (Muxtree ∷ ws) m n e gates f = absurd cc
+  tidied (Reduce ∷ ws) m n e gates f = absurd cc
+  tidied (Dff ∷ ws) m n e gates f = absurd cc
 
   -- behind a word
   behind : (w : Word) (ws : List Word) (m n : Module) → ((k : Module) → pass_of table w m ≡ Some k → fold_script ws table k ≡ Done n → HasGatesAlone n) → fold_script (w ∷ ws) table m ≡ Done n → HasGatesAlone n
@@ -95,6 +98,9 @@ module _ (table : PortTable) where
       by Opt last k is on g = on last
       by Fsm last k is on g = on last
       by Memory last k is on g = on last
+      by Muxtree last k is on g = on last
+      by Reduce last k is on g = on last
+      by Dff last k is on g = on last
       by Techmap last k is on g =
           ⊎_elim (λ only. tidied ws k n only (all_gates m k h none is) g) on (either (list_all is_opt ws) (maps_last ws) last)
 
@@ -114,6 +120,9 @@ module _ (table : PortTable) where
       by Opt all k is goes on g = on all
       by Fsm all k is goes on g = on all
       by Techmap all k is goes on g = on all
+      by Muxtree all k is goes on g = on all
+      by Reduce all k is goes on g = on all
+      by Dff all k is goes on g = on all
       by Memory all k is goes on g =
           behind_memory ws k n goes.next (memory_gives table m h.ready h.named k is).memories all g
 

@@ -8,7 +8,7 @@ use Rattle.std.proofs.lemmas.List.Elements.{All-head, All-tail}
 use Rattle.rtl_write.proofs.Marks.{Lacks, number_lacks}
 use Rattle.script_core.specs.declared.key.Key.{Key}
 use Rattle.script_core.specs.declared.word.Word.{Word}
-use Rattle.script_core.specs.declared.word.Word.TheVariants.{Proc, OptExpr, OptMerge, OptClean, Opt, Fsm, Memory, Techmap}
+use Rattle.script_core.specs.declared.word.Word.TheVariants.{Proc, OptExpr, OptMerge, OptClean, Opt, Fsm, Memory, Techmap, Muxtree, Reduce, Dff}
 use Rattle.script_core.specs.Words.{letter_of}
 use Rattle.script_core.specs.Keys.{part_text, key_text}
 
@@ -60,7 +60,10 @@ word_of n =
     else if n == 111 then Opt
     else if n == 102 then Fsm
     else if n == 121 then Memory
-    else Techmap
+    else if n == 116 then Techmap
+    else if n == 120 then Muxtree
+    else if n == 114 then Reduce
+    else Dff
 
 word_back : (w : Word) → word_of (letter_of w) ≡ w
 word_back Proc = refl
@@ -71,6 +74,9 @@ word_back Opt = refl
 word_back Fsm = refl
 word_back Memory = refl
 word_back Techmap = refl
+word_back Muxtree = refl
+word_back Reduce = refl
+word_back Dff = refl
 
 words_back : (ws : List Word) → map word_of (map letter_of ws) ≡ ws
 words_back [] = refl

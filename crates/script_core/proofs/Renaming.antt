@@ -17,7 +17,7 @@ use Rattle.map_laws.specs.Expansion.{cells_added}
 use Rattle.tech_map.proofs.Renaming.{expand_renamed}
 use Rattle.tech_map.specs.Techmap.{taken_kind, with_gates, stand_in, with_all_gates, stand_ins, beside, techmap_of}
 use Rattle.script_core.specs.declared.word.Word as words
-use Rattle.script_core.specs.declared.word.Word.TheVariants.{Proc, OptExpr, OptMerge, OptClean, Opt, Fsm, Memory, Techmap}
+use Rattle.script_core.specs.declared.word.Word.TheVariants.{Proc, OptExpr, OptMerge, OptClean, Opt, Fsm, Memory, Techmap, Muxtree, Reduce, Dff}
 use Rattle.script_core.specs.Cold.{named}
 use Rattle.proc_steps.specs.Limits.{is_within}
 use Rattle.fsm_steps.proofs.Renaming.{fsm_renamed}
@@ -106,6 +106,9 @@ module _ (id : List ℕ) where
   pass_renamed table Fsm m = fsm_renamed id (table_ports table.modules) m
   pass_renamed table Memory m = memory_renamed id m
   pass_renamed table Techmap m = within_renamed m
+  pass_renamed table Muxtree m = refl
+  pass_renamed table Reduce m = refl
+  pass_renamed table Dff m = refl
 
   pub fold_renamed : (ws : List words.Word) (table : PortTable) (m : Module) → fold_script ws table (under m) ≡ named id (fold_script ws table m)
   fold_renamed [] table m = refl

@@ -27,13 +27,19 @@ use Rattle.opt_expr.proofs.Sweeping.{expr_passes}
 use Rattle.opt_merge.proofs.Refining.{merge_pass}
 use Rattle.opt_clean.proofs.Cleaning.{clean_pass}
 use Rattle.opt_rounds.proofs.Rounding.{opt_pass}
+use Rattle.opt_more.specs.Dff.{dff_of}
+use Rattle.opt_more.specs.Muxtree.{muxtree_of}
+use Rattle.opt_more.specs.Reduce.{reduce_of}
+use Rattle.opt_more.proofs.DffSweeping.{dff_is_pass}
+use Rattle.opt_more.proofs.MuxSweeping.{muxtree_is_pass}
+use Rattle.opt_more.proofs.Sweeping.{reduce_is_pass}
 use Rattle.tech_map.specs.Techmap.{beside, techmap_of}
 use Rattle.tech_map.proofs.Forming.{takable}
 use Rattle.tech_map.proofs.Promised.{techmap_passes}
 use Rattle.tech_map.proofs.Standing.{swapped_is}
 use Rattle.script_core.specs.declared.outcome.Outcome.TheVariants.{Done}
 use Rattle.script_core.specs.declared.word.Word.{Word}
-use Rattle.script_core.specs.declared.word.Word.TheVariants.{Proc, OptExpr, OptMerge, OptClean, Opt, Fsm, Memory, Techmap}
+use Rattle.script_core.specs.declared.word.Word.TheVariants.{Proc, OptExpr, OptMerge, OptClean, Opt, Fsm, Memory, Techmap, Muxtree, Reduce, Dff}
 use Rattle.script_core.specs.Words.{IsScript}
 use Rattle.script_core.specs.Fold.{pass_of, after_word, fold_script, AfterWord, AreApplicable, StartsWithProc, MayBeGiven, MayGoOn, MayStart}
 use Rattle.proc_steps.specs.Limits.{is_within}
@@ -152,6 +158,12 @@ word_goes table Opt m n h e =
     goes_to table m (opt_of (table_ports table.modules) m) n (goes table m _ h (opt_pass table m h.ready) (opt_stores (table_ports table.modules) m)) e
 word_goes table Fsm m n h e = fsm_goes table m n h e
 word_goes table Memory m n h e = memory_goes table m n h e
+word_goes table Muxtree m n h e =
+    goes_to table m (muxtree_of (table_ports table.modules) m) n (goes table m _ h (muxtree_is_pass table m h.ready) refl) e
+word_goes table Reduce m n h e =
+    goes_to table m (reduce_of (table_ports table.modules) m) n (goes table m _ h (reduce_is_pass table m h.ready) refl) e
+word_goes table Dff m n h e =
+    goes_to table m (dff_of (table_ports table.modules) m) n (goes table m _ h (dff_is_pass table m h.ready) refl) e
 word_goes table Techmap m n h e = by (is_within (beside m)) refl e
   where
     by : (t : Bool) → is_within (beside m) ≡ t → cond t (Some (techmap_of m)) None ≡ Some n → GoesOn table m n
@@ -168,6 +180,9 @@ given_word table Opt m h = h
 given_word table Fsm m h = h
 given_word table Memory m h = h
 given_word table Techmap m h = h
+given_word table Muxtree m h = h
+given_word table Reduce m h = h
+given_word table Dff m h = h
 
 -- words may be applied to a module that may be given to each pass, and make of it what one pass could
 module _ (table : PortTable) where

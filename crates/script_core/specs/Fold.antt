@@ -13,11 +13,14 @@ use Rattle.opt_expr.specs.Sweep.{expr_of}
 use Rattle.opt_merge.specs.Merge.{merge_of}
 use Rattle.opt_clean.specs.Clean.{clean_of}
 use Rattle.opt_rounds.specs.Rounds.{opt_of}
+use Rattle.opt_more.specs.Dff.{dff_of}
+use Rattle.opt_more.specs.Muxtree.{muxtree_of}
+use Rattle.opt_more.specs.Reduce.{reduce_of}
 use Rattle.tech_map.specs.Techmap.{beside, techmap_of}
 use Rattle.script_core.specs.declared.outcome.Outcome.{Outcome}
 use Rattle.script_core.specs.declared.outcome.Outcome.TheVariants.{Done, Over}
 use Rattle.script_core.specs.declared.word.Word.{Word}
-use Rattle.script_core.specs.declared.word.Word.TheVariants.{Proc, OptExpr, OptMerge, OptClean, Opt, Fsm, Memory, Techmap}
+use Rattle.script_core.specs.declared.word.Word.TheVariants.{Proc, OptExpr, OptMerge, OptClean, Opt, Fsm, Memory, Techmap, Muxtree, Reduce, Dff}
 
 -- `techmap`: None where the gates, beside the cells that they replace, pass a limit
 abbrev pub techmap_within : Module → Option Module
@@ -33,6 +36,9 @@ pass_of table Opt m = Some (opt_of (table_ports table.modules) m)
 pass_of table Fsm m = fsm_within (table_ports table.modules) m
 pass_of table Memory m = memory_within m
 pass_of table Techmap m = techmap_within m
+pass_of table Muxtree m = Some (muxtree_of (table_ports table.modules) m)
+pass_of table Reduce m = Some (reduce_of (table_ports table.modules) m)
+pass_of table Dff m = Some (dff_of (table_ports table.modules) m)
 
 -- the rest of a fold, behind a word that gave a module or passed a limit
 abbrev pub after_word : Word → (Module → Outcome) → Option Module → Outcome

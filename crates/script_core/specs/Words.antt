@@ -4,7 +4,7 @@ use Rattle.std.specs.List.{slice_split}
 use Rattle.std.specs.Option.{is_some, option_map_or}
 use Rattle.std.specs.Str.{bytes_eq}
 use Rattle.script_core.specs.declared.word.Word.{Word}
-use Rattle.script_core.specs.declared.word.Word.TheVariants.{Proc, OptExpr, OptMerge, OptClean, Opt, Fsm, Memory, Techmap}
+use Rattle.script_core.specs.declared.word.Word.TheVariants.{Proc, OptExpr, OptMerge, OptClean, Opt, Fsm, Memory, Techmap, Muxtree, Reduce, Dff}
 
 -- a script has at most 64 words, and the first is `proc`
 pub record IsScript (words : List Word) : Type 0 where
@@ -27,6 +27,9 @@ word_of spelling =
     else if bytes_eq spelling (codes "fsm") then Some Fsm
     else if bytes_eq spelling (codes "memory") then Some Memory
     else if bytes_eq spelling (codes "techmap") then Some Techmap
+    else if bytes_eq spelling (codes "opt_muxtree") then Some Muxtree
+    else if bytes_eq spelling (codes "opt_reduce") then Some Reduce
+    else if bytes_eq spelling (codes "opt_dff") then Some Dff
     else None
 
 -- a space, a tab or a semicolon
@@ -59,6 +62,20 @@ first_bad (word ∷ words) = bad_from 1 (word ∷ words)
 abbrev pub script_of : List ℕ → Result (List Word) ℕ
 script_of text = option_map_or Err (first_bad (words_of text)) (Ok (filter_map word_of (words_of text)))
 
+-- how a word is written in scripts
+abbrev pub spelling_of : Word → List ℕ
+spelling_of Proc = codes "proc"
+spelling_of OptExpr = codes "opt_expr"
+spelling_of OptMerge = codes "opt_merge"
+spelling_of OptClean = codes "opt_clean"
+spelling_of Opt = codes "opt"
+spelling_of Fsm = codes "fsm"
+spelling_of Memory = codes "memory"
+spelling_of Techmap = codes "techmap"
+spelling_of Muxtree = codes "opt_muxtree"
+spelling_of Reduce = codes "opt_reduce"
+spelling_of Dff = codes "opt_dff"
+
 -- the letter that stands for a word in the text of a key
 abbrev pub letter_of : Word → ℕ
 letter_of Proc = 112
@@ -69,3 +86,6 @@ letter_of Opt = 111
 letter_of Fsm = 102
 letter_of Memory = 121
 letter_of Techmap = 116
+letter_of Muxtree = 120
+letter_of Reduce = 114
+letter_of Dff = 100

@@ -32,7 +32,8 @@ fn module_of(alloc: Global, body: Text) -> Result<Module, Memory>
 
 /// The ports of this text, which is let go.
 fn ports_of(alloc: Global, ports: Text) -> Result<PortTable, Memory>
-    ensures round_trip { IfOk result (λ read. (table : PortTable) → ArePorts table → ports ≡ ports_text table → read ≡ table) }
+    ensures round_trip { IfOk result (λ read. (table : PortTable) → ArePorts table → ports ≡ ports_text table →
+        read ≡ table) }
 {
     read_ports(alloc, ports.as_slice())
 }

@@ -47,6 +47,9 @@ fn pass(alloc: Global, word: Word, module: Module, ports: &PortTable) -> Result<
         Word::Techmap => mapped(alloc, module, ports),
         Word::Memory => mem_steps::apply(alloc, module, ports),
         Word::Fsm => fsm_steps::apply(alloc, module, ports),
+        Word::Muxtree => Ok(opt_more::muxtree(alloc, &module, ports)?),
+        Word::Reduce => Ok(opt_more::reduce(alloc, &module, ports)?),
+        Word::Dff => Ok(opt_more::dff(alloc, &module, ports)?),
     }
 }
 

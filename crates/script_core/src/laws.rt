@@ -59,9 +59,9 @@ pub fn cold_runs_refine()
         IsNetlist (cold script d) netlist → Refines d netlist }
 {}
 
-/// Where the cold run of an accepted design is a netlist, and in the script a word `memory` stands before the
-/// last `techmap`, and only words of `opt` behind that, each cell of the netlist is a gate or an instance of one of its
-/// modules.
+/// Where the cold run of an accepted design is a netlist, and in the script a word `memory` stands before the last
+/// `techmap`, and only `opt`, `opt_expr`, `opt_merge` and `opt_clean` behind that, each cell of the netlist is a gate
+/// or an instance of one of its modules.
 pub fn cold_runs_are_gates()
     ensures { (d netlist : Design) (script : List Word) →
         IsReadable d → check_faults d.modules ≡ [] → StartsWithProc script → maps_all script ≡ true →

@@ -1,7 +1,7 @@
 //! The words of a script.
 
 ghost use Rattle.std.specs.Prelude.{◌≡◌};
-ghost use Rattle.script_core.specs.Words.{letter_of, word_of};
+ghost use Rattle.script_core.specs.Words.{letter_of, spelling_of, word_of};
 
 use rtl_bits::{Copied, Memory};
 
@@ -16,6 +16,9 @@ pub enum Word {
     Fsm,
     Memory,
     Techmap,
+    Muxtree,
+    Reduce,
+    Dff,
 }
 
 impl Copied for Word {
@@ -47,8 +50,33 @@ impl Word {
             Some(Word::Memory)
         } else if spelling == b"techmap".as_slice() {
             Some(Word::Techmap)
+        } else if spelling == b"opt_muxtree".as_slice() {
+            Some(Word::Muxtree)
+        } else if spelling == b"opt_reduce".as_slice() {
+            Some(Word::Reduce)
+        } else if spelling == b"opt_dff".as_slice() {
+            Some(Word::Dff)
         } else {
             None
+        }
+    }
+
+    /// How the word is written in a script. The second spelling of `opt_clean`, `clean`, is not written.
+    pub fn spelling(self) -> &'static [u8]
+        ensures value { result.now ≡ spelling_of self }
+    {
+        match self {
+            Word::Proc => b"proc",
+            Word::OptExpr => b"opt_expr",
+            Word::OptMerge => b"opt_merge",
+            Word::OptClean => b"opt_clean",
+            Word::Opt => b"opt",
+            Word::Fsm => b"fsm",
+            Word::Memory => b"memory",
+            Word::Techmap => b"techmap",
+            Word::Muxtree => b"opt_muxtree",
+            Word::Reduce => b"opt_reduce",
+            Word::Dff => b"opt_dff",
         }
     }
 
@@ -65,6 +93,9 @@ impl Word {
             Word::Fsm => b'f',
             Word::Memory => b'y',
             Word::Techmap => b't',
+            Word::Muxtree => b'x',
+            Word::Reduce => b'r',
+            Word::Dff => b'd',
         }
     }
 }

@@ -1,5 +1,5 @@
--- The rows of a design without faults are of cells within the limits of their kinds.
-use Rattle.std.proofs.Common.{◌≡◌, ℕ, zero, suc, Bool, true, false, cond, List, [], ◌∷◌, ◌++◌, length, map, Option, Some, None, inl, inr, ⊎_elim, refl, sym, subst}
+-- The rows of a design whose cells have shapes are of cells within the limits of their kinds.
+use Rattle.std.proofs.Common.{◌≡◌, ℕ, zero, suc, Bool, true, false, cond, List, [], ◌∷◌, ◌++◌, length, map, Option, Some, None, inl, inr, ⊎_elim, refl, sym, ap, ◌∙◌, subst}
 use Rattle.std.specs.Prelude.{filter, flat_map, if◌then◌else◌, not}
 use Rattle.std.specs.Option.{is_some}
 use Rattle.std.specs.List.{range_with_len}
@@ -66,8 +66,10 @@ use Rattle.rtl_ir.specs.Tree.{CaseView}
 use Rattle.rtl_ir.specs.Types.{Ports, Library, type_by, cell_type, design_ports}
 use Rattle.cell_types.specs.Unsupported.{is_unsupported}
 use Rattle.net_model.specs.Lists.{In}
+use Rattle.net_model.specs.Within.{Each}
 use Rattle.net_model.proofs.Instances.{instances_find}
 use Rattle.net_model.proofs.Members.{In-cases}
+use Rattle.sim_eval.specs.Shapes.{HaveShapes}
 use Rattle.sim_eval.specs.Limits.{is_driver_within, is_logic_within, is_storage}
 use Rattle.sim_eval.proofs.Limits.{no_memory, word_within}
 
@@ -244,30 +246,42 @@ module _ (ports : Ports) (m : Module) where
   cell_fits earlier c kind k e =
       library_fits earlier c kind (subst (λ z. faults_by_type everything m earlier c (type_by z (ports c.kind_name) (is_unsupported c.kind_name)) ≡ []) k e)
 
-  cells_within : (start : SigBit → Bit) (inner : flat.Ports) (p : Path) (earlier cells : List CellOf) → cell_faults everything ports m earlier cells ≡ [] → AreWithin (cells_rows start inner p m.wires cells)
-  cells_within start inner p earlier [] e = λ x i. absurd i
-  cells_within start inner p earlier (c ∷ cells) e =
+  cells_fit : (earlier cells : List CellOf) → cell_faults everything ports m earlier cells ≡ [] → HaveShapes cells
+  cells_fit earlier [] e c i kind k = absurd i
+  cells_fit earlier (x ∷ cells) e c (inl same) kind k =
+      subst (λ z. misfit kind z ≡ None) (sym same)
+      (cell_fits earlier x kind (ap cell_kind (sym same) ∙ k) (left_none (faults_by_type everything m earlier x (cell_type ports x.kind_name)) (cell_faults everything ports m (earlier ++ x ∷ []) cells) e))
+  cells_fit earlier (x ∷ cells) e c (inr i) kind k =
+      cells_fit (earlier ++ x ∷ []) cells (right_none (faults_by_type everything m earlier x (cell_type ports x.kind_name)) _ e) c i kind k
+
+  -- the cells of a module without faults have shapes
+  module_shapes : module_faults everything ports m ≡ [] → HaveShapes m.cells
+  module_shapes e =
+      let e1 = left_none _ (bits_faults m.id (drives_of ports m) 0 m.wires) e in
+      let e2 = left_none _ (link_faults m.id 1 m.links) e1 in
+      let e3 = left_none _ (process_faults everything ports m [] m.processes) e2 in
+      cells_fit [] m.cells (right_none _ (cell_faults everything ports m [] m.cells) e3)
+
+module _ (m : Module) where
+  cells_within : (start : SigBit → Bit) (inner : flat.Ports) (p : Path) (cells : List CellOf) → HaveShapes cells → AreWithin (cells_rows start inner p m.wires cells)
+  cells_within start inner p [] h = λ x i. absurd i
+  cells_within start inner p (c ∷ cells) h =
       both (cell_rows start inner p m.wires c (cell_kind c)) (cells_rows start inner p m.wires cells)
       (by (cell_kind c) refl)
-      (cells_within start inner p (earlier ++ c ∷ []) cells (right_none (faults_by_type everything m earlier c (cell_type ports c.kind_name)) _ e))
+      (cells_within start inner p cells (λ k i. h k (inr i)))
     where
       by : (o : Option CellKind) → cell_kind c ≡ o → AreWithin (cell_rows start inner p m.wires c o)
       by None k = instance_within p m.wires c.pins (frame c.name c.kind_name) (inner c.kind_name)
-      by (Some kind) k =
-          kind_within start p m.wires c kind (cell_fits earlier c kind k (left_none (faults_by_type everything m earlier c (cell_type ports c.kind_name)) (cell_faults everything ports m (earlier ++ c ∷ []) cells) e))
+      by (Some kind) k = kind_within start p m.wires c kind (h c (inl refl) kind k)
 
   processes_within : (start : SigBit → Bit) (p : Path) (processes : List Process) → AreWithin (processes_rows start p m.wires m processes)
   processes_within start p [] = λ x i. absurd i
   processes_within start p (q ∷ processes) = both (process_rows start p m.wires m q) (processes_rows start p m.wires m processes) (process_within start p m q) (processes_within start p processes)
 
-  rows_within : (inner : flat.Ports) (p : Path) → module_faults everything ports m ≡ [] → AreWithin (rows_of inner p m)
-  rows_within inner p e =
+  rows_within : (inner : flat.Ports) (p : Path) → HaveShapes m.cells → AreWithin (rows_of inner p m)
+  rows_within inner p h =
       let start = start_of m.wires m.processes in
-      let e1 = left_none _ (bits_faults m.id (drives_of ports m) 0 m.wires) e in
-      let e2 = left_none _ (link_faults m.id 1 m.links) e1 in
-      let e3 = left_none _ (process_faults everything ports m [] m.processes) e2 in
-      let cs = right_none _ (cell_faults everything ports m [] m.cells) e3 in
-      both (cells_rows start inner p m.wires m.cells) (plain_rows p m) (cells_within start inner p [] m.cells cs)
+      both (cells_rows start inner p m.wires m.cells) (plain_rows p m) (cells_within start inner p m.cells h)
       (both (link_rows p m.wires m.links) _ (links_within p m.wires m.links)
       (both (processes_rows start p m.wires m m.processes) (memories_rows p m.wires m.cells m.processes m.memories) (processes_within start p m.processes) (memories_within p m.wires m.cells m.processes m.memories)))
 
@@ -288,12 +302,18 @@ named_in (n ∷ modules) id m e =
     by rest true f = inl (sym (cc))
     by rest false f = inr (rest f)
 
-module _ (d : Design) (faultless : faults_within everything d.modules ≡ []) where
+-- the cells of a design without faults have shapes
+pub faultless_shapes : (d : Design) → faults_within everything d.modules ≡ [] → Each (λ (m : Module). HaveShapes m.cells) d.modules
+faultless_shapes d faultless m i =
+    module_shapes (design_ports d.modules) m
+    (module_faultless (design_ports d.modules) d.modules (left_none (flat_map (module_faults everything (design_ports d.modules)) d.modules) (recursion_faults d.modules) faultless) m i)
+
+module _ (d : Design) (shapes : Each (λ (m : Module). HaveShapes m.cells) d.modules) where
   tree_within : (depth : ℕ) (p : Path) (m : Module) → In m d.modules → AreWithin (in_tree d (rows_of (tree.design_ports d)) depth p m)
   tree_within zero p m i = λ x j. absurd j
   tree_within (suc depth) p m i =
       both (rows_of (tree.design_ports d) p m) (in_instances d (in_tree d (rows_of (tree.design_ports d)) depth) p (instances m.cells))
-      (rows_within (design_ports d.modules) m (tree.design_ports d) p (module_faultless (design_ports d.modules) d.modules (left_none (flat_map (module_faults everything (design_ports d.modules)) d.modules) (recursion_faults d.modules) faultless) m i))
+      (rows_within m (tree.design_ports d) p (shapes m i))
       (λ x j. let k = instances_find d (in_tree d (rows_of (tree.design_ports d)) depth) p x (instances m.cells) j in
       tree_within depth (k.0 ∷ p) k.1 (named_in d.modules k.0.module_name k.1 k.3) x k.4)
 

@@ -6,11 +6,11 @@ use Rattle.std.specs.List.{list_all}
 use Rattle.std.proofs.lemmas.Bool.{and_from, and_parts}
 use Rattle.rtl_ir.specs.declared.module.Design.{Design}
 use Rattle.rtl_ir.specs.declared.module.Module.{Module}
-use Rattle.rtl_ir.specs.Faults.{faults_within}
 use Rattle.rtl_ir.specs.Flat.Driver.{Driven}
 use Rattle.rtl_ir.specs.Flat.Place.{Place}
 use Rattle.rtl_ir.specs.Flat.Tree.{driven_rows}
 use Rattle.net_model.specs.Lists.{In}
+use Rattle.net_model.specs.Within.{Each}
 use Rattle.net_model.proofs.Members.{In-left, In-right}
 use Rattle.flat_net.specs.declared.net.Logic.{Logic}
 use Rattle.flat_net.specs.declared.net.Output.{Output as OutputOf}
@@ -18,12 +18,12 @@ use Rattle.flat_net.specs.declared.net.Part.{Part}
 use Rattle.flat_net.specs.declared.net.Part.TheVariants as part
 use Rattle.flat_net.specs.declared.net.Storage.{Storage}
 use Rattle.flat_net.specs.declared.net.StoreBit.{StoreBit}
-use Rattle.rtl_ir.specs.Scope.{everything}
 use Rattle.flat_net.specs.Parts.{inputs_of, output_row, part_rows, parts_rows, store_row}
 use Rattle.flat_net.specs.declared.net.Net.{Net}
 use Rattle.flat_net.specs.Points.{AreApart, point_of}
 use Rattle.flat_net.specs.Within.{ArePartsWithin}
-use Rattle.sim_eval.specs.Sim.{IsFaultlessNet}
+use Rattle.sim_eval.specs.Shapes.{HaveShapes}
+use Rattle.sim_eval.specs.Sim.{IsShapedNet}
 use Rattle.sim_eval.specs.First.{and_place, firsts}
 use Rattle.sim_eval.specs.Limits.{are_computable, is_computable, is_empty, is_logic_within, is_part_computable, is_storage, keeps_bits}
 use Rattle.sim_eval.proofs.Computable.{AreWithin, driven_within}
@@ -75,10 +75,10 @@ module _ (ps : List Place) where
   parts_computable (p ∷ parts) h =
       and_from (is_part_computable p) (are_computable parts) (part_computable p (λ x i. h x (In-left x (part_rows ps p) (parts_rows ps parts) i))) (parts_computable parts (λ x i. h x (In-right x (part_rows ps p) (parts_rows ps parts) i)))
 
--- the first drivers of a module of a design without faults are within the limits of their kinds
-firsts_computable : (d : Design) (m : Module) (ps : List Place) (parts : List Part) → faults_within everything d.modules ≡ [] → In m d.modules → parts_rows ps parts ≡ firsts (λ q. false) (driven_rows d m) → are_computable parts ≡ true
-firsts_computable d m ps parts faultless i e =
-    parts_computable ps parts (λ x j. driven_within d faultless m i x (firsts_in (λ q. false) (driven_rows d m) x (subst (In x) e j)))
+-- the first drivers of a module of a design whose cells have shapes are within the limits of their kinds
+firsts_computable : (d : Design) (m : Module) (ps : List Place) (parts : List Part) → Each (λ (n : Module). HaveShapes n.cells) d.modules → In m d.modules → parts_rows ps parts ≡ firsts (λ q. false) (driven_rows d m) → are_computable parts ≡ true
+firsts_computable d m ps parts shapes i e =
+    parts_computable ps parts (λ x j. driven_within d shapes m i x (firsts_in (λ q. false) (driven_rows d m) x (subst (In x) e j)))
 
 -- a module at a place is one of the modules
 pub at_in : (modules : List Module) (at : ℕ) (m : Module) → slice_get modules at ≡ Some m → In m modules
@@ -98,8 +98,8 @@ test_at test [] i d h l = absurd (omega arith)
 test_at test (x ∷ xs) zero d h l = (and_parts (test x) (list_all test xs) h).0
 test_at test (x ∷ xs) (suc i) d h l = test_at test xs i d (and_parts (test x) (list_all test xs) h).1 (omega arith)
 
--- what is kept of the parts of a netlist of a module without faults
-pub kept_computable : (net : Net) (kept : List Part) → IsFaultlessNet net → ((ps : List Place) → AreApart ps → length ps ≡ net.count → ArePartsWithin (length ps) net.parts → parts_rows ps kept ≡ firsts (λ q. false) (parts_rows ps net.parts)) → are_computable kept ≡ true
+-- what is kept of the parts of a netlist of a module whose cells have shapes
+pub kept_computable : (net : Net) (kept : List Part) → IsShapedNet net → ((ps : List Place) → AreApart ps → length ps ≡ net.count → ArePartsWithin (length ps) net.parts → parts_rows ps kept ≡ firsts (λ q. false) (parts_rows ps net.parts)) → are_computable kept ≡ true
 kept_computable net kept n rows =
-    firsts_computable n.design n.body n.bits kept n.faultless n.among
+    firsts_computable n.design n.body n.bits kept n.shapes n.among
     (rows n.bits n.is.apart n.is.count (subst (λ z. ArePartsWithin z net.parts) (sym n.is.count) n.is.within) ∙ ap (firsts (λ q. false)) n.is.rows)

@@ -1,5 +1,6 @@
 pub mod After
 pub mod Shown
+pub mod Shapes
 pub mod Sim
 pub mod First
 pub mod Moment

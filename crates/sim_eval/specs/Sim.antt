@@ -7,9 +7,7 @@ use Rattle.rtl_ir.specs.declared.module.Module.{Module}
 use Rattle.rtl_ir.specs.Flat.Driver.{Driven}
 use Rattle.rtl_ir.specs.Flat.Place.{Place, place_same}
 use Rattle.rtl_ir.specs.Flat.Tree.{flat, output_places}
-use Rattle.rtl_ir.specs.Faults.{faults_within}
 use Rattle.flat_net.specs.declared.net.Net.{Net}
-use Rattle.rtl_ir.specs.Scope.{everything}
 use Rattle.flat_net.specs.Net.{IsNetOf}
 use Rattle.flat_net.specs.Parts.{parts_rows}
 use Rattle.flat_net.specs.Points.{place_at, AreApart}
@@ -18,9 +16,11 @@ use Rattle.net_model.specs.Lists.{In}
 use Rattle.net_model.specs.Run.{Time, rows_at}
 use Rattle.net_model.specs.Settle.{applied}
 use Rattle.net_model.specs.Valuation.{Valuation}
+use Rattle.net_model.specs.Within.{Each}
 use Rattle.net_model.specs.Value.{value_of, meanings}
 use Rattle.sim_eval.specs.declared.sim.Sim.{Sim}
 use Rattle.sim_eval.specs.After.{is_first, valuation_after}
+use Rattle.sim_eval.specs.Shapes.{HaveShapes}
 use Rattle.sim_eval.specs.Shown.{shown}
 
 -- all rows applied at once, at a time
@@ -54,11 +54,11 @@ pub record IsAt (sim : Sim) (d : Design) (m : Module) (stimulus : List (List Bit
 abbrev pub IsSimOf : Sim → Design → Module → List (List Bit) → Type 0
 IsSimOf sim d m stimulus = (ps : List Place) × IsAt sim d m stimulus ps
 
--- a netlist is that of a module of a design without faults
-pub record IsFaultlessNet (net : Net) : Type 0 where
+-- a netlist is that of a module of a design whose cells have shapes
+pub record IsShapedNet (net : Net) : Type 0 where
   pub design : Design
   pub body : Module
   pub bits : List Place
-  pub faultless : faults_within everything design.modules ≡ []
+  pub shapes : Each (λ (m : Module). HaveShapes m.cells) design.modules
   pub among : In body design.modules
   pub is : IsNetOf net design body bits

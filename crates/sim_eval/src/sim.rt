@@ -9,7 +9,7 @@ use crate::moment::Moment;
 use crate::readers::Readers;
 use crate::settle::settle;
 use crate::values::bits_of;
-use flat_net::{Net, Part, flatten};
+use flat_net::{Net, Part, Titled, flatten, flatten_titled};
 use rtl_bits::{Bit, Bits, Memory, Seq};
 use rtl_ir::Design;
 use std::alloc::Global;
@@ -35,8 +35,11 @@ impl Sim {
     ghost use Rattle.rtl_ir.specs.Flat.Place.{Place};
     ghost use Rattle.rtl_ir.specs.Scope.{everything};
     ghost use Rattle.flat_net.specs.Net.{IsNetOf};
+    ghost use Rattle.flat_net.specs.Titled.{HaveNoProcess, titled_design};
+    ghost use Rattle.net_model.specs.Within.{Each};
+    ghost use Rattle.sim_eval.specs.Shapes.{HaveShapes};
     ghost use Rattle.sim_eval.specs.After.{outputs_after, valuation_after};
-    ghost use Rattle.sim_eval.specs.Sim.{AreAt, IsAt, IsFaultlessNet, IsSimOf};
+    ghost use Rattle.sim_eval.specs.Sim.{AreAt, IsAt, IsShapedNet, IsSimOf};
 
     /// The module at a place of a design without faults, before the first step: every storage bit has its start value,
     /// all inputs
@@ -51,9 +54,22 @@ impl Sim {
         Sim::of(alloc, net)
     }
 
+    /// The module at a place among modules without processes that are lent, each under its name, before the first step.
+    /// Their cells have shapes; of what else `check` asks for nothing is asked.
+    pub fn start_titled(alloc: Global, modules: &[Titled], at: u32) -> Result<Sim, Memory>
+        requires in_range { at < length modules.now }
+        requires plain { HaveNoProcess modules.now }
+        requires shapes { Each (λ (m : Module). HaveShapes m.cells) (titled_design modules.now).modules }
+        ensures settled { (m : Module) → slice_get (titled_design modules.now).modules at ≡ Some m →
+            IfOk result (λ sim. IsSimOf sim (titled_design modules.now) m []) }
+    {
+        let net = flatten_titled(alloc, modules, at)?;
+        Sim::of(alloc, net)
+    }
+
     /// The netlist, before the first step.
     fn of(alloc: Global, net: Net) -> Result<Sim, Memory>
-        requires faultless { IsFaultlessNet net }
+        requires shaped { IsShapedNet net }
         ensures settled { (d : Design) (m : Module) (ps : List Place) → IsNetOf net d m ps →
             IfOk result (λ sim. IsSimOf sim d m []) }
     {

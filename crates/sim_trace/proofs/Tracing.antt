@@ -7,6 +7,7 @@ use Rattle.rtl_bits.specs.declared.bit.Bit.{Bit}
 use Rattle.rtl_ir.specs.declared.module.Design.{Design}
 use Rattle.rtl_ir.specs.declared.module.Module.{Module}
 use Rattle.rtl_ir.specs.declared.wire.Role.TheVariants.{Output}
+use Rattle.rtl_ir.specs.declared.wire.Wire.{Wire}
 use Rattle.net_model.specs.Refine.{run_of}
 use Rattle.sim_eval.specs.declared.sim.Sim.{Sim}
 use Rattle.sim_eval.specs.After.{outputs_after}
@@ -14,14 +15,17 @@ use Rattle.sim_eval.specs.Sim.{IsSimOf}
 use Rattle.sim_eval.proofs.Afterwards.{run_more}
 use Rattle.sim_text.specs.Lines.{step_line}
 use Rattle.sim_text.specs.Ports.{port_widths}
+use Rattle.sim_trace.specs.Steps.{IsFreshOver, IsSimOver}
 use Rattle.sim_trace.specs.Stimulus.{trace_text}
 use Rattle.sim_trace.proofs.Widths.{outputs_fit}
 
 -- the outputs fit the ports of the module
-pub step_fits : (m : Module) (old : Sim) (inputs bits : List Bit) → ((d : Design) × (stimulus : List (List Bit)) × IsSimOf old d m stimulus)
+pub step_fits : (m : Module) (old : Sim) (inputs bits : List Bit) → IsSimOver old m.wires
     → ((d : Design) (n : Module) (stimulus : List (List Bit)) → IsSimOf old d n stimulus → bits ≡ outputs_after d n (stimulus ++ inputs ∷ []))
     → length bits ≡ sum (port_widths Output m)
-step_fits m old inputs bits (d, stimulus, is) gives = outputs_fit d m (stimulus ++ inputs ∷ []) bits (gives d m stimulus is)
+step_fits m old inputs bits h gives =
+    outputs_fit h.design h.body (h.stimulus ++ inputs ∷ []) bits (gives h.design h.body h.stimulus h.is)
+    ∙ ap (λ (wires : List Wire). sum (port_widths Output (record m { wires = wires }))) h.over
 
 flat_map_snoc : {A : Type 0} (f : A → List ℕ) (xs : List A) (x : A) → flat_map f (xs ++ x ∷ []) ≡ flat_map f xs ++ f x
 flat_map_snoc f [] x = append-nil (f x)
@@ -71,3 +75,16 @@ traced_none d m sim text at nothing = record { at = at; written = nothing }
 -- after all steps the trace is written
 pub traced_all : (d : Design) (m : Module) (all : List (List Bit)) (n : ℕ) (sim : Sim) (text : List ℕ) → length all ≤ n → IsTraced d m (take n all) sim text → text ≡ trace_text d m all
 traced_all d m all n sim text le h = h.written ∙ ap (trace_text d m) (whole all n le)
+
+-- a simulation goes on: at each module with these wires that it was at before the first step it is traced
+abbrev pub GoesOn : Sim → List Wire → List (List Bit) → Sim → List ℕ → Type 0
+GoesOn first wires stimulus now text = (d : Design) (m : Module) → m.wires ≡ wires → IsSimOf first d m [] → IsTraced d m stimulus now text
+
+pub goes_over : (first now : Sim) (wires : List Wire) (stimulus : List (List Bit)) (text : List ℕ) → IsFreshOver first wires → GoesOn first wires stimulus now text → IsSimOver now wires
+goes_over first now wires stimulus text h goes = record {
+  design = h.design;
+  body = h.body;
+  stimulus = stimulus;
+  over = h.over;
+  is = (goes h.design h.body h.over h.is).at;
+}

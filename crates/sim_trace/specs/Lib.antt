@@ -1,1 +1,2 @@
 pub mod Stimulus
+pub mod Steps

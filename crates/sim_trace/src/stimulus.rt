@@ -1,6 +1,7 @@
 //! The stimulus of a simulation.
 
-ghost use Rattle.std.specs.Prelude.{◌≡◌, ◌+◌, ◌++◌, ◌∷◌, [], ◌≤◌, ℕ, Err, IfOk, List, None, Ok, OnOk, Some, drop, length, position, take};
+ghost use Rattle.std.specs.Prelude.{◌≡◌, ◌+◌, ◌++◌, ◌∷◌, [], ◌≤◌, ℕ, Err, IfOk, List, None, Ok, OnOk, Some, drop};
+ghost use Rattle.std.specs.Prelude.{length, position, take};
 ghost use Rattle.rtl_bits.specs.declared.bit.Bit.{Bit};
 ghost use Rattle.rtl_ir.specs.declared.wire.Role.TheVariants.{Input};
 ghost use Rattle.sim_text.specs.Lines.{step_of};
@@ -64,8 +65,10 @@ fn push_step(
     line: &[u8],
     module: &Module,
 ) -> Result<(), StimulusFault>
-    ensures ok { OnOk result ((bits : List Bit) × (step_of (port_widths Input «module».now) line.now ≡ Some bits) × (steps.new ≡ steps.old ++ bits ∷ [])) }
-    ensures bad { (number : ℕ) → result ≡ Err (StimulusFault.Bad number) → (number ≡ length steps.old + 1) × (step_of (port_widths Input «module».now) line.now ≡ None) }
+    ensures ok { OnOk result ((bits : List Bit) × (step_of (port_widths Input «module».now) line.now ≡
+        Some bits) × (steps.new ≡ steps.old ++ bits ∷ [])) }
+    ensures bad { (number : ℕ) → result ≡ Err (StimulusFault.Bad number) →
+        (number ≡ length steps.old + 1) × (step_of (port_widths Input «module».now) line.now ≡ None) }
 {
     let number = steps.as_slice().len() + 1;
     match read_step(alloc, line, module) {
@@ -82,7 +85,8 @@ fn push_step(
 #[tactic(auto, using(crate::proofs::Lining::reads_first, crate::proofs::Lining::reads_more, crate::proofs::Lining::reads_bad, crate::proofs::Lining::reads_end, crate::proofs::Lining::end_within))]
 pub fn stimulus_of(alloc: Global, module: &Module, text: &[u8]) -> Result<Seq<Bits>, StimulusFault>
     ensures reads { IfOk result (λ steps. stimulus_of «module».now text.now ≡ Ok steps) }
-    ensures bad { (number : ℕ) → result ≡ Err (StimulusFault.Bad number) → stimulus_of «module».now text.now ≡ Err number }
+    ensures bad { (number : ℕ) → result ≡ Err (StimulusFault.Bad number) →
+        stimulus_of «module».now text.now ≡ Err number }
 {
     let mut steps = Seq::make(alloc);
     let mut rest = text;

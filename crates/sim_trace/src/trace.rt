@@ -6,25 +6,33 @@ ghost use Rattle.rtl_ir.specs.Faults.{check_faults};
 ghost use Rattle.rtl_ir.specs.declared.module.Design.{Design};
 ghost use Rattle.rtl_ir.specs.declared.module.Module.{Module};
 ghost use Rattle.rtl_ir.specs.declared.wire.Role.TheVariants.{Output};
+ghost use Rattle.flat_net.specs.Titled.{HaveNoProcess, titled_design};
+ghost use Rattle.net_model.specs.Within.{Each};
 ghost use Rattle.sim_eval.specs.After.{outputs_after};
+ghost use Rattle.sim_eval.specs.Shapes.{HaveShapes};
 ghost use Rattle.sim_eval.specs.Sim.{IsSimOf};
 ghost use Rattle.sim_text.specs.Lines.{step_line};
 ghost use Rattle.sim_text.specs.Ports.{port_widths};
+ghost use Rattle.sim_trace.specs.Steps.{IsFreshOver, IsSimOver};
 ghost use Rattle.sim_trace.specs.Stimulus.{trace_text};
 
+use flat_net::Titled;
 use rtl_bits::{Bits, Memory, Text};
 use rtl_ir::{Design, Module};
 use sim_eval::Sim;
 use sim_text::write_step;
 use std::alloc::Global;
 
-/// Makes a step of a simulation of the module with an input vector, and writes the line of its outputs.
+/// Makes a step of a simulation of a module with these wires with an input vector, and writes the line of its outputs.
 fn put_step(text: &mut Text, sim: &mut Sim, module: &Module, inputs: &Bits) -> Result<(), Memory>
-    requires sim { (d : Design) × (stimulus : List (List Bit)) × IsSimOf sim.old d «module».now stimulus }
-    ensures settled { (d : Design) (stimulus : List (List Bit)) → IsSimOf sim.old d «module».now stimulus →
-        OnOk result (IsSimOf sim.new d «module».now (stimulus ++ inputs.now ∷ [])) }
-    ensures line { (d : Design) (stimulus : List (List Bit)) → IsSimOf sim.old d «module».now stimulus →
-        OnOk result (text.new ≡ text.old ++ (step_line (port_widths Output «module».now) (outputs_after d «module».now (stimulus ++ inputs.now ∷ [])) ++ codes "\n")) }
+    requires sim { IsSimOver sim.old «module».now.wires }
+    ensures settled { (d : Design) (m : Module) (stimulus : List (List Bit)) → IsSimOf sim.old d m stimulus →
+        OnOk result (IsSimOf sim.new d m (stimulus ++ inputs.now ∷ [])) }
+    ensures line { (d : Design) (m : Module) (stimulus : List (List Bit)) → m.wires ≡ «module».now.wires →
+        IsSimOf sim.old d m stimulus →
+        OnOk result (text.new ≡
+        text.old ++ (step_line (port_widths Output m) (outputs_after d m (stimulus ++ inputs.now ∷ [])) ++
+        codes "\n")) }
 {
     let outputs = sim.step(inputs)?;
     let line = write_step(text.allocator(), &outputs, module)?;
@@ -33,8 +41,26 @@ fn put_step(text: &mut Text, sim: &mut Sim, module: &Module, inputs: &Bits) -> R
     Ok(())
 }
 
+/// The lines of the trace of a simulation of a module with these wires, from its start on.
+#[tactic(auto, using(crate::proofs::Tracing::traced_none))]
+fn trace_of(
+    alloc: Global,
+    sim: &mut Sim,
+    module: &Module,
+    stimulus: &[Bits],
+) -> Result<Text, Memory>
+    requires fresh { IsFreshOver sim.old «module».now.wires }
+    ensures value { (d : Design) (m : Module) → m.wires ≡ «module».now.wires → IsSimOf sim.old d m [] →
+        IfOk result (λ text. text ≡ trace_text d m stimulus.now) }
+{
+    let mut text = Text::make(alloc);
+    for inputs in stimulus {
+        put_step(&mut text, sim, module, inputs)?;
+    }
+    Ok(text)
+}
+
 /// The lines of the trace of the module at this place of a design without faults.
-#[tactic(auto, using(crate::proofs::Tracing::traced_more, crate::proofs::Tracing::traced_none, crate::proofs::Tracing::traced_all))]
 pub fn trace_text(
     alloc: Global,
     design: &Design,
@@ -47,11 +73,25 @@ pub fn trace_text(
     ensures value { («module» : Module) → slice_get design.now.modules at ≡ Some «module» →
         IfOk result (λ text. text ≡ trace_text design.now «module» stimulus.now) }
 {
-    let module = &design.modules.as_slice()[at];
     let mut sim = Sim::start(alloc, design, at as u32)?;
-    let mut text = Text::make(alloc);
-    for inputs in stimulus {
-        put_step(&mut text, &mut sim, module, inputs)?;
-    }
-    Ok(text)
+    trace_of(alloc, &mut sim, &design.modules.as_slice()[at], stimulus)
+}
+
+/// The lines of the trace of the module at this place among modules without processes that are lent, each under its
+/// name. Their cells have shapes.
+pub fn titled_trace(
+    alloc: Global,
+    modules: &[Titled],
+    at: usize,
+    stimulus: &[Bits],
+) -> Result<Text, Memory>
+    requires in_range { at < length modules.now }
+    requires small { length modules.now < 2 ^ 32 }
+    requires plain { HaveNoProcess modules.now }
+    requires shapes { Each (λ (m : Module). HaveShapes m.cells) (titled_design modules.now).modules }
+    ensures value { («module» : Module) → slice_get (titled_design modules.now).modules at ≡ Some «module» →
+        IfOk result (λ text. text ≡ trace_text (titled_design modules.now) «module» stimulus.now) }
+{
+    let mut sim = Sim::start_titled(alloc, modules, at as u32)?;
+    trace_of(alloc, &mut sim, modules[at].body, stimulus)
 }

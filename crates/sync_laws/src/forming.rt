@@ -48,9 +48,9 @@ pub fn flops_are_a_step()
         HaveNoWrites m → HaveNoStarts m → IsStep table m (proc_sync_of m) }
 {}
 
-/// Where no rule acts always, and no process has two rules at edges, the module with flip-flops, latches and write ports
-/// in the place of rules has the same name, ports and instances, and no bit gets a second driver, in whatever design it
-/// stands.
+/// Where no rule acts always, and no process has two rules at edges, the module with flip-flops, latches and write
+/// ports in the place of rules has the same name, ports and instances, and no bit gets a second driver, in whatever
+/// design it stands.
 pub fn storage_fits()
     ensures same_id { (m : Module) → m.id ≡ (proc_sync_of m).id }
     ensures same_ports { (m : Module) → ports_of m.wires ≡ ports_of (proc_sync_of m).wires }

@@ -1,11 +1,11 @@
 //! Reading the whole input, up to its limit.
 
-ghost use Rattle.std.specs.Prelude.{◌≡◌, ◌<◌, ◌≤◌, ◌+◌, length, vec_len, IfOk, OnOk, OnErr, Err};
-ghost use Rattle.std.specs.Io.KnownBytes.{Consumes, IsAtEnd};
-ghost use Rattle.synth_io.specs.Counts.{HasRisen};
-ghost use Rattle.synth_io.specs.Taking.{Moves, TakesAtMost, TakesJust};
+ghost use Rattle.std.specs.Prelude.{◌≡◌, ◌<◌, ◌≤◌, ◌+◌, ℕ, length, vec_len, IfOk, OnOk, OnErr, Err, Ok};
+ghost use Rattle.std.specs.Io.KnownBytes.{Consumes, IsAtEnd, Keeps};
+ghost use Rattle.synth_io.specs.Counts.{HasCause, HasRisen};
+ghost use Rattle.synth_io.specs.Taking.{IsTaken, Moves, TakesAtMost, TakesJust};
 
-use crate::traits::Source;
+use crate::traits::{Failed, Source};
 use rtl_bits::Text;
 use std::alloc::{AllocError, Global};
 use thiserror::Error;
@@ -100,4 +100,39 @@ pub fn read_input<S: Source>(alloc: Global, source: &mut S) -> Result<Text, Inpu
         }
     }
     Err(InputError::TooLong)
+}
+
+/// What came of the next bytes of an input.
+#[derive(Clone, Copy, Debug, PartialEq, Eq)]
+pub enum Next {
+    /// So many bytes, at least one, at the front of the piece.
+    Bytes(usize),
+    /// The input is at its end.
+    End,
+    /// A byte past [`LIMIT`].
+    Past,
+}
+
+/// Reads the next bytes of an input, of which so many were taken before, into the piece: none past
+/// [`LIMIT`] but one, which is `Past`. After an error nothing was taken.
+pub fn read_next<S: Source>(source: &mut S, piece: &mut [u8], taken: usize) -> Result<Next, Failed>
+    requires some { 0 < length piece.old }
+    requires within { taken ≤ LIMIT }
+    ensures bytes { (n : ℕ) → result ≡ Ok (Next.Bytes n) →
+        IsTaken (S.left source.old) (S.left source.new) taken piece.new n }
+    ensures end { result ≡ Ok Next.End → Keeps (S.left source.old) (S.left source.new) × IsAtEnd (S.left source.new) }
+    ensures past { result ≡ Ok Next.Past → (taken ≡ LIMIT) × TakesJust 1 (S.left source.old) (S.left source.new) }
+    ensures lost { OnErr result (Keeps (S.left source.old) (S.left source.new)) }
+    ensures cause { HasCause (S.faults source.old) (S.faults source.new) result }
+    ensures size { length piece.new ≡ length piece.old }
+{
+    let room = piece.len().min(LIMIT - taken).max(1);
+    let count = source.read(&mut piece[..room])?;
+    if count == 0 {
+        Ok(Next::End)
+    } else if taken < LIMIT {
+        Ok(Next::Bytes(count))
+    } else {
+        Ok(Next::Past)
+    }
 }

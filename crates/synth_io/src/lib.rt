@@ -13,7 +13,7 @@ mod standard;
 mod sure;
 mod traits;
 
-pub use input::{InputError, LIMIT, read_input};
+pub use input::{InputError, LIMIT, Next, read_input, read_next};
 pub use mem_sink::MemSink;
 pub use mem_source::MemSource;
 pub use output::write_reply;

@@ -1,147 +1,164 @@
--- Each input has just one reply.
-use Rattle.std.proofs.Common.{◌≡◌, ◌≢◌, ◌≤◌, ◌++◌, ℕ, List, [], Bool, arith, true, false, Option, Some, None, Result, Ok, Err, take, length, refl, sym, ap, subst, ◌∙◌, append-nil, inl, inr, ◌⊎◌}
-use Rattle.std.proofs.lemmas.Bool.Decides.{nat_tests}
-use Rattle.std.specs.Prelude.{nat_lt, codes, IfOk, IfSome}
-use Rattle.std.specs.Io.KnownBytes.{Appends, Consumes, IsAtEnd}
-use Rattle.rtl_bits.specs.declared.memory.Memory.{Memory}
+-- What a session wrote is its reply, or a front of it.
+use Rattle.std.proofs.Common.{◌≡◌, ◌⊎◌, inl, inr, ℕ, ◌+◌, ◌≤◌, ◌<◌, List, [], ◌∷◌, ◌++◌, Bool, true, false, Option, Some, None, length, min, take, refl, sym, ap, subst, ◌∙◌, append_assoc, append-nil, arith}
+use Rattle.std.specs.Prelude.{IfSome, nat_lt}
+use Rattle.std.specs.List.{list_any}
+use Rattle.std.specs.Io.KnownBytes.{Appends, Consumes, IsAtEnd, Keeps}
+use Rattle.std.proofs.lemmas.List.{take-append-le, take_min}
+use Rattle.std.proofs.Math.Seq.{take-length}
 use Rattle.synth_io.specs.declared.input.TheConstants.{LIMIT}
-use Rattle.synth_io.specs.declared.input.InputError.{InputError}
 use Rattle.rtl_ir.specs.declared.module.Design.{Design}
-use Rattle.rtl_ir.specs.Fault.{Fault}
-use Rattle.rtl_ir.specs.Faults.{check_faults}
-use Rattle.rtl_check.specs.declared.fault.CheckFault.{CheckFault}
-use Rattle.rtl_check.specs.declared.fault.CheckFault.TheVariants as check
-use Rattle.rtl_check.specs.Finds.{IsFirst, first_answer}
-use Rattle.rtl_check.specs.Words.{fault_number, fault_words}
 use Rattle.rtl_read.specs.declared.read_fault.ReadFault.{ReadFault}
-use Rattle.rtl_read.specs.declared.read_fault.ReadFault.TheVariants as faults
-use Rattle.rtl_read.specs.Reads.{Reads, IsFirstFault, OnFault}
-use Rattle.rtl_read.proofs.Unique.{one_design, one_fault, not_both, some_answer}
-use Rattle.synth_run.specs.declared.program.Mode.{Mode}
-use Rattle.synth_run.specs.declared.program.Mode.TheVariants.{Synth}
-use Rattle.synth_run.specs.declared.reply.Reply.{Reply}
-use Rattle.synth_run.specs.Said.{said_of}
-use Rattle.synth_run.specs.Replies.{Said, checked_reply, cold_reply, error_line, design_reply, fault_reply, IsTextReply, IsInputReply, IsReply, HasBegun, HasAnswered}
+use Rattle.rtl_read.specs.Reads.{Reads, IsFirstFault}
+use Rattle.rtl_read.proofs.Unique.{some_answer}
+use Rattle.script_core.specs.declared.word.Word.{Word}
+use Rattle.script_core.specs.Words.{IsScript}
+use Rattle.desk_read.specs.declared.command.Command.{Command}
+use Rattle.desk_core.specs.State.{State, first_state}
+use Rattle.reply_lines.specs.Lines.{error_reply, read_words}
+use Rattle.synth_run.specs.declared.words.Mode.{Mode}
+use Rattle.synth_run.specs.declared.words.Mode.TheVariants.{Synth, Session, Generate}
+use Rattle.synth_run.specs.declared.session.Stop.{Stop}
+use Rattle.synth_run.specs.declared.session.Stop.TheVariants as halts
+use Rattle.synth_run.specs.Builds.{CountsTurns, HasCounted}
+use Rattle.synth_run.specs.Replies.{AnswersTaken, HasAnswered, HasBegun, IsPrintedSession, IsReadThrough, IsReply}
+use Rattle.synth_run.specs.Said.{Said, said_of, too_long}
+use Rattle.synth_run.specs.Session.{AreTurns, IsSession, Turn, commands_in, input_commands, is_long, is_overlong, session_said, state_after, text_in}
+use Rattle.synth_run.specs.Synth.{IsInputReply, IsSynthReply, IsTextReply, design_said}
+use Rattle.synth_run.specs.Taking.{BeginWith, Broken, Held, IsCut, SpeaksFor}
+use Rattle.synth_run.proofs.Printing.{turns_print}
+use Rattle.synth_run.proofs.Speaking.{appends_nothing, commands_both, text_both, turns_both}
+use Rattle.synth_run.proofs.Stepping.{IsGood, first_good, some_turns, turns_good}
 
--- ---- there is one
+-- ---- each input has a reply
 
-said_of_answer : (text : List ℕ) → ((design : Design) × Reads text design) ⊎ ((fault : ReadFault) × IsFirstFault text fault) → (said : Said) × IsTextReply text said
-said_of_answer text (inl (design, reads)) = (design_reply design, inl (design, reads, refl))
-said_of_answer text (inr (fault, first)) = (fault_reply fault, inr (fault, first, refl))
+text_said : (script : List Word) (text : List ℕ) → ((design : Design) × Reads text design) ⊎ ((fault : ReadFault) × IsFirstFault text fault) → (said : Said) × IsTextReply script text said
+text_said script text (inl (design, reads)) = (design_said script design, inl (design, reads, refl))
+text_said script text (inr (fault, first)) = (said_of (error_reply (read_words fault)), inr (fault, first, refl))
 
-some_input : (long : Bool) (input : List ℕ) → (said : Said) × IsInputReply long input said
-some_input true input = (error_line (codes "17") (codes "input"), refl)
-some_input false input = said_of_answer input (some_answer input)
+input_said : (long : Bool) (script : List Word) (input : List ℕ) → (said : Said) × IsInputReply long script input said
+input_said true script input = (too_long, refl)
+input_said false script input = text_said script input (some_answer input)
 
-pub some_reply : (mode : Mode) (input : List ℕ) → (said : Said) × IsReply mode input said
-some_reply Synth input = some_input (nat_lt LIMIT (length input)) input
+pub synth_said : (script : List Word) (input : List ℕ) → (said : Said) × IsSynthReply script input said
+synth_said script input = input_said (is_long input) script input
 
--- ---- there is no other
+pub session_turns : (script : List Word) (input : List ℕ) → IsScript script → (turns : List Turn) × IsSession script input turns
+session_turns script input is =
+    let found = some_turns (input_commands input) (first_state script) (first_good script is) in
+    (found.0, record { steps = found.1; commands = found.2 })
 
-same_text : (text : List ℕ) (said other : Said) → IsTextReply text said → IsTextReply text other → said ≡ other
-same_text text said other (inl (design, reads, is)) (inl (design', reads', is')) =
-    is ∙ ap design_reply (one_design text design design' reads reads') ∙ sym is'
-same_text text said other (inl (design, reads, is)) (inr (fault, first, is')) = absurd (not_both text design fault reads first)
-same_text text said other (inr (fault, first, is)) (inl (design, reads, is')) = absurd (not_both text design fault reads first)
-same_text text said other (inr (fault, first, is)) (inr (fault', first', is')) =
-    is ∙ ap fault_reply (one_fault text fault fault' first first') ∙ sym is'
-
-same_input : (long : Bool) (input : List ℕ) (said other : Said) → IsInputReply long input said → IsInputReply long input other → said ≡ other
-same_input true input said other is is' = is ∙ sym is'
-same_input false input said other is is' = same_text input said other is is'
-
-pub same_reply : (mode : Mode) (input : List ℕ) (said other : Said) → IsReply mode input said → IsReply mode input other → said ≡ other
-same_reply Synth input said other is is' = same_input (nat_lt LIMIT (length input)) input said other is is'
-
--- ---- what the calls answer
-
--- the reply to the design of a text is a reply to the text
-pub of_design : (text : List ℕ) (design : Design) (r : Result Reply Memory) → Reads text design → IfOk r (λ reply. said_of reply ≡ design_reply design) → IfOk r (λ reply. IsTextReply text (said_of reply))
-of_design text design (Ok reply) reads is = inl (design, reads, is)
-of_design text design (Err memory) reads is = tt
-
--- a design without faults has the reply to its cold run
-pub of_accepted : (design given : Design) (r : Result Reply Memory) → given ≡ design → check_faults design.modules ≡ []
-    → IfOk r (λ reply. said_of reply ≡ cold_reply given) → IfOk r (λ reply. said_of reply ≡ design_reply design)
-unfolding design_reply
-of_accepted design given (Ok reply) same fine is =
-    is ∙ ap (λ (d : Design). checked_reply d None) same ∙ sym (ap (λ fs. checked_reply design (first_answer fs)) fine)
-of_accepted design given (Err memory) same fine is = tt
-
-first_is : (fault : CheckFault) (all : List Fault) → IsFirst fault all → (fault ≡ check.Memory → ⊥) → first_answer all ≡ Some fault
-first_is (check.Width s) all first other = first
-first_is (check.UnknownCell s) all first other = first
-first_is (check.UnsupportedCell s) all first other = first
-first_is (check.BadParameterOrPort s) all first other = first
-first_is (check.TooWide s) all first other = first
-first_is (check.TwoDrivers s) all first other = first
-first_is (check.BadPort s) all first other = first
-first_is (check.BadProcess s) all first other = first
-first_is (check.BadMemory s) all first other = first
-first_is (check.Recursion id) all first other = first
-first_is check.Memory all first other = absurd (other refl)
-
--- a design with a first fault has the reply with its line
-pub of_refused : (design : Design) (fault : CheckFault) (r : Result Reply Memory) → IsFirst fault (check_faults design.modules)
-    → IfOk r (λ reply. fault ≢ check.Memory) → IfOk r (λ reply. said_of reply ≡ error_line (fault_number fault) (fault_words fault))
-    → IfOk r (λ reply. said_of reply ≡ design_reply design)
-unfolding design_reply
-of_refused design fault (Ok reply) first other is = is ∙ sym (ap (checked_reply design) (first_is fault (check_faults design.modules) first other))
-of_refused design fault (Err memory) first other is = tt
-
--- a fault that is no want of memory is the first
-pub is_first : (text : List ℕ) (fault : ReadFault) → OnFault {X = Design} (Err fault) (IsFirstFault text) → (fault ≡ faults.Memory → ⊥) → IsFirstFault text fault
-is_first text (faults.Lex place) first other = first
-is_first text (faults.Syntax place) first other = first
-is_first text (faults.Int place) first other = first
-is_first text (faults.Duplicate place) first other = first
-is_first text (faults.UnknownName place) first other = first
-is_first text (faults.Range place) first other = first
-is_first text (faults.Limit place) first other = first
-is_first text faults.Memory first other = absurd (other refl)
-
--- the reply to the first fault of a text is a reply to the text
-pub of_fault : (text : List ℕ) (fault : ReadFault) (r : Result Reply Memory) → IsFirstFault text fault → IfOk r (λ reply. said_of reply ≡ fault_reply fault) → IfOk r (λ reply. IsTextReply text (said_of reply))
-of_fault text fault (Ok reply) first is = inr (fault, first, is)
-of_fault text fault (Err memory) first is = tt
-
--- ---- what a call wrote
-
-appends_nothing : (had : Option (List ℕ)) → Appends had had []
-appends_nothing None = tt
-appends_nothing (Some bytes) = sym (append-nil bytes)
+pub some_reply : (mode : Mode) (script : List Word) (input : List ℕ) → IsScript script → (mode ≡ Synth) ⊎ (mode ≡ Session) → (said : Said) × IsReply mode script input said
+some_reply Synth script input is mode = synth_said script input
+some_reply Session script input is mode =
+    let found = session_turns script input is in
+    (session_said (is_overlong input) found.0, (found.0, found.1, refl))
+some_reply (Generate count) script input is (inl mode) = absurd cc
+some_reply (Generate count) script input is (inr mode) = absurd cc
 
 -- nothing is a front of the reply
-pub begun_none : (mode : Mode) (before had : Option (List ℕ)) → HasBegun mode before had had
-begun_none mode None had = tt
-begun_none mode (Some input) had = let r = some_reply mode input in (r.0, r.1, (0, appends_nothing had))
+pub begun_none : (mode : Mode) (script : List Word) (before had : Option (List ℕ)) → IsScript script → (mode ≡ Synth) ⊎ (mode ≡ Session) → HasBegun mode script before had had
+begun_none mode script None had is modes = tt
+begun_none mode script (Some input) had is modes =
+    let found = some_reply mode script input is modes in
+    (found.0, found.1, (0, appends_nothing had))
 
--- a front of what is the reply
-pub begun_some : (mode : Mode) (before had has : Option (List ℕ)) (reply : Reply) → IfSome before (λ input. IsReply mode input (said_of reply)) → (n : ℕ) × Appends had has (take n reply.text) → HasBegun mode before had has
-begun_some mode None had has reply is front = tt
-begun_some mode (Some input) had has reply is front = (said_of reply, is, front)
+-- ---- a session to its end
 
--- the whole reply
-pub answered : (mode : Mode) (error : Bool) (before had has : Option (List ℕ)) (reply : Reply) → IfSome before (λ input. IsReply mode input (said_of reply)) → Appends had has reply.text → reply.error ≡ error → HasAnswered mode error before had has
-answered mode error None had has reply is whole e = tt
-answered mode error (Some input) had has reply is whole e = (said_of reply, is, whole, e)
+left_of : (input bytes : List ℕ) (rest : Option (List ℕ)) → Consumes (Some input) rest bytes → (more : List ℕ) × (rest ≡ Some more) × (input ≡ bytes ++ more)
+left_of input bytes None taken = absurd taken
+left_of input bytes (Some more) taken = (more, refl, taken)
 
--- a reply to a text that is not too long is a reply to the input
-pub short_reply : (mode : Mode) (input : List ℕ) (said : Said) → nat_lt LIMIT (length input) ≡ false → IsTextReply input said → IsReply mode input said
-short_reply Synth input said short is = subst (λ (long : Bool). IsInputReply long input said) (sym short) is
+speaks_input : (script : List Word) (input bytes : List ℕ) (rest : Option (List ℕ)) (turns : List Turn) (over : Bool) → Consumes (Some input) rest bytes → AreTurns (first_state script) turns
+    → SpeaksFor bytes rest turns over → IsSession script input turns × (is_overlong input ≡ over)
+speaks_input script input bytes rest turns over taken steps speaks =
+    let left = left_of input bytes rest taken in
+    let is = speaks left.0 left.1 in (
+      record { steps = steps; commands = is.0 ∙ sym (ap input_commands left.2) },
+      ap is_overlong left.2 ∙ is.1,
+    )
 
-not_above : (n m : ℕ) → n ≤ m → nat_lt m n ≡ false
-not_above n m le = grind (arith, nat_tests)
+pub held_answered : (script : List Word) (refused : Bool) (left rest had has : Option (List ℕ)) (m n : ℕ) → Held (first_state script) refused left rest had has m n
+    → HasAnswered Session script refused left had has
+held_answered script refused None rest had has m n h = tt
+held_answered script refused (Some input) rest had has m n h =
+    let is = speaks_input script input h.bytes rest h.turns h.over h.taken h.steps h.session in (
+      session_said h.over h.turns,
+      (h.turns, is.0, ap (λ (t : Bool). session_said t h.turns) (sym is.1)),
+      h.written,
+      h.error,
+    )
 
--- what was read to its end is the input
-pub whole_reply : (mode : Mode) (before after : Option (List ℕ)) (bytes : List ℕ) (said : Said) → Consumes before after bytes → IsAtEnd after → length bytes ≤ LIMIT → IsTextReply bytes said → IfSome before (λ input. IsReply mode input said)
-whole_reply mode None after bytes said taken ended le is = tt
-whole_reply mode (Some input) None bytes said taken ended le is = absurd taken
-whole_reply mode (Some input) (Some rest) bytes said taken ended le is =
-    let same : input ≡ bytes = taken ∙ ap (λ (left : List ℕ). bytes ++ left) ended ∙ append-nil bytes in
-    let short : nat_lt LIMIT (length input) ≡ false = ap (λ (text : List ℕ). nat_lt LIMIT (length text)) same ∙ not_above (length bytes) LIMIT le in
-    short_reply mode input said short (subst (λ (text : List ℕ). IsTextReply text said) (sym same) is)
+pub held_through : (desk : State) (refused : Bool) (left rest had has : Option (List ℕ)) (m n : ℕ) → Held desk refused left rest had has m n → IsReadThrough Session left rest
+held_through desk refused left rest had has m n h = record { bytes = h.bytes; taken = h.taken; through = h.through }
 
-pub whole_replies : (mode : Mode) (before after : Option (List ℕ)) (bytes : List ℕ) (r : Result Reply InputError) → Consumes before after bytes → IsAtEnd after → length bytes ≤ LIMIT → IfOk r (λ reply. IsTextReply bytes (said_of reply)) → IfOk r (λ reply. IfSome before (λ input. IsReply mode input (said_of reply)))
-whole_replies mode before after bytes (Ok reply) taken ended le is = whole_reply mode before after bytes (said_of reply) taken ended le is
-whole_replies mode before after bytes (Err error) taken ended le is = tt
+pub held_prints : (script : List Word) (refused : Bool) (left rest had has : Option (List ℕ)) (m n : ℕ) → IsScript script → Held (first_state script) refused left rest had has m n
+    → IfSome left (λ input. IsPrintedSession script input had has)
+held_prints script refused None rest had has m n good h = tt
+held_prints script refused (Some input) rest had has m n good h =
+    let is = speaks_input script input h.bytes rest h.turns h.over h.taken h.steps h.session in
+    record {
+      turns = h.turns;
+      session = is.0;
+      written = subst (λ (t : Bool). Appends had has (session_said t h.turns).text) (sym is.1) h.written;
+      netlists = turns_print (first_state script) h.turns (first_good script good) h.steps;
+    }
+
+pub held_counted : (script : List Word) (refused : Bool) (left rest had has : Option (List ℕ)) (m n : ℕ) → Held (first_state script) refused left rest had has m n
+    → (bytes : List ℕ) × Consumes left rest bytes × CountsTurns script bytes m n
+held_counted script refused left rest had has m n h =
+    (h.bytes, h.taken, record { turns = h.turns; more = h.first.0; steps = h.steps; commands = h.first.1; builds = h.builds })
+
+-- ---- a session that broke off
+
+front_said : (over : Bool) (a b : List Turn) (had has : Option (List ℕ)) (size : ℕ) → Appends had has (take size (text_in a)) → (n : ℕ) × Appends had has (take n (session_said over (a ++ b)).text)
+front_said over a b had has size written =
+    let n = min size (length (text_in a)) in
+    (n, subst (Appends had has) (sym (cut over)) written)
+  where
+    short : (tail : List ℕ) → take (min size (length (text_in a))) (text_in a ++ tail) ≡ take size (text_in a)
+    short tail = take-append-le (min size (length (text_in a))) (text_in a) tail (omega arith) ∙ take_min size (text_in a)
+
+    cut : (t : Bool) → take (min size (length (text_in a))) (session_said t (a ++ b)).text ≡ take size (text_in a)
+    cut false = ap (take (min size (length (text_in a)))) (text_both a b) ∙ short (text_in b)
+    cut true = ap (λ (l : List ℕ). take (min size (length (text_in a))) (l ++ too_long.text)) (text_both a b) ∙ ap (take (min size (length (text_in a)))) (append_assoc (text_in a) (text_in b) too_long.text) ∙ short (text_in b ++ too_long.text)
+
+cut_begun : (script : List Word) (input bytes : List ℕ) (rest had has : Option (List ℕ)) (turns : List Turn) → IsScript script → Consumes (Some input) rest bytes → AreTurns (first_state script) turns
+    → IsCut bytes rest turns had has → (said : Said) × IsReply Session script input said × ((n : ℕ) × Appends had has (take n said.text))
+cut_begun script input bytes rest had has turns good taken steps (inl (begins, (size, written))) =
+    let left = left_of input bytes rest taken in
+    let first = begins left.0 left.1 in
+    let more = some_turns first.0 (state_after (first_state script) turns) (turns_good (first_state script) turns (first_good script good) steps) in
+    let all = turns ++ more.0 in
+    let session : IsSession script input all = record {
+      steps = turns_both (first_state script) turns more.0 steps more.1;
+      commands =
+          commands_both turns more.0 ∙ ap (λ (cs : List Command). commands_in turns ++ cs) more.2 ∙ sym first.1 ∙ sym (ap input_commands left.2);
+    } in (
+      session_said (is_overlong input) all,
+      (all, session, refl),
+      front_said (is_overlong input) turns more.0 had has size written,
+    )
+cut_begun script input bytes rest had has turns good taken steps (inr (speaks, (size, written))) =
+    let is = speaks_input script input bytes rest turns true taken steps speaks in (
+      session_said true turns,
+      (turns, is.0, ap (λ (t : Bool). session_said t turns) (sym is.1)),
+      (size, written),
+    )
+
+pub broken_begun : (script : List Word) (stop : Stop) (left rest had has : Option (List ℕ)) (m n : ℕ) → IsScript script → Broken (first_state script) stop left rest had has m n
+    → HasBegun Session script left had has
+broken_begun script stop None rest had has m n good b = tt
+broken_begun script stop (Some input) rest had has m n good b = cut_begun script input b.bytes rest had has b.turns good b.taken b.steps b.cut
+
+pub held_begins : (said : Said) (had has : Option (List ℕ)) → Appends had has said.text → (n : ℕ) × Appends had has (take n said.text)
+held_begins said had has written = (length said.text, subst (Appends had has) (sym (take-length said.text)) written)
+
+pub broken_answers : (script : List Word) (left rest had has : Option (List ℕ)) (m n : ℕ) → Broken (first_state script) halts.Source left rest had has m n → AnswersTaken script left rest had has
+broken_answers script left rest had has m n b =
+    let is = b.answered refl in
+    record { bytes = b.bytes; turns = b.turns; taken = b.taken; steps = b.steps; commands = is.0; written = is.1 }
+
+pub broken_counted : (script : List Word) (stop : Stop) (left rest had has : Option (List ℕ)) (m n : ℕ) → (stop ≡ halts.Memory → ⊥) → Broken (first_state script) stop left rest had has m n
+    → (bytes : List ℕ) × Consumes left rest bytes × CountsTurns script bytes m n
+broken_counted script stop left rest had has m n other b =
+    (b.bytes, b.taken, record { turns = b.turns; more = b.first.0; steps = b.steps; commands = b.first.1; builds = b.builds other })

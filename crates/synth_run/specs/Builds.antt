@@ -1,23 +1,44 @@
 -- How far a counter of builds rises.
-use Rattle.std.specs.Prelude.{◌≡◌, ◌≤◌, ◌⊎◌, ℕ, List, [], length}
-use Rattle.rtl_bits.specs.Counts.{risen}
+use Rattle.std.specs.Prelude.{◌≡◌, ◌⊎◌, ℕ, List, [], ◌++◌, Option, IfSome}
+use Rattle.std.specs.Io.KnownBytes.{Consumes}
+use Rattle.desk_read.specs.declared.command.Command.{Command}
 use Rattle.rtl_ir.specs.declared.module.Design.{Design}
 use Rattle.rtl_ir.specs.Faults.{check_faults}
 use Rattle.rtl_read.specs.Reads.{Reads}
+use Rattle.script_core.specs.declared.word.Word.{Word}
+use Rattle.desk_core.specs.Builds.{RisesUpTo}
+use Rattle.desk_core.specs.Netlist.{built_count}
+use Rattle.desk_core.specs.State.{first_state}
+use Rattle.synth_run.specs.declared.program.Status.{Status}
+use Rattle.synth_run.specs.declared.program.Status.TheVariants as statuses
+use Rattle.synth_run.specs.declared.words.Mode.{Mode}
+use Rattle.synth_run.specs.declared.words.Mode.TheVariants.{Synth, Session, Generate}
+use Rattle.synth_run.specs.Session.{AreTurns, Turn, all_commands, builds_in, commands_in, up_to_quit}
+use Rattle.synth_run.specs.Synth.{fresh_state}
 
--- a counter has risen by at most so many steps
-pub record RisesUpTo (most before after : ℕ) : Type 0 where
-  pub steps : ℕ
-  pub few : steps ≤ most
-  pub risen : after ≡ risen before steps
-
--- an input is an accepted design, and a counter has risen by at most one for each of its modules
-pub record IsBuilt (input : List ℕ) (before after : ℕ) : Type 0 where
+-- an input is an accepted design, and a counter has risen by at most the number of different keys of its modules
+pub record IsBuilt (script : List Word) (input : List ℕ) (before after : ℕ) : Type 0 where
   pub design : Design
   pub reads : Reads input design
   pub faultless : check_faults design.modules ≡ []
-  pub builds : RisesUpTo (length design.modules) before after
+  pub builds : RisesUpTo (built_count (fresh_state script design)) before after
 
--- the builds for an input: none where it is no accepted design
-abbrev pub CountsBuilds : List ℕ → ℕ → ℕ → Type 0
-CountsBuilds input before after = (after ≡ before) ⊎ IsBuilt input before after
+-- the builds for one text: none where it is no accepted design
+abbrev pub CountsBuilds : List Word → List ℕ → ℕ → ℕ → Type 0
+CountsBuilds script input before after = (after ≡ before) ⊎ IsBuilt script input before after
+
+-- the builds in a session of which these bytes were taken: at most those of the turns that were made, whose commands are the
+-- first of those of the bytes
+pub record CountsTurns (script : List Word) (bytes : List ℕ) (before after : ℕ) : Type 0 where
+  pub turns : List Turn
+  pub more : List Command
+  pub steps : AreTurns (first_state script) turns
+  pub commands : up_to_quit (all_commands bytes) ≡ commands_in turns ++ more
+  pub builds : RisesUpTo (builds_in turns) before after
+
+-- the builds of a call that went from one input to what is left of it; those of a session are not counted where memory was wanting
+abbrev pub HasCounted : Mode → Status → List Word → Option (List ℕ) → Option (List ℕ) → ℕ → ℕ → Type 0
+HasCounted Synth status script left rest before after = IfSome left (λ input. CountsBuilds script input before after)
+HasCounted Session status script left rest before after =
+    (status ≡ statuses.Memory → ⊥) → (bytes : List ℕ) × Consumes left rest bytes × CountsTurns script bytes before after
+HasCounted (Generate count) status script left rest before after = ⊥

@@ -1,4 +1,11 @@
-pub mod Cold
+pub mod Options
+pub mod Spelled
+pub mod Words
+pub mod Said
+pub mod Lines
+pub mod Session
+pub mod Synth
+pub mod Refined
+pub mod Taking
 pub mod Builds
 pub mod Replies
-pub mod Said

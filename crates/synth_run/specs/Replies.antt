@@ -1,140 +1,74 @@
 -- What the program writes, and what a call owes.
-use Rattle.std.specs.Prelude.{◌≡◌, ℕ, ◌-◌, ◌<◌, nat_lt, List, [], ◌∷◌, ◌++◌, Bool, true, false, Option, Some, None, IfSome, length, take, codes, ◌⊎◌}
-use Rattle.std.specs.Fmt.{decimal}
-use Rattle.std.specs.Io.KnownBytes.{Appends, Consumes, IsAtEnd}
+use Rattle.std.specs.Prelude.{◌≡◌, ℕ, ◌<◌, List, Bool, true, false, Option, IfSome, Result, Ok, Err, length, take, ◌⊎◌}
+use Rattle.std.specs.List.{list_any}
+use Rattle.std.specs.Io.KnownBytes.{Appends, Consumes, IsAtEnd, Keeps}
 use Rattle.synth_io.specs.declared.input.TheConstants.{LIMIT}
-use Rattle.rtl_ir.specs.declared.module.Design.{Design}
-use Rattle.rtl_lex.specs.Place.{place_text}
-use Rattle.rtl_read.specs.declared.read_fault.ReadFault.{ReadFault}
-use Rattle.rtl_read.specs.declared.read_fault.ReadFault.TheVariants as faults
-use Rattle.rtl_read.specs.Reads.{Reads, IsFirstFault}
-use Rattle.rtl_ir.specs.Faults.{check_faults}
-use Rattle.rtl_ir.specs.Faults.Recursion.{recursion_faults}
-use Rattle.rtl_check.specs.declared.fault.CheckFault.{CheckFault}
-use Rattle.rtl_check.specs.Finds.{first_answer}
-use Rattle.rtl_check.specs.Words.{fault_number, fault_words}
-use Rattle.rtl_write.specs.Text.{text_of}
-use Rattle.net_model.specs.Gates.{is_gate_netlist}
-use Rattle.net_model.specs.Refine.{HasOneDriver, Refines}
-use Rattle.script_core.specs.declared.outcome.Outcome.{Outcome}
 use Rattle.script_core.specs.declared.word.Word.{Word}
-use Rattle.script_core.specs.declared.word.Word.TheVariants as scripts
-use Rattle.script_core.specs.Cold.{IsNetlist, cold}
-use Rattle.script_core.specs.Words.{default_script}
-use Rattle.readable_runs.specs.Short.{HasShortMemories}
-use Rattle.synth_run.specs.declared.program.Mode.{Mode}
-use Rattle.synth_run.specs.declared.program.Mode.TheVariants.{Synth}
+use Rattle.desk_core.specs.State.{first_state}
 use Rattle.synth_run.specs.declared.program.Status.{Status}
 use Rattle.synth_run.specs.declared.program.Status.TheVariants as statuses
-use Rattle.synth_run.specs.declared.over.Overrun.{Overrun}
-use Rattle.synth_run.specs.Cold.{done_modules, first_over, key_count}
+use Rattle.synth_run.specs.declared.session.Stop.{Stop}
+use Rattle.synth_run.specs.declared.session.Stop.TheVariants as halts
+use Rattle.synth_run.specs.declared.words.Mode.{Mode}
+use Rattle.synth_run.specs.declared.words.Mode.TheVariants.{Synth, Session, Generate}
+use Rattle.synth_run.specs.Refined.{IsRefinedBy, PrintNetlists}
+use Rattle.synth_run.specs.Said.{Said}
+use Rattle.synth_run.specs.Session.{AreTurns, IsSession, IsSessionReply, Turn, commands_in, ended_commands, is_overlong, is_quit, session_said, text_in}
+use Rattle.synth_run.specs.Synth.{IsSynthReply}
 
--- a reply, and whether it is an error
-pub record Said : Type 0 where
-  pub text : List ℕ
-  pub error : Bool
+-- the reply to an input, by what is done with it and the script; the number of workers does not occur in it
+abbrev pub IsReply : Mode → List Word → List ℕ → Said → Type 0
+IsReply Synth script input said = IsSynthReply script input said
+IsReply Session script input said = IsSessionReply script input said
+IsReply (Generate count) script input said = ⊥
 
--- what the words ask for: without a word the input is synthesised, and any other words have no meaning
-abbrev pub meaning_of : List (List ℕ) → Option Mode
-meaning_of [] = Some Synth
-meaning_of (word ∷ words) = None
+-- a session that took these bytes was ended by a `quit`
+abbrev pub IsQuit : Mode → List ℕ → Type 0
+IsQuit Session bytes = list_any is_quit (ended_commands bytes) ≡ true
+IsQuit mode bytes = ⊥
 
--- a line that tells an error by its number and words
-abbrev pub error_line : List ℕ → List ℕ → Said
-error_line number words = record { text = codes "error " ++ number ++ codes " " ++ words ++ codes "\n"; error = true }
-
--- the reply to a text with a first fault
-abbrev pub fault_reply : ReadFault → Said
-fault_reply (faults.Lex place) = error_line (codes "1") (place_text place)
-fault_reply (faults.Syntax place) = error_line (codes "2") (place_text place)
-fault_reply (faults.Int place) = error_line (codes "3") (place_text place)
-fault_reply (faults.Duplicate place) = error_line (codes "4") (place_text place)
-fault_reply (faults.UnknownName place) = error_line (codes "5") (place_text place)
-fault_reply (faults.Range place) = error_line (codes "6") (place_text place)
-fault_reply (faults.Limit place) = error_line (codes "17") (place_text place)
-fault_reply faults.Memory = error_line [] []
-
--- how a word is written in scripts
-abbrev pub word_name : Word → List ℕ
-word_name scripts.Proc = codes "proc"
-word_name scripts.OptExpr = codes "opt_expr"
-word_name scripts.OptMerge = codes "opt_merge"
-word_name scripts.OptClean = codes "opt_clean"
-word_name scripts.Opt = codes "opt"
-word_name scripts.Fsm = codes "fsm"
-word_name scripts.Memory = codes "memory"
-word_name scripts.Techmap = codes "techmap"
-
--- what is told of a module that passes a limit: its name, the word of the script, how many keys were built, and for how many of
--- the modules that was reused
-abbrev pub over_words : Overrun → ℕ → ℕ → List ℕ
-over_words over built modules =
-    over.id ++ codes " " ++ word_name over.word ++ codes " built " ++ decimal built ++ codes " reused " ++ decimal (modules - built)
-
--- the reply to outcomes: the text of the netlist, or the line of the first module that passes a limit
-abbrev pub outcomes_reply : Design → List Outcome → Option Overrun → Said
-outcomes_reply design outcomes None = record { text = text_of (record { modules = done_modules outcomes }); error = false }
-outcomes_reply design outcomes (Some over) =
-    error_line (codes "20") (over_words over (key_count default_script design) (length design.modules))
-
--- the reply to a design without faults: that to its cold run
-unfoldable pub cold_reply : Design → Said
-cold_reply design = outcomes_reply design (cold default_script design) (first_over design.modules (cold default_script design))
-
--- the reply to a design: that to its cold run, or its first fault
-abbrev pub checked_reply : Design → Option CheckFault → Said
-checked_reply design None = cold_reply design
-checked_reply design (Some fault) = error_line (fault_number fault) (fault_words fault)
-
-unfoldable pub design_reply : Design → Said
-design_reply design = checked_reply design (first_answer (check_faults design.modules))
-
--- the reply to a text: that to the design that it reads as, or its first fault
-abbrev pub IsTextReply : List ℕ → Said → Type 0
-IsTextReply text said =
-    ((design : Design) × Reads text design × (said ≡ design_reply design))
-    ⊎ ((fault : ReadFault) × IsFirstFault text fault × (said ≡ fault_reply fault))
-
--- the reply to an input, which may be too long
-abbrev pub IsInputReply : Bool → List ℕ → Said → Type 0
-IsInputReply true input said = said ≡ error_line (codes "17") (codes "input")
-IsInputReply false input said = IsTextReply input said
-
-abbrev pub IsReply : Mode → List ℕ → Said → Type 0
-IsReply Synth input said = IsInputReply (nat_lt LIMIT (length input)) input said
-
--- the input was read to its end, or past its limit
-pub record IsReadThrough (before after : Option (List ℕ)) : Type 0 where
+-- the input was read to its end, past its limit or to `quit`
+pub record IsReadThrough (mode : Mode) (before after : Option (List ℕ)) : Type 0 where
   pub bytes : List ℕ
   pub taken : Consumes before after bytes
-  pub through : IsAtEnd after ⊎ (LIMIT < length bytes)
+  pub through : IsAtEnd after ⊎ ((LIMIT < length bytes) ⊎ IsQuit mode bytes)
 
 -- the whole reply was written, and it is an error or not
-abbrev pub HasAnswered : Mode → Bool → Option (List ℕ) → Option (List ℕ) → Option (List ℕ) → Type 0
-HasAnswered mode error before had has =
-    IfSome before (λ input. (said : Said) × IsReply mode input said × Appends had has said.text × (said.error ≡ error))
+abbrev pub HasAnswered : Mode → List Word → Bool → Option (List ℕ) → Option (List ℕ) → Option (List ℕ) → Type 0
+HasAnswered mode script error before had has =
+    IfSome before (λ input. (said : Said) × IsReply mode script input said × Appends had has said.text × (said.error ≡ error))
 
 -- a front of the reply was written
-abbrev pub HasBegun : Mode → Option (List ℕ) → Option (List ℕ) → Option (List ℕ) → Type 0
-HasBegun mode before had has =
-    IfSome before (λ input. (said : Said) × IsReply mode input said × ((n : ℕ) × Appends had has (take n said.text)))
+abbrev pub HasBegun : Mode → List Word → Option (List ℕ) → Option (List ℕ) → Option (List ℕ) → Type 0
+HasBegun mode script before had has =
+    IfSome before (λ input. (said : Said) × IsReply mode script input said × ((n : ℕ) × Appends had has (take n said.text)))
 
--- the netlist of the accepted design that an input is was written: it is what the default script makes of the design; no bit of
--- it has two drivers, and no module stands in itself; it refines the design, and each of its cells is a gate or an instance of
--- one of its modules; and it is what its text reads as, where no line of a process writes a memory of a longer name than a
--- constant holds
-pub record IsRefinedBy (input : List ℕ) (had has : Option (List ℕ)) : Type 0 where
-  pub design : Design
-  pub netlist : Design
-  pub reads : Reads input design
-  pub faultless : check_faults design.modules ≡ []
-  pub run : IsNetlist (cold default_script design) netlist
-  pub written : Appends had has (text_of netlist)
-  pub again : HasShortMemories design → Reads (text_of netlist) netlist
-  pub one_driver : HasOneDriver netlist
-  pub no_recursion : recursion_faults netlist.modules ≡ []
-  pub refines : Refines design netlist
-  pub gates : is_gate_netlist netlist ≡ true
+-- the replies were written to just those commands whose last line was taken with its LF
+pub record AnswersTaken (script : List Word) (before after had has : Option (List ℕ)) : Type 0 where
+  pub bytes : List ℕ
+  pub turns : List Turn
+  pub taken : Consumes before after bytes
+  pub steps : AreTurns (first_state script) turns
+  pub commands : commands_in turns ≡ ended_commands bytes
+  pub written : Appends had has (text_in turns)
+
+-- what was written where the source failed: nothing of the reply to one text
+abbrev pub HasAnsweredTaken : Mode → List Word → Option (List ℕ) → Option (List ℕ) → Option (List ℕ) → Option (List ℕ) → Type 0
+HasAnsweredTaken Session script before after had has = AnswersTaken script before after had has
+HasAnsweredTaken mode script before after had has = Keeps had has
+
+-- the whole session was written, and each netlist that was printed in it is that of the design that was present then
+pub record IsPrintedSession (script : List Word) (input : List ℕ) (had has : Option (List ℕ)) : Type 0 where
+  pub turns : List Turn
+  pub session : IsSession script input turns
+  pub written : Appends had has (session_said (is_overlong input) turns).text
+  pub netlists : PrintNetlists turns
+
+-- each netlist that was written is the one that the script makes of the design
+abbrev pub HasRefined : Mode → Status → List Word → List ℕ → Option (List ℕ) → Option (List ℕ) → Type 0
+HasRefined Synth status script input had has = status ≡ statuses.Done → IsRefinedBy script input had has
+HasRefined Session status script input had has = (status ≡ statuses.Done) ⊎ (status ≡ statuses.Refused) → IsPrintedSession script input had has
+HasRefined (Generate count) status script input had has = ⊥
 
 -- the whole reply was written, or memory was wanting
 abbrev pub IsCompleted : Status → Type 0
@@ -153,3 +87,11 @@ exit_code statuses.Usage = 2
 exit_code statuses.ReadFault = 3
 exit_code statuses.WriteFault = 4
 exit_code statuses.Memory = 5
+
+-- how a call ends that was answered, with an error or without, or that stopped
+abbrev pub status_of : Result Bool Stop → Status
+status_of (Ok false) = statuses.Done
+status_of (Ok true) = statuses.Refused
+status_of (Err halts.Source) = statuses.ReadFault
+status_of (Err halts.Sink) = statuses.WriteFault
+status_of (Err halts.Memory) = statuses.Memory

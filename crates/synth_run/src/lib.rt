@@ -1,11 +1,13 @@
-//! The top call: a text from a source is synthesised, and the reply to it is written into a sink.
+//! The top call: a text is synthesised, or the commands of a session are answered, from a source and into a sink.
 #![tactic(auto)]
 
-mod cold;
 pub mod laws;
-mod over;
+mod lines;
+mod options;
 mod program;
-mod reply;
+mod session;
+mod synth;
+mod words;
 
-pub use over::word_name;
-pub use program::{Mode, Status, run};
+pub use program::{Status, run};
+pub use words::{Mode, Plan, WordFault, read_words};

@@ -1,40 +1,38 @@
 //! The top call.
 
-ghost use Rattle.std.specs.Prelude.{◌≡◌, ◌↔◌, ◌+◌, ◌⊎◌, map, string_bytes, IfOk, IfSome, OnErr, OnOk, OnSome, None, Some, Err, true, false};
-ghost use Rattle.std.specs.Io.KnownBytes.{Keeps};
+ghost use Rattle.std.specs.Prelude.{◌≡◌, ◌≤◌, ◌+◌, ◌⊎◌, ℕ, List, map, string_bytes, Err, IfOk, IfSome, None, OnErr};
+ghost use Rattle.std.specs.Prelude.{OnOk, OnSome, false, true};
+ghost use Rattle.std.specs.Io.KnownBytes.{Consumes, Keeps};
+ghost use Rattle.script_core.specs.Words.{IsScript};
 ghost use Rattle.synth_io.specs.Counts.{HasRisen};
 ghost use Rattle.synth_io.specs.Taking.{TakesAtMost};
 ghost use Rattle.synth_io.specs.declared.input.TheConstants.{LIMIT};
-ghost use Rattle.synth_run.specs.Builds.{CountsBuilds};
-ghost use Rattle.synth_run.specs.Replies.{meaning_of, IsReadThrough, IsRefinedBy, HasAnswered, HasBegun, IsCompleted, IsReply, IsTextReply, exit_code};
-ghost use Rattle.synth_run.specs.Said.{said_of};
+ghost use Rattle.synth_run.specs.Builds.{CountsTurns, HasCounted};
+ghost use Rattle.synth_run.specs.Replies.{AnswersTaken, HasAnswered, HasAnsweredTaken, HasBegun, HasRefined};
+ghost use Rattle.synth_run.specs.Replies.{IsCompleted, IsPrintedSession, IsReadThrough, exit_code, status_of};
+ghost use Rattle.synth_run.specs.Words.{plan_of};
 
-use crate::reply::{Reply, text_reply, too_long};
-use rtl_bits::{Memory, Steps, Text};
+use crate::session::{Session, Stop, piece_of};
+use crate::synth::synthesise;
+use crate::words::{Mode, Plan, WordFault, read_words};
+use rtl_bits::Steps;
 use std::alloc::Global;
-use synth_io::{InputError, Sink, Source, read_input, write_reply};
-
-/// What the words ask for.
-#[derive(Clone, Copy, Debug, PartialEq, Eq)]
-pub enum Mode {
-    /// The input is one text; its netlist is written.
-    Synth,
-}
+use synth_io::{Sink, Source};
 
 /// How a call ended.
 #[derive(Clone, Copy, Debug, PartialEq, Eq)]
 pub enum Status {
-    /// The netlist was written.
+    /// The whole reply was written, and no error is in it.
     Done,
-    /// An error was written.
+    /// The whole reply was written, and an error is in it.
     Refused,
     /// The words have no meaning; nothing was read or written.
     Usage,
-    /// The source failed; nothing was written.
+    /// The source failed.
     ReadFault,
     /// The sink failed; a front of the reply was written.
     WriteFault,
-    /// There was no memory; nothing was written.
+    /// There was no memory; a front of the reply was written.
     Memory,
 }
 
@@ -54,62 +52,62 @@ impl Status {
     }
 }
 
-/// What the words ask for, where they have a meaning.
-fn meaning_of(words: &[String]) -> Option<Mode>
-    ensures value { result ≡ meaning_of (map string_bytes words.now) }
+/// How a call ends that was answered, with an error or without, or that stopped.
+fn status_of(answered: Result<bool, Stop>) -> Status
+    ensures value { result ≡ status_of answered }
 {
-    match words {
-        [] => Some(Mode::Synth),
-        _ => None,
+    match answered {
+        Ok(false) => Status::Done,
+        Ok(true) => Status::Refused,
+        Err(Stop::Source) => Status::ReadFault,
+        Err(Stop::Sink) => Status::WriteFault,
+        Err(Stop::Memory) => Status::Memory,
     }
 }
 
-/// The reply to an input that was read to its end.
-fn whole_reply<L>(alloc: Global, bytes: &Text, meter: &mut Steps<L>) -> Result<Reply, InputError>
-    ensures reply { IfOk result (λ reply. IsTextReply bytes.now (said_of reply)) }
-    ensures builds { CountsBuilds bytes.now meter.old meter.new }
-    ensures cause { OnErr result (result ≡ Err InputError.Memory) }
-{
-    match text_reply(alloc, bytes.as_slice(), meter) {
-        Ok(reply) => Ok(reply),
-        Err(Memory) => Err(InputError::Memory),
-    }
-}
-
-/// Reads the input, and makes the reply.
-#[tactic(auto, using(crate::proofs::Rising::idle))]
-fn reply_to<S: Source, L>(
+/// Answers the commands of an input. Whether an error was answered.
+fn converse<S: Source, K: Sink, L: Send>(
     alloc: Global,
-    mode: Mode,
+    plan: Plan,
     source: &mut S,
+    sink: &mut K,
     meter: &mut Steps<L>,
-) -> Result<Reply, InputError>
-    ensures reply { IfOk result (λ reply. IfSome (S.left source.old) (λ input. IsReply mode input (said_of reply))) }
-    ensures builds { IfSome (S.left source.old) (λ input. CountsBuilds input meter.old meter.new) }
-    ensures through { OnOk result (IsReadThrough (S.left source.old) (S.left source.new)) }
+) -> Result<bool, Stop>
+    requires script { IsScript plan.script }
+    requires some { 1 ≤ plan.workers }
+    requires few { plan.workers ≤ 64 }
+    ensures ok { IfOk result (λ refused.
+        HasAnswered Mode.Session plan.script refused (S.left source.old) (K.held sink.old) (K.held sink.new)) }
+    ensures through { OnOk result (IsReadThrough Mode.Session (S.left source.old) (S.left source.new)) }
+    ensures begun { OnErr result
+        (HasBegun Mode.Session plan.script (S.left source.old) (K.held sink.old) (K.held sink.new)) }
+    ensures answered { result ≡ Err Stop.Source →
+        AnswersTaken plan.script (S.left source.old) (S.left source.new) (K.held sink.old) (K.held sink.new) }
+    ensures prints { OnOk result (IfSome (S.left source.old) (λ input.
+        IsPrintedSession plan.script input (K.held sink.old) (K.held sink.new))) }
+    ensures counts { (result ≡ Err Stop.Memory → ⊥) →
+        (bytes : List ℕ) × Consumes (S.left source.old) (S.left source.new) bytes × CountsTurns plan.script bytes
+        meter.old meter.new }
     ensures taken { TakesAtMost (LIMIT + 1) (S.left source.old) (S.left source.new) }
-    ensures long { result ≡ Err InputError.TooLong → ⊥ }
-    ensures failed { result ≡ Err InputError.Failed → HasRisen (S.faults source.old) (S.faults source.new) }
-    ensures same { (result ≡ Err InputError.Failed → ⊥) → S.faults source.new ≡ S.faults source.old }
+    ensures read_fault { result ≡ Err Stop.Source → HasRisen (S.faults source.old) (S.faults source.new) }
+    ensures write_fault { result ≡ Err Stop.Sink → HasRisen (K.faults sink.old) (K.faults sink.new) }
+    ensures source_count { (result ≡ Err Stop.Source → ⊥) → S.faults source.new ≡ S.faults source.old }
+    ensures sink_count { (result ≡ Err Stop.Sink → ⊥) → K.faults sink.new ≡ K.faults sink.old }
 {
-    let Mode::Synth = mode;
-    match read_input(alloc, source) {
-        Ok(bytes) => whole_reply(alloc, &bytes, meter),
-        Err(InputError::TooLong) => match too_long(alloc) {
-            Ok(reply) => Ok(reply),
-            Err(Memory) => Err(InputError::Memory),
-        },
-        Err(InputError::Failed) => Err(InputError::Failed),
-        Err(InputError::Memory) => Err(InputError::Memory),
-    }
+    let Ok(session) = Session::make(alloc, plan) else {
+        return Err(Stop::Memory);
+    };
+    let Ok(mut piece) = piece_of(alloc) else {
+        return Err(Stop::Memory);
+    };
+    session.answer_all(&mut piece, source, sink, meter)
 }
 
-/// Reads a text from the source, and writes the reply to it into the sink.
+/// Does what the words ask for, over the source and into the sink.
 ///
-/// At most 67,108,865 bytes are taken, in pieces of at most 65,536; each read but the last takes
-/// at least one. The reply is written in pieces of 4,096 bytes, of which the last may be shorter.
-/// Each build of a module is a step of the meter.
-#[tactic(auto, using(crate::proofs::Replying::begun_none, crate::proofs::Rising::idle))]
+/// At most 67,108,865 bytes are taken, in pieces of at most 65,536; each read but the last takes at least one. Each
+/// reply is written in pieces of 4,096 bytes, of which the last may be shorter. In a session each command is answered
+/// when its last line has come, before more is read. Each build of a module is a step of the meter.
 pub fn run<S: Source, K: Sink, L: Send>(
     alloc: Global,
     words: &[String],
@@ -117,54 +115,59 @@ pub fn run<S: Source, K: Sink, L: Send>(
     sink: &mut K,
     meter: &mut Steps<L>,
 ) -> Status
-    // The whole reply was written, and it is no error; the input was read through.
-    ensures done { result ≡ Status.Done → IfSome (meaning_of (map string_bytes words.now)) (λ mode.
-        HasAnswered mode false (S.left source.old) (K.held sink.old) (K.held sink.new)
-        × IsReadThrough (S.left source.old) (S.left source.new)) }
-    // The same, and it is an error.
-    ensures refused { result ≡ Status.Refused → IfSome (meaning_of (map string_bytes words.now)) (λ mode.
-        HasAnswered mode true (S.left source.old) (K.held sink.old) (K.held sink.new)
-        × IsReadThrough (S.left source.old) (S.left source.new)) }
-    ensures usage { result ≡ Status.Usage ↔ (meaning_of (map string_bytes words.now) ≡ None) }
-    ensures untouched { result ≡ Status.Usage → (source.new ≡ source.old) × (sink.new ≡ sink.old) }
+    // The whole reply was written, and no error is in it; the input was read through.
+    ensures done { result ≡ Status.Done → IfSome (plan_of (map string_bytes words.now)) (λ plan.
+        HasAnswered plan.mode plan.script false (S.left source.old) (K.held sink.old) (K.held sink.new)
+        × IsReadThrough plan.mode (S.left source.old) (S.left source.new)) }
+    // The same, and an error is in it.
+    ensures refused { result ≡ Status.Refused → IfSome (plan_of (map string_bytes words.now)) (λ plan.
+        HasAnswered plan.mode plan.script true (S.left source.old) (K.held sink.old) (K.held sink.new)
+        × IsReadThrough plan.mode (S.left source.old) (S.left source.new)) }
+    // The words have no meaning, and nothing is read or written; where they have none, no other answer comes but want
+    // of memory.
+    ensures usage { result ≡ Status.Usage → plan_of (map string_bytes words.now) ≡ None }
+    ensures no_meaning { plan_of (map string_bytes words.now) ≡ None →
+        (result ≡ Status.Usage) ⊎ (result ≡ Status.Memory) }
+    ensures untouched { plan_of (map string_bytes words.now) ≡ None →
+        (source.new ≡ source.old) × (sink.new ≡ sink.old) }
 
     // Whatever the answer, what was written is a front of the reply.
-    ensures begun { IfSome (meaning_of (map string_bytes words.now)) (λ mode.
-        HasBegun mode (S.left source.old) (K.held sink.old) (K.held sink.new)) }
+    ensures begun { IfSome (plan_of (map string_bytes words.now)) (λ plan.
+        HasBegun plan.mode plan.script (S.left source.old) (K.held sink.old) (K.held sink.new)) }
+    // In a session, just the commands were answered whose last line was taken with its LF.
     ensures read_fault { result ≡ Status.ReadFault → HasRisen (S.faults source.old) (S.faults source.new)
-        × Keeps (K.held sink.old) (K.held sink.new) }
+        × IfSome (plan_of (map string_bytes words.now)) (λ plan.
+        HasAnsweredTaken plan.mode plan.script (S.left source.old) (S.left source.new) (K.held sink.old) (K.held sink.new)) }
     ensures write_fault { result ≡ Status.WriteFault → HasRisen (K.faults sink.old) (K.faults sink.new) }
-    ensures memory { result ≡ Status.Memory → Keeps (K.held sink.old) (K.held sink.new) }
+    ensures memory { result ≡ Status.Memory → IfSome (plan_of (map string_bytes words.now)) (λ plan.
+        plan.mode ≡ Mode.Synth → Keeps (K.held sink.old) (K.held sink.new)) }
     // No other answer comes where a count changed.
     ensures source_count { (result ≡ Status.ReadFault → ⊥) → S.faults source.new ≡ S.faults source.old }
     ensures sink_count { (result ≡ Status.WriteFault → ⊥) → K.faults sink.new ≡ K.faults sink.old }
     ensures taken { TakesAtMost (LIMIT + 1) (S.left source.old) (S.left source.new) }
     // Where the words have a meaning and neither count rose, only memory can be wanting.
-    ensures complete { OnSome (meaning_of (map string_bytes words.now))
+    ensures complete { OnSome (plan_of (map string_bytes words.now))
         ((HasRisen (S.faults source.old) (S.faults source.new) → ⊥)
         → (HasRisen (K.faults sink.old) (K.faults sink.new) → ⊥) → IsCompleted result) }
 
-    // What is written is the text of the netlist that the default script makes of the design, and reads as it. No known
-    // output bit of any module is lost in it, whatever the stimulus, and it is nothing but gates and instances.
-    ensures refines { result ≡ Status.Done → IfSome (S.left source.old) (λ input. IsRefinedBy input (K.held sink.old) (K.held sink.new)) }
-    // The meter rises by at most one for each module of an accepted design, and for no other input.
-    ensures builds { IfSome (S.left source.old) (λ input. CountsBuilds input meter.old meter.new) }
-    ensures idle { result ≡ Status.Usage → meter.new ≡ meter.old }
+    // Each netlist that is written is what the script makes of the design that was present then. No known output bit of
+    // any module is lost in it, whatever the stimulus, and its text reads as it.
+    ensures refines { IfSome (plan_of (map string_bytes words.now)) (λ plan. IfSome (S.left source.old) (λ input.
+        HasRefined plan.mode result plan.script input (K.held sink.old) (K.held sink.new))) }
+    // The meter rises by at most the number of different keys that the commands need and that are not kept.
+    ensures builds { IfSome (plan_of (map string_bytes words.now)) (λ plan.
+        HasCounted plan.mode result plan.script (S.left source.old) (S.left source.new) meter.old meter.new) }
+    ensures idle { plan_of (map string_bytes words.now) ≡ None → meter.new ≡ meter.old }
 {
-    let Some(mode) = meaning_of(words) else {
-        return Status::Usage;
+    let plan = match read_words(alloc, words) {
+        Ok(plan) => plan,
+        Err(WordFault::Usage) => return Status::Usage,
+        Err(WordFault::Memory) => return Status::Memory,
     };
-    let reply = match reply_to(alloc, mode, source, meter) {
-        Ok(reply) => reply,
-        Err(InputError::Failed) => return Status::ReadFault,
-        Err(_) => return Status::Memory,
-    };
-    if write_reply(sink, reply.text.as_slice()).is_err() {
-        return Status::WriteFault;
-    }
-    if reply.error {
-        Status::Refused
-    } else {
-        Status::Done
+    match plan.mode {
+        Mode::Synth => status_of(synthesise(alloc, plan, source, sink, meter)),
+        Mode::Session => status_of(converse(alloc, plan, source, sink, meter)),
+        // No words have this meaning yet.
+        Mode::Generate(_) => Status::Usage,
     }
 }

@@ -3,6 +3,7 @@
 
 mod answer;
 mod designs;
+mod generated;
 mod items;
 mod large;
 mod parts;
@@ -20,7 +21,7 @@ use table_rows::{LINES, TEXTS, Tally, report, text_of};
 const OF_LINES: [&str; 5] = ["values", "widths", "integers", "constants", "signals"];
 
 /// The files whose fields are texts.
-const OF_TEXTS: [&str; 7] = [
+const OF_TEXTS: [&str; 8] = [
     "tokens",
     "items",
     "strings",
@@ -28,6 +29,7 @@ const OF_TEXTS: [&str; 7] = [
     "first_designs",
     "second_designs",
     "ports",
+    "generated",
 ];
 
 /// Whether a row of the file of this name holds.
@@ -44,6 +46,7 @@ fn holds(alloc: Global, file: &str, fields: &[&[u8]]) -> Result<bool, Memory> {
         "signals" => parts::is_signal(alloc, fields),
         "first_designs" | "second_designs" => designs::is_kept(alloc, fields),
         "ports" => ports::is_kept(alloc, fields),
+        "generated" => generated::is_written(alloc, fields),
         _ => Ok(false),
     }
 }

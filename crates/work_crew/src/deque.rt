@@ -1,7 +1,8 @@
 //! A deque of jobs, of which each that is put is taken at most once.
 
 ghost use Rattle.std.specs.Prelude.{◌≡◌, ℕ, [], ◌∷◌, ◌++◌, ◌≤◌, IfOk, MatchOption, false, true};
-ghost use Rattle.crossbeam_deque.specs.Handles.{view, IsPassOf, SameWorker, stealer_deque, worker_deque, worker_flavor, worker_port, worker_view};
+ghost use Rattle.crossbeam_deque.specs.Handles.{view, IsPassOf, SameWorker, stealer_deque, worker_deque, worker_flavor};
+ghost use Rattle.crossbeam_deque.specs.Handles.{worker_port, worker_view};
 ghost use Rattle.crossbeam_deque.specs.Steals.{MatchSteal};
 ghost use Rattle.work_crew.specs.Times.{times};
 ghost use Rattle.work_crew.specs.Hands.{hand, Took};

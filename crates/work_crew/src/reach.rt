@@ -3,7 +3,8 @@
 ghost use Rattle.std.specs.Prelude.{◌≡◌, ℕ, ◌+◌, ◌<◌, ◌≤◌, length, IfErr, IfOk, IfSome, MatchOption, MatchResult};
 ghost use Rattle.crossbeam_deque.specs.Steals.{MatchSteal};
 ghost use Rattle.work_crew.specs.Times.{hit};
-ghost use Rattle.work_crew.specs.Reach.{CanTake, SameReach, Paired, TakesNone, TakesOne, AreBelow, IsReachBelow, puts_of, took};
+ghost use Rattle.work_crew.specs.Reach.{CanTake, SameReach, Paired, TakesNone, TakesOne, AreBelow, IsReachBelow};
+ghost use Rattle.work_crew.specs.Reach.{puts_of, took};
 
 use crate::deque::{Note, Owner, Thief, steal, take};
 use crossbeam_deque::Steal;

@@ -4,7 +4,8 @@ ghost use Rattle.std.specs.Prelude.{◌≡◌, ℕ, ◌+◌, ◌<◌, ◌≤◌,
 ghost use Rattle.std.specs.Vec.{vec_capacity};
 ghost use Rattle.work_crew.specs.Times.{every};
 ghost use Rattle.work_crew.specs.Settle.{AllFirst};
-ghost use Rattle.work_crew.specs.Setup.{IsDealt, AreDealt, AllFixed, AreThieves, KeepsOwners, AreNoted, AllNoted, AllIdle, seats_of, IsSetUp};
+ghost use Rattle.work_crew.specs.Setup.{IsDealt, AreDealt, AllFixed, AreThieves, KeepsOwners, AreNoted, AllNoted};
+ghost use Rattle.work_crew.specs.Setup.{AllIdle, seats_of, IsSetUp};
 
 use crate::deque::{Note, Owner, Thief, deque_for, note_of, put};
 use crate::reach::Reach;

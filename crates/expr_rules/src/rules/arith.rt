@@ -4,7 +4,8 @@ ghost use Rattle.std.specs.Prelude.{◌≡◌, IfOk};
 ghost use Rattle.cell_types.specs.declared.word.ArithKind.TheVariants.{Mul};
 ghost use Rattle.cell_types.specs.declared.word.WordKind.TheVariants.{Arith};
 ghost use Rattle.expr_rules.specs.declared.change.Change.TheVariants.{Gives};
-ghost use Rattle.expr_rules.specs.Rules.Arith.{add_zero, divide_by_power, equal_difference, moved_up, mul_by_bit, mul_by_power, power_of, quotient_by, times_small};
+ghost use Rattle.expr_rules.specs.Rules.Arith.{add_zero, divide_by_power, equal_difference, moved_up, mul_by_bit};
+ghost use Rattle.expr_rules.specs.Rules.Arith.{mul_by_power, power_of, quotient_by, times_small};
 
 use crate::change::{Change, gives};
 use crate::operands::Operands;

@@ -4,7 +4,8 @@ ghost use Rattle.std.specs.Prelude.{◌≡◌, IfOk};
 ghost use Rattle.expr_rules.specs.Change.{when};
 ghost use Rattle.expr_rules.specs.Signals.{filled, same_word};
 ghost use Rattle.expr_rules.specs.declared.change.Change.TheVariants.{Gives};
-ghost use Rattle.expr_rules.specs.Rules.Logic.{and_with_ones, beside_ones, beside_zeros, double_not, equal_operands, equal_parity, or_with_zeros, xor_with_ones};
+ghost use Rattle.expr_rules.specs.Rules.Logic.{and_with_ones, beside_ones, beside_zeros, double_not, equal_operands};
+ghost use Rattle.expr_rules.specs.Rules.Logic.{equal_parity, or_with_zeros, xor_with_ones};
 
 use crate::change::{Change, gives, inverter};
 use crate::operands::Operands;

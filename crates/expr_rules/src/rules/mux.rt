@@ -2,7 +2,8 @@
 
 ghost use Rattle.std.specs.Prelude.{◌≡◌, IfOk, map};
 ghost use Rattle.std.specs.List.{range_with_len};
-ghost use Rattle.expr_rules.specs.Rules.Mux.{arm_bit, arm_of, equal_arms, equal_words, inverted_select, known_select, known_selects, select_inverse, select_itself, unknown_arm};
+ghost use Rattle.expr_rules.specs.Rules.Mux.{arm_bit, arm_of, equal_arms, equal_words, inverted_select, known_select};
+ghost use Rattle.expr_rules.specs.Rules.Mux.{known_selects, select_inverse, select_itself, unknown_arm};
 
 use crate::change::{Change, chooser, inverter};
 use crate::operands::Operands;

@@ -61,7 +61,8 @@ fn moved(
     requires room { length a.now < 2 ^ 32 }
     requires far { distance.size ≤ 2 ^ 32 }
     ensures value { IfOk result
-        (λ bits. bits ≡ map (signal_by kind signed a.now (max (length a.now) width) distance) (range_with_len 0 width)) }
+        (λ bits. bits ≡
+        map (signal_by kind signed a.now (max (length a.now) width) distance) (range_with_len 0 width)) }
 {
     let read = a.len().max(width as usize);
     let mut bits = SigSpec::make(alloc);

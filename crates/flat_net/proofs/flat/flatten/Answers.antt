@@ -1,4 +1,4 @@
-use Rattle.std.proofs.Common.{◌≡◌, ◌∙◌, ◌-◌, ◌++◌, suc, length, get_or, ap, subst, refl, arith}
+use Rattle.std.proofs.Common.{◌≡◌, ◌∙◌, ◌-◌, ◌++◌, ℕ, List, suc, length, get_or, ap, subst, refl, arith}
 use Rattle.std.proofs.lemmas.Option.{get_or_from_slice_get}
 use Rattle.rtl_ir.specs.declared.module.Module.{Module}
 use Rattle.rtl_ir.specs.declared.wire.Role.TheVariants.{Input}
@@ -25,8 +25,13 @@ returns c = record {
       let levels : suc below ≡ length d.modules = omega (arith, c.requires.in_range) in
       let table = subst (λ ms. IsTable c.in_ok-table.table ms) modules c.in_ok-table.ensures.value in
       let body : c.index-modules-at.result ≡ m = c.index-modules-at.is ∙ ap (λ ms. get_or ms c.args.at c.index-modules-at.result) modules ∙ get_or_from_slice_get d.modules c.args.at m c.index-modules-at.result is in
-      let rows = subst (λ (n : Module). Adds c.make-builder.result c.add_all.new.self (given_rows (places (role_points Input (root n) (ports_of n.wires))) 0 ++ in_tree d (rows_of (design_ports d)) (suc below) (root n) n)) body (c.in_ok-outputs.ensures.rows d table) in
-      let outputs = subst (λ (n : Module). AreNumbers c.add_all.new.self.places.places c.in_ok-outputs.outputs (output_places n)) body c.in_ok-outputs.ensures.outputs in
+      let top = c.index-modules-at.result in
+      let titled : record top { id = c.as_slice.result.now } ≡ m = ap (λ (id : List ℕ). record top { id = id }) c.as_slice.ensures.value ∙ body in
+      let rows =
+      subst (λ (n : Module). Adds c.make-builder.result c.add_all.new.self (given_rows (places (role_points Input (root n) (ports_of m.wires))) 0 ++ in_tree d (rows_of (design_ports d)) (suc below) (root n) m)) titled
+      (subst (λ (n : Module). Adds c.make-builder.result c.add_all.new.self (given_rows (places (role_points Input (root (record top { id = c.as_slice.result.now })) (ports_of n.wires))) 0 ++ in_tree d (rows_of (design_ports d)) (suc below) (root (record top { id = c.as_slice.result.now })) n)) body
+      (c.in_ok-outputs.ensures.rows d table)) in
+      let outputs = subst (λ (n : Module). AreNumbers c.add_all.new.self.places.places c.in_ok-outputs.outputs (output_places n)) titled c.in_ok-outputs.ensures.outputs in
       if_ok_all c.finish.result c.finish.ensures.count c.finish.ensures.parts c.finish.ensures.outputs (λ net count parts outs. (
         c.add_all.new.self.places.places,
         is_net net d m c.make-builder.result c.add_all.new.self c.in_ok-outputs.outputs c.args.at below is levels c.make-builder.ensures.places c.make-builder.ensures.parts rows outputs

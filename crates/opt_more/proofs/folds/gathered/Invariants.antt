@@ -6,13 +6,13 @@ use Rattle.rtl_ir.specs.declared.cell.Cell.{Cell}
 use Rattle.rtl_ir.specs.declared.module.Link.{Link}
 use Rattle.net_alias.specs.Aliases.{IsAliases}
 use Rattle.opt_expr.specs.Places.{ArePlaces}
-use Rattle.opt_more.specs.Gather.{AreSeen}
+use Rattle.opt_more.specs.Gather.{AreAlike, AreSeen}
 use Rattle.opt_more.specs.Reduce.{standing_for, with_bit}
 use Rattle.opt_more.proofs.folds.gathered.Given as goal
 
 abbrev pub invariant-loop-bit : goal.invariant-loop-bit
 invariant-loop-bit l = record {
-  bits : (cells : List Cell) (links : List Link) → ArePlaces l.places cells → IsAliases l.fn.aliases links → fold (with_bit l.neutral) l.bits.bits (flat_map (standing_for l.neutral cells l.done l.rest.items links) (drop l.bit-index l.inputs)) ≡ fold (with_bit l.neutral) [] (flat_map (standing_for l.neutral cells l.done l.rest.items links) l.inputs);
+  bits : (cells : List Cell) (links : List Link) → ArePlaces l.places cells → IsAliases l.fn.aliases links → AreAlike (fold (with_bit l.neutral) l.bits.bits (flat_map (standing_for l.neutral cells l.done l.rest.items links) (drop l.bit-index l.inputs))) (fold (with_bit l.neutral) [] (flat_map (standing_for l.neutral cells l.done l.rest.items links) l.inputs));
   seen : AreSeen l.bits;
   keeps : (links : List Link) → IsAliases l.fn.aliases links → IsAliases l.aliases links;
 }

@@ -2,7 +2,7 @@
 use Rattle.std.proofs.Common.{◌≡◌, List, ◌++◌, drop}
 use Rattle.rtl_ir.specs.declared.module.Module.{Module}
 use Rattle.rtl_ir.specs.Faults.Recursion.{instance_places}
-use Rattle.rtl_check.specs.Places.{ArePlaces}
+use Rattle.design_edit.specs.Table.{ArePlaces}
 use Rattle.rtl_check.proofs.recursion.instance_places.Given as goal
 
 abbrev pub invariant-loop-cell : goal.invariant-loop-cell

@@ -2,8 +2,10 @@ use Rattle.std.proofs.Common.{◌≡◌, ◌<◌, List, Some, Result, length, sy
 use Rattle.std.specs.Prelude.{IfOk}
 use Rattle.rtl_bits.specs.declared.memory.Memory.{Memory}
 use Rattle.rtl_ir.specs.declared.module.Design.{Design}
+use Rattle.rtl_ir.specs.declared.module.Module.{Module}
 use Rattle.rtl_ir.specs.Faults.Recursion.{place_named}
 use Rattle.rtl_ir.specs.Types.{module_named}
+use Rattle.net_model.specs.Within.{Each}
 use Rattle.reply_lines.specs.declared.reply.Reply.{Reply}
 use Rattle.reply_lines.specs.Lines.{error_reply}
 use Rattle.script_core.specs.declared.outcome.Outcome.{Outcome}
@@ -12,9 +14,11 @@ use Rattle.desk_core.specs.Answers.{netlist_reply}
 use Rattle.desk_core.specs.Builds.{KeepsAll}
 use Rattle.desk_core.specs.Netlist.{all_kept, done_modules, netlist_answer, netlist_of}
 use Rattle.desk_core.specs.Results.{outcomes_of, state_of}
+use Rattle.desk_core.specs.Shaped.{IsShaped}
 use Rattle.desk_core.specs.State.{State, answer}
 use Rattle.desk_core.specs.Told.{told_of}
 use Rattle.desk_core.proofs.Outcomes.{outcomes_cold}
+use Rattle.desk_core.proofs.Shaping.{shaped_netlist}
 use Rattle.desk_core.proofs.Showing.{told_same}
 use Rattle.desk_core.proofs.Simulating.{netlist_count, traced, within_netlist}
 use Rattle.desk_core.proofs.Told.{all_are_kept, answer_over, keeps_all, on_err, still_kept}
@@ -38,6 +42,12 @@ traced-requires-clause-small g c =
     let count = netlist_count s c.in-Built.words _ told netlist in
     let few = c.self.invariant.readable.count in
     omega (arith, count, few)
+
+pub traced-requires-clause-gates : goal.traced-requires-clause-gates
+traced-requires-clause-gates g c =
+    let design = c.self.inside.design in
+    subst (λ (ms : List Module). Each IsShaped ms) (sym (ap done_modules (outcomes_cold design.design c.self.inside.script c.tell.new.results c.in_ok-words.ensures.sound c.in_ok-words.ensures.found)))
+    (shaped_netlist design.design c.self.inside.script c.self.invariant.readable design.faultless c.as_slice-words.ensures.script)
 
 pub returns-clause-ok : goal.returns-clause-ok
 returns-clause-ok g c = λ name place.

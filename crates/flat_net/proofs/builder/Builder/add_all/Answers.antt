@@ -15,10 +15,10 @@ add_tree-requires c = record { in_range = rw c.in_ok-give.ensures.places (slice_
 pub returns-clause-rows : goal.returns-clause-rows
 returns-clause-rows c = λ d table.
     let ends = c.in_ok-ends.ensures.value in
-    let inputs = subst (λ ns. AreNumbers c.ends.new.self.places ns (places (role_points Input (root c.args.body.now) (ports_of c.args.body.now.wires)))) (sym c.as_slice.ensures.value) ends.inputs_are in
-    let path = subst (λ (k : Known). slice_get k.paths c.in_ok-ends.ends.root ≡ Some (root c.args.body.now)) (sym c.in_ok-give.ensures.places) ends.root_is in
-    all_added c.args.self.now c.give.new.self c.add_tree.new.self c.ends.new.self _ _ c.in_ok-ends.ensures.grows (c.in_ok-give.ensures.rows _ inputs) (c.in_ok-add_tree.ensures.rows d table (root c.args.body.now) path)
+    let inputs = subst (λ ns. AreNumbers c.ends.new.self.places ns (places (role_points Input (root (record c.args.body.now { id = c.args.id.now })) (ports_of c.args.body.now.wires)))) (sym c.as_slice.ensures.value) ends.inputs_are in
+    let path = subst (λ (k : Known). slice_get k.paths c.in_ok-ends.ends.root ≡ Some (root (record c.args.body.now { id = c.args.id.now }))) (sym c.in_ok-give.ensures.places) ends.root_is in
+    all_added c.args.self.now c.give.new.self c.add_tree.new.self c.ends.new.self _ _ c.in_ok-ends.ensures.grows (c.in_ok-give.ensures.rows _ inputs) (c.in_ok-add_tree.ensures.rows d table (root (record c.args.body.now { id = c.args.id.now })) path)
 
 pub returns-clause-outputs : goal.returns-clause-outputs
 returns-clause-outputs c =
-    AreNumbers-kept _ _ c.in_ok-add_tree.ensures.grows.places _ _ (subst (λ (k : Known). AreNumbers k.places c.in_ok-ends.ends.outputs (output_places c.args.body.now)) (sym c.in_ok-give.ensures.places) c.in_ok-ends.ensures.value.outputs_are)
+    AreNumbers-kept _ _ c.in_ok-add_tree.ensures.grows.places _ _ (subst (λ (k : Known). AreNumbers k.places c.in_ok-ends.ends.outputs (output_places (record c.args.body.now { id = c.args.id.now }))) (sym c.in_ok-give.ensures.places) c.in_ok-ends.ensures.value.outputs_are)

@@ -20,5 +20,5 @@ returns-clause-grows c = Extends-then _ _ _ (Extends-then _ _ _ c.in_ok-root.ens
 pub returns-clause-value : goal.returns-clause-value
 returns-clause-value c =
     let path = c.in_ok-root.ensures.value [] c.requires.outside in
-    ends_are _ _ _ _ c.args.body.now c.as_slice.result.now c.in_ok-found.found.items c.as_slice-ports.result.now _ c.as_slice-2.result.now c.in_ok-inputs.ensures.grows c.in_ok-outputs.ensures.grows path refl
-    c.as_slice-2.ensures.value c.as_slice-ports.ensures.value c.in_ok-found.ensures.value c.as_slice.ensures.value (c.in_ok-inputs.ensures.value _ path) (c.in_ok-outputs.ensures.value _ (c.in_ok-inputs.ensures.grows.paths _ _ path))
+    ends_are _ _ _ _ (record c.args.body.now { id = c.args.id.now }) c.as_slice.result.now c.in_ok-found.found.items c.as_slice-ports.result.now _ c.args.id.now c.in_ok-inputs.ensures.grows c.in_ok-outputs.ensures.grows path refl
+    refl c.as_slice-ports.ensures.value c.in_ok-found.ensures.value c.as_slice.ensures.value (c.in_ok-inputs.ensures.value _ path) (c.in_ok-outputs.ensures.value _ (c.in_ok-inputs.ensures.grows.paths _ _ path))

@@ -15,13 +15,13 @@ use Rattle.sim_eval.proofs.sim.Sim.of.Goals as goal
 
 pub settle-requires : goal.settle-requires
 settle-requires c = record {
-  computable = subst (λ z. are_computable z ≡ true) (sym c.as_slice-2.ensures.value) (kept_computable c.args.net c.in_ok-parts.parts c.requires.faultless c.in_ok-parts.ensures.rows);
+  computable = subst (λ z. are_computable z ≡ true) (sym c.as_slice-2.ensures.value) (kept_computable c.args.net c.in_ok-parts.parts c.requires.shaped c.in_ok-parts.ensures.rows);
   read = subst (λ z. AreRead c.in_ok-readers.readers z c.args.net.count) (c.as_slice.ensures.value ∙ sym c.as_slice-2.ensures.value) c.in_ok-readers.ensures.read;
 }
 
 pub invariant_of-result : goal.invariant_of-result
 invariant_of-result c = record {
-  computable = kept_computable c.args.net c.in_ok-parts.parts c.requires.faultless c.in_ok-parts.ensures.rows;
+  computable = kept_computable c.args.net c.in_ok-parts.parts c.requires.shaped c.in_ok-parts.ensures.rows;
   read = subst (AreRead c.in_ok-readers.readers c.in_ok-parts.parts) (sym c.in_ok-values.ensures.count) (subst (λ z. AreRead c.in_ok-readers.readers z c.args.net.count) c.as_slice.ensures.value c.in_ok-readers.ensures.read);
 }
 

@@ -1,3 +1,4 @@
+use Rattle.sim_eval.proofs.Computable.{faultless_shapes}
 use Rattle.sim_eval.proofs.Kept.{at_in, module_at}
 use Rattle.sim_eval.proofs.sim.Sim.start.Goals as goal
 
@@ -14,11 +15,11 @@ of-requires c =
     let found = module_at d.modules c.args.at c.requires.in_range in
     let net = c.in_ok-net.ensures.value found.0 found.1 in
     record {
-      faultless = record {
+      shaped = record {
         design = d;
         body = found.0;
         bits = net.0;
-        faultless = c.requires.faultless;
+        shapes = faultless_shapes d c.requires.faultless;
         among = at_in d.modules c.args.at found.0 found.1;
         is = net.1;
       };

@@ -1,0 +1,9 @@
+-- The table has the modules from the place on.
+use Rattle.std.proofs.Common.{ℕ, List, drop, map}
+use Rattle.rtl_ir.specs.Flat.Tree.{named}
+use Rattle.flat_net.specs.Tables.{Stands, at_name}
+use Rattle.flat_net.specs.Titled.{titled_module}
+use Rattle.flat_net.proofs.modules.Table.of_titled.Given as goal
+
+abbrev pub invariant-loop-at : goal.invariant-loop-at
+invariant-loop-at l = (name : List ℕ) → Stands (at_name l.found name) (named (drop l.at (map titled_module l.modules)) name)

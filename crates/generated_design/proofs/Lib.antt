@@ -1,0 +1,5 @@
+pub mod Eight
+pub mod Faultless
+pub mod Making
+pub mod Names
+pub mod Readable

@@ -1,0 +1,81 @@
+-- How a session ends, by whether it was held to its end or broke off.
+use Rattle.std.proofs.Common.{◌≡◌, ◌⊎◌, ℕ, List, [], Bool, true, false, Option, Some, None, Result, Ok, Err, inl, inr, refl, sym, subst, ◌∙◌}
+use Rattle.std.specs.Prelude.{IfErr, IfOk, IfSome, OnErr, OnOk}
+use Rattle.std.specs.Io.KnownBytes.{Consumes}
+use Rattle.script_core.specs.declared.word.Word.{Word}
+use Rattle.script_core.specs.Words.{IsScript}
+use Rattle.desk_core.specs.State.{first_state}
+use Rattle.synth_run.specs.declared.program.Status.{Status}
+use Rattle.synth_run.specs.declared.program.Status.TheVariants as statuses
+use Rattle.synth_run.specs.declared.words.Mode.{Mode}
+use Rattle.synth_run.specs.declared.words.Mode.TheVariants.{Session}
+use Rattle.synth_run.specs.declared.words.Plan.{Plan}
+use Rattle.synth_run.specs.declared.session.Stop.{Stop}
+use Rattle.synth_run.specs.declared.session.Stop.TheVariants as halts
+use Rattle.synth_run.specs.Builds.{CountsTurns}
+use Rattle.synth_run.specs.Replies.{AnswersTaken, HasAnswered, HasBegun, HasRefined, IsPrintedSession, IsReadThrough, status_of}
+use Rattle.synth_run.specs.Taking.{Broken, Held}
+use Rattle.synth_run.proofs.Replying.{begun_none, broken_answers, broken_begun, broken_counted, held_answered, held_begins, held_counted, held_prints, held_through}
+
+module _ (script : List Word) (good : IsScript script) (left rest had has : Option (List ℕ)) (m n : ℕ) where
+  pub answered : (r : Result Bool Stop) → IfOk r (λ refused. Held (first_state script) refused left rest had has m n) → IfOk r (λ refused. HasAnswered Session script refused left had has)
+  answered (Ok refused) h = held_answered script refused left rest had has m n h
+  answered (Err stop) h = tt
+
+  pub through : (r : Result Bool Stop) → IfOk r (λ refused. Held (first_state script) refused left rest had has m n) → OnOk r (IsReadThrough Session left rest)
+  through (Ok refused) h = held_through (first_state script) refused left rest had has m n h
+  through (Err stop) h = tt
+
+  pub begun : (r : Result Bool Stop) → IfErr r (λ stop. Broken (first_state script) stop left rest had has m n) → OnErr r (HasBegun Session script left had has)
+  begun (Ok refused) b = tt
+  begun (Err stop) b = broken_begun script stop left rest had has m n good b
+
+  pub taken : (r : Result Bool Stop) → IfErr r (λ stop. Broken (first_state script) stop left rest had has m n) → r ≡ Err halts.Source → AnswersTaken script left rest had has
+  taken (Ok refused) b e = absurd cc
+  taken (Err halts.Source) b e = broken_answers script left rest had has m n b
+  taken (Err halts.Sink) b e = absurd cc
+  taken (Err halts.Memory) b e = absurd cc
+
+  pub prints : (r : Result Bool Stop) → IfOk r (λ refused. Held (first_state script) refused left rest had has m n)
+      → OnOk r (IfSome left (λ input. IsPrintedSession script input had has))
+  prints (Ok refused) h = held_prints script refused left rest had has m n good h
+  prints (Err stop) h = tt
+
+  pub counts : (r : Result Bool Stop) → IfOk r (λ refused. Held (first_state script) refused left rest had has m n)
+      → IfErr r (λ stop. Broken (first_state script) stop left rest had has m n) → (r ≡ Err halts.Memory → ⊥)
+      → (bytes : List ℕ) × Consumes left rest bytes × CountsTurns script bytes m n
+  counts (Ok refused) h b other = held_counted script refused left rest had has m n h
+  counts (Err halts.Source) h b other = broken_counted script halts.Source left rest had has m n (λ e. absurd cc) b
+  counts (Err halts.Sink) h b other = broken_counted script halts.Sink left rest had has m n (λ e. absurd cc) b
+  counts (Err halts.Memory) h b other = absurd (other refl)
+
+-- nothing was read or written
+pub begun_nothing : (script : List Word) (left had : Option (List ℕ)) → IsScript script → HasBegun Session script left had had
+begun_nothing script left had good = begun_none Session script left had good (inr refl)
+
+-- ---- the call
+
+-- what was written is a front of the reply
+pub begins : (mode : Mode) (script : List Word) (left had has : Option (List ℕ)) (r : Result Bool Stop) → IfOk r (λ error. HasAnswered mode script error left had has)
+    → OnErr r (HasBegun mode script left had has) → HasBegun mode script left had has
+begins mode script left had has (Err stop) ok err = err
+begins mode script None had has (Ok error) ok err = tt
+begins mode script (Some input) had has (Ok error) ok err = (ok.0, ok.1, held_begins ok.0 had has ok.2)
+
+-- of a plan that words have
+pub planned : (o : Option Plan) (plan : Plan) (P : Plan → Type 0) → o ≡ Some plan → P plan → IfSome o P
+planned o plan P e h = subst (λ (x : Option Plan). IfSome x P) (sym e) h
+
+not_done : (status other : Status) → status ≡ other → (other ≡ statuses.Done → ⊥) → (other ≡ statuses.Refused → ⊥)
+    → (status ≡ statuses.Done) ⊎ (status ≡ statuses.Refused) → ⊥
+not_done status other is done refused (inl e) = done (sym is ∙ e)
+not_done status other is done refused (inr e) = refused (sym is ∙ e)
+
+-- the netlists of a session
+pub refined : (script : List Word) (left had has : Option (List ℕ)) (r : Result Bool Stop) (status : Status) → status ≡ status_of r
+    → OnOk r (IfSome left (λ input. IsPrintedSession script input had has)) → IfSome left (λ input. HasRefined Session status script input had has)
+refined script None had has r status is prints = tt
+refined script (Some input) had has (Ok error) status is prints = λ _. prints
+refined script (Some input) had has (Err halts.Source) status is prints = λ e. absurd (not_done status statuses.ReadFault is (λ d. cc) (λ d. cc) e)
+refined script (Some input) had has (Err halts.Sink) status is prints = λ e. absurd (not_done status statuses.WriteFault is (λ d. cc) (λ d. cc) e)
+refined script (Some input) had has (Err halts.Memory) status is prints = λ e. absurd (not_done status statuses.Memory is (λ d. cc) (λ d. cc) e)

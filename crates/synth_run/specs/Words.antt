@@ -1,0 +1,50 @@
+-- What the words of a call ask for.
+use Rattle.std.specs.Prelude.{ℕ, ◌==◌, ◌&&◌, Bool, true, false, not, nat_le, List, [], ◌∷◌, Option, Some, None, option_and_then, if◌then◌else◌}
+use Rattle.std.specs.Result.{result_ok}
+use Rattle.std.specs.Char.{is_ascii_digit}
+use Rattle.std.specs.List.{list_all}
+use Rattle.std.specs.Str.Parse.{digits_value}
+use Rattle.script_core.specs.declared.word.Word.{Word}
+use Rattle.script_core.specs.Words.{default_script, script_of}
+use Rattle.synth_run.specs.declared.words.Mode.{Mode}
+use Rattle.synth_run.specs.declared.words.Mode.TheVariants.{Synth, Session}
+use Rattle.synth_run.specs.declared.words.Plan.{Plan}
+use Rattle.synth_run.specs.Options.{Given, given_from, nothing_given}
+
+-- the script of the text of `--script`, or the default one
+abbrev pub given_script : Option (List ℕ) → Option (List Word)
+given_script None = Some default_script
+given_script (Some text) = result_ok (script_of text)
+
+-- decimal digits, of which the first is not 0
+abbrev pub is_number : List ℕ → Bool
+is_number [] = false
+is_number (digit ∷ digits) = not (digit == 48) && list_all is_ascii_digit (digit ∷ digits)
+
+-- the number that a text writes, where it is one from 1 to `most`
+abbrev pub number_of : ℕ → List ℕ → Option ℕ
+number_of most text =
+    if is_number text && nat_le 1 (digits_value 10 text) && nat_le (digits_value 10 text) most
+    then Some (digits_value 10 text) else None
+
+-- how many workers the text of `--workers` asks for, or 4
+abbrev pub given_workers : Option (List ℕ) → Option ℕ
+given_workers None = Some 4
+given_workers (Some text) = number_of 64 text
+
+abbrev pub mode_of : Bool → Mode
+mode_of false = Synth
+mode_of true = Session
+
+-- what options ask for, with the script and the number of workers that they give, where they give both
+abbrev pub plan_with : Bool → Option (List Word) → Option ℕ → Option Plan
+plan_with session (Some script) (Some workers) = Some (record { mode = mode_of session; script = script; workers = workers })
+plan_with session (Some script) None = None
+plan_with session None workers = None
+
+abbrev pub plan_by : Given → Option Plan
+plan_by given = plan_with given.session (given_script given.script) (given_workers given.workers)
+
+-- what the words of a call ask for; None where they have no meaning
+abbrev pub plan_of : List (List ℕ) → Option Plan
+plan_of words = option_and_then plan_by (given_from nothing_given words)

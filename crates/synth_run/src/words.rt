@@ -1,0 +1,156 @@
+//! What the words of a call ask for.
+
+ghost use Rattle.std.specs.Prelude.{◌≡◌, ◌≤◌, ℕ, IfOk, IfSome, Err, None, Some, map, string_bytes};
+ghost use Rattle.script_core.specs.Words.{IsScript};
+ghost use Rattle.synth_run.specs.Options.{given_from, nothing_given};
+ghost use Rattle.synth_run.specs.Spelled.{given_as};
+ghost use Rattle.std.specs.Option.{option_map};
+ghost use Rattle.std.specs.Char.{is_ascii_digit};
+ghost use Rattle.std.specs.List.{list_all};
+ghost use Rattle.synth_run.specs.Words.{given_script, given_workers, is_number, mode_of, number_of, plan_by, plan_of};
+
+use crate::options::{Given, given_of};
+use rtl_bits::Memory;
+use script_core::{Script, ScriptFault, default_script, parse_script};
+use std::alloc::Global;
+use thiserror::Error;
+
+/// What is done with the input.
+#[derive(Clone, Copy, Debug, PartialEq, Eq)]
+pub enum Mode {
+    /// The input is one text; its netlist is written.
+    Synth,
+    /// The input is a list of commands, each of which is answered.
+    Session,
+    /// A design of so many modules is made, and a summary of its netlist is written. No words ask for it yet.
+    Generate(u32),
+}
+
+/// What the words of a call ask for: what is done, by which script, and with how many workers, from 1 to 64.
+#[derive(Drop)]
+pub struct Plan {
+    pub mode: Mode,
+    pub script: Script,
+    pub workers: u32,
+}
+
+/// Why words give no plan.
+#[derive(Clone, Copy, Debug, PartialEq, Eq, Error)]
+pub enum WordFault {
+    /// They have no meaning.
+    #[error("the words of the call have no meaning")]
+    Usage,
+    #[error("out of memory")]
+    Memory,
+}
+
+/// Whether these are decimal digits.
+fn are_digits(text: &[u8]) -> bool
+    ensures value { result ≡ list_all is_ascii_digit text.now }
+{
+    text.iter().all(|digit| digit.is_ascii_digit())
+}
+
+/// Whether these are decimal digits, of which the first is not 0.
+fn is_number(digits: &[u8]) -> bool
+    ensures value { result ≡ is_number digits.now }
+{
+    match digits {
+        [] => false,
+        [first, ..] => *first != b'0' && are_digits(digits),
+    }
+}
+
+/// The number that the text writes, where it is one from 1 to `most`.
+fn number_of(most: u32, text: &str) -> Option<u32>
+    ensures value { result ≡ number_of most text.now }
+    ensures range { IfSome result (λ number. (1 ≤ number) × (number ≤ most)) }
+{
+    if !is_number(text.as_bytes()) {
+        return None;
+    }
+    match text.parse::<u32>() {
+        Ok(number) if 1 <= number && number <= most => Some(number),
+        _ => None,
+    }
+}
+
+/// The mode of a session, or of one text.
+fn mode_of(session: bool) -> Mode
+    ensures value { result ≡ mode_of session }
+    ensures modes { (n : ℕ) → result ≡ Mode.Generate n → ⊥ }
+{
+    if session { Mode::Session } else { Mode::Synth }
+}
+
+/// The script of the text, or the default one.
+fn given_script(alloc: Global, text: Option<&str>) -> Result<Script, WordFault>
+    ensures value { IfOk result (λ script. given_script (option_map (λ t. t.now) text.entry) ≡ Some script) }
+    ensures usage { result ≡ Err WordFault.Usage → given_script (option_map (λ t. t.now) text.entry) ≡ None }
+{
+    let script = match text {
+        None => default_script(alloc),
+        Some(text) => match parse_script(alloc, text.as_bytes()) {
+            Ok(script) => Ok(script),
+            Err(ScriptFault::Bad(_)) => return Err(WordFault::Usage),
+            Err(ScriptFault::Memory) => Err(Memory),
+        },
+    };
+    match script {
+        Ok(script) => Ok(script),
+        Err(Memory) => Err(WordFault::Memory),
+    }
+}
+
+/// How many workers the text asks for, or 4.
+fn given_workers(text: Option<&str>) -> Option<u32>
+    ensures value { result ≡ given_workers (option_map (λ t. t.now) text.entry) }
+    ensures range { IfSome result (λ workers. (1 ≤ workers) × (workers ≤ 64)) }
+{
+    match text {
+        None => Some(4),
+        Some(text) => number_of(64, text),
+    }
+}
+
+/// What the options ask for.
+fn plan_by(alloc: Global, given: Given<'_>) -> Result<Plan, WordFault>
+    ensures value { IfOk result (λ plan. plan_by (given_as given.entry) ≡ Some plan) }
+    ensures usage { result ≡ Err WordFault.Usage → plan_by (given_as given.entry) ≡ None }
+    ensures workers { IfOk result (λ plan. (1 ≤ plan.workers) × (plan.workers ≤ 64)) }
+    ensures script { IfOk result (λ plan. IsScript plan.script) }
+    ensures modes { (n : ℕ) → IfOk result (λ plan. plan.mode ≡ Mode.Generate n → ⊥) }
+{
+    let Some(workers) = given_workers(given.workers) else {
+        return Err(WordFault::Usage);
+    };
+    let script = match given_script(alloc, given.script) {
+        Ok(script) => script,
+        Err(fault) => return Err(fault),
+    };
+    let _words = script.as_slice();
+    let mode = mode_of(given.session);
+    Ok(Plan {
+        mode,
+        script,
+        workers,
+    })
+}
+
+/// What the words of a call ask for.
+///
+/// `--session`, `--script S` and `--workers N` stand in any order, each at most once. A value is the next word, or
+/// follows `=` in the same word; it is not empty and does not begin with `-`. S is a script as `parse_script` takes it,
+/// N a number from 1 to 64 in decimal digits without a leading zero. All other words have no meaning.
+pub fn read_words(alloc: Global, words: &[String]) -> Result<Plan, WordFault>
+    ensures plan { IfOk result (λ plan. plan_of (map string_bytes words.now) ≡ Some plan) }
+    ensures usage { result ≡ Err WordFault.Usage → plan_of (map string_bytes words.now) ≡ None }
+    ensures workers { IfOk result (λ plan. (1 ≤ plan.workers) × (plan.workers ≤ 64)) }
+    ensures script { IfOk result (λ plan. IsScript plan.script) }
+    ensures modes { (n : ℕ) → IfOk result (λ plan. plan.mode ≡ Mode.Generate n → ⊥) }
+{
+    let Some(given) = given_of(words) else {
+        return Err(WordFault::Usage);
+    };
+    plan_by(alloc, given)
+}
