@@ -2,7 +2,7 @@
 """Measures the commands of a session over modules that differ: the first `run`, a second one, an edit of one module with a `run`,
 and a `print`; and the memory of a session in which one module is edited 1,000 times back and forth.
 
-usage: bench/session.py [--program PATH] [MODULES]      200 modules without a number; the program of crates/desk_example
+usage: bench/session.py [--program PATH] [MODULES]      200 modules without a number; crates/rtlsyn/out/rtlsyn --session
 
 Each time is the difference of two sessions, the second of which has the command, or many like it, more. Ends with 1 where a
 second `run` takes 1 % of the first one's time or more, or an edit with its `run` 3 % or more."""
@@ -13,7 +13,7 @@ import sys
 import tempfile
 
 TOP = os.path.dirname(os.path.dirname(os.path.abspath(__file__)))
-PROGRAM = f'{TOP}/crates/desk_example/out/desk_example'
+PROGRAM = f'{TOP}/crates/rtlsyn/out/rtlsyn'
 REPEATS = 50
 
 
@@ -49,13 +49,17 @@ def measured(program, session):
     with tempfile.TemporaryFile() as lines, tempfile.TemporaryFile() as replies:
         lines.write(session.encode())
         lines.seek(0)
-        child = subprocess.Popen([program], stdin=lines, stdout=replies)
+        child = subprocess.Popen([program, '--session'], stdin=lines, stdout=replies)
         _, status, usage = os.wait4(child.pid, 0)
         if status:
             sys.exit(f'session: {program} ended with status {os.waitstatus_to_exitcode(status)}')
         replies.seek(0)
-        told = [line for line in replies.read().decode().splitlines() if line.startswith(('ok', 'error'))]
-    return usage.ru_utime, usage.ru_maxrss / 1024, told[-1] if told else ''
+        # line by line: what this script holds when it starts the next program counts as that one's memory
+        told = ''
+        for line in replies:
+            if line.startswith((b'ok', b'error')):
+                told = line.decode().rstrip()
+    return usage.ru_utime, usage.ru_maxrss / 1024, told
 
 
 def main():
@@ -64,7 +68,7 @@ def main():
     parser.add_argument('modules', nargs='?', type=int, default=200)
     given = parser.parse_args()
     if not os.access(given.program, os.X_OK):
-        sys.exit('session: build crates/desk_example first (rt run), or name a program that answers commands')
+        sys.exit('session: build the program first (./rtlsyn), or name one that answers commands with --session')
     load = block('load', range(given.modules), 1)
     cold = load + 'run\n'
 

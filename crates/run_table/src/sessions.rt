@@ -21,13 +21,14 @@ struct Row<'a> {
     output: &'a [u8],
 }
 
-/// The words in a field, each of which ends a line.
+/// The words in a field, each of which is ended by LF.
 fn words_of(alloc: Global, field: &[u8]) -> Result<Vec<String>, Memory> {
     let mut words = Vec::new(alloc);
-    let mut left = str_of(field);
-    while let Some((word, more)) = left.split_once('\n') {
+    let Some(lines) = str_of(field).strip_suffix('\n') else {
+        return Ok(words);
+    };
+    for word in lines.split('\n') {
         words.push(String::from_str(alloc, word)?)?;
-        left = more;
     }
     Ok(words)
 }
