@@ -29,10 +29,13 @@ fn put_answer(shown: &mut Vec<u8>, answer: &Option<Command>) -> Result<(), Memor
         return Ok(());
     };
     let (name, first, second) = parts(command);
-    let (opens, between, closes) = (b"(".as_slice(), b",".as_slice(), b")".as_slice());
-    for part in [b" ".as_slice(), name, opens, first, between, second, closes] {
-        shown.extend_from_slice(part)?;
-    }
+    shown.push(b' ')?;
+    shown.extend_from_slice(name)?;
+    shown.push(b'(')?;
+    shown.extend_from_slice(first)?;
+    shown.push(b',')?;
+    shown.extend_from_slice(second)?;
+    shown.push(b')')?;
     Ok(())
 }
 

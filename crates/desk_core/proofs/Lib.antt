@@ -5,6 +5,7 @@ pub mod Outcomes
 pub mod Told
 pub mod Going
 pub mod Tracing
+pub mod Taking
 pub mod Changing
 pub mod Starting
 pub mod Showing

@@ -7,5 +7,6 @@ mod rules;
 mod signals;
 
 pub use change::{Change, NewCell};
-pub use operands::{Inverters, Operands};
+pub use operands::Operands;
 pub use rules::{RULES, Rule, first_fit};
+pub use signals::same_word;

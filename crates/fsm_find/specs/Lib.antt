@@ -7,4 +7,3 @@ pub mod Found
 pub mod Readers
 pub mod Starts
 pub mod Finder
-pub mod Params

@@ -76,6 +76,7 @@ fn parts(
         }
         let hit = hit(alloc, s, inverses, part, builder)?;
         binary_gates(
+            alloc,
             GateKind::And,
             true,
             &[hit],

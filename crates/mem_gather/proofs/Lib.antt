@@ -3,4 +3,3 @@ mod Starting
 mod Planning
 mod Placing
 mod Asking
-mod First

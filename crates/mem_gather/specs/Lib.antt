@@ -1,4 +1,3 @@
 pub mod Ports
 pub mod Tables
 pub mod Rising
-pub mod First

@@ -1,12 +1,13 @@
 //! The words of a memory, each with the signal that stands for it.
 
 ghost use Rattle.std.specs.Prelude.{◌≡◌, ◌+◌, [], ◌∷◌, Err, IfOk, OnOk, length, option_map};
+ghost use Rattle.rtl_ir.specs.Build.{fresh_wire};
 ghost use Rattle.net_index.specs.Builder.{IsInLimits, PassesLimit};
 ghost use Rattle.net_model.specs.Mem.Expand.{fixed_words, word_at, word_wires};
 ghost use Rattle.net_model.specs.Proc.Start.{init_attribute};
-ghost use Rattle.mem_map.specs.Words.{word_wire, words_of};
+ghost use Rattle.mem_map.specs.Words.{words_of};
 
-use net_index::{Builder, PassFault};
+use net_index::{Builder, PassFault, whole};
 use rtl_bits::{Bits, Copied, Memory, Seq, Text};
 use rtl_ir::{Attribute, Value};
 use rtl_sig::{SigSpec, fixed};
@@ -52,12 +53,16 @@ pub(crate) fn word_wires(
 
 /// The signal of a fresh wire with these start values.
 fn word_wire(alloc: Global, bits: &Bits, builder: &mut Builder) -> Result<SigSpec, PassFault>
-    ensures exact { IfOk result (λ signal. (signal, builder.new) ≡ word_wire bits.now builder.old) }
-    ensures over { result ≡ Err PassFault.Over → PassesLimit (word_wire bits.now builder.old).1 }
+    ensures exact { IfOk result (λ signal. (signal, builder.new) ≡
+        fresh_wire (length bits.now) (init_attribute bits.now ∷ []) builder.old) }
+    ensures over { result ≡ Err PassFault.Over →
+        PassesLimit (fresh_wire (length bits.now) (init_attribute bits.now ∷ []) builder.old).1 }
     ensures within { OnOk result (IsInLimits builder.new) }
 {
+    let width = u32::try_from(bits.as_slice().len()).map_err(|_| Memory)?;
     let attributes = init_attributes(alloc, bits)?;
-    builder.fresh_signal(bits.as_slice().len(), attributes)
+    let wire = builder.fresh_wire_with(width, attributes)?;
+    Ok(whole(alloc, wire, width)?)
 }
 
 /// The attribute `\init` of these bits alone.

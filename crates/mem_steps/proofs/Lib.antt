@@ -1,4 +1,3 @@
 pub mod Turns
 pub mod Giving
 pub mod Renaming
-pub mod FirstCells

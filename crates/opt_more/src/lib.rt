@@ -5,10 +5,13 @@ mod changed;
 mod ends;
 mod folds;
 mod gather;
+mod inputs;
 mod kinds;
 mod muxes;
 mod others;
+mod places;
 mod registers;
+mod starts;
 mod sweep;
 mod trees;
 

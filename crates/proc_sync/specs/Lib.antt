@@ -1,5 +1,7 @@
+pub mod Joins
 pub mod Sources
 pub mod Runs
+pub mod Control
 pub mod Cells
 pub mod Forms
 pub mod Rules

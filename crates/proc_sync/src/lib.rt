@@ -2,6 +2,7 @@
 #![tactic(auto)]
 
 mod cells;
+mod control;
 mod counts;
 mod joins;
 mod masks;

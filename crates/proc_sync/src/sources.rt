@@ -1,9 +1,10 @@
 //! What the lines of a rule give to bits.
 
-ghost use Rattle.rtl_ir.specs.Sources.{AreSources};
+ghost use Rattle.std.specs.Prelude.{◌≡◌, IfOk};
+ghost use Rattle.proc_sync.specs.Joins.{AreSources};
 
 use rtl_bits::Memory;
-use rtl_ir::{Join, Link, Sources as Table, all_joins, source_of, sources_of};
+use rtl_ir::{Join, Link, all_joins};
 use rtl_sig::{SigBit, WireBit};
 use std::alloc::Global;
 use std::collections::HashMap;
@@ -12,19 +13,19 @@ use std::collections::HashMap;
 #[derive(Drop)]
 pub(crate) struct Sources {
     places: Vec<Join>,
-    table: Table,
+    table: HashMap<WireBit, SigBit>,
     ghost agree: { AreSources table places.items },
 }
 
 impl Sources {
     ghost use Rattle.std.specs.Prelude.{◌≡◌, [], IfOk};
-    ghost use Rattle.rtl_ir.specs.Follow.{all_joins};
+    ghost use Rattle.rtl_ir.specs.Follow.{all_joins, source_at};
     ghost use Rattle.net_model.specs.Proc.Sync.{level_side};
-    ghost use Rattle.proc_sync.specs.Sources.{Gives, given_at, joins_in};
+    ghost use Rattle.proc_sync.specs.Sources.{joins_in};
 
     /// No line.
     pub(crate) fn none(alloc: Global) -> Sources
-        ensures none { Gives result [] }
+        ensures none { joins_in result ≡ [] }
     {
         Sources {
             places: Vec::new(alloc),
@@ -34,18 +35,18 @@ impl Sources {
 
     /// These lines.
     pub(crate) fn of(alloc: Global, lines: &[Link]) -> Result<Sources, Memory>
-        ensures value { IfOk result (λ sources. Gives sources (all_joins lines.now)) }
+        ensures value { IfOk result (λ sources. joins_in sources ≡ all_joins lines.now) }
     {
         let places = all_joins(alloc, lines)?;
-        let table = sources_of(alloc, places.as_slice())?;
+        let table = table_of(alloc, places.as_slice())?;
         Ok(Sources { places, table })
     }
 
     /// What the first place of the bit gives it. It takes no memory.
     pub(crate) fn get(&self, bit: WireBit) -> Option<SigBit>
-        ensures value { result ≡ given_at self.now bit }
+        ensures value { result ≡ source_at (joins_in self.now) bit }
     {
-        source_of(&self.table, bit)
+        self.table.get(&bit).copied()
     }
 
     /// What the lines give these places, where they give something.
@@ -60,4 +61,15 @@ impl Sources {
         }
         Ok(bits)
     }
+}
+
+/// What these places give to bits. Of several places of a bit the first counts.
+fn table_of(alloc: Global, places: &[Join]) -> Result<HashMap<WireBit, SigBit>, Memory>
+    ensures sources { IfOk result (λ table. AreSources table places.now) }
+{
+    let mut table = HashMap::new(alloc);
+    for at in (0..places.len()).rev() {
+        table.insert(places[at].bit, places[at].source)?;
+    }
+    Ok(table)
 }

@@ -45,10 +45,9 @@ pub fn is_bad_process(
         return Ok(true);
     }
     let tree = Tree {
-        module,
         root: &root,
         bits: bits.as_slice(),
     };
     let acting = acting_rules(process.syncs.as_slice());
-    Ok(!two_edges_stand(alloc, types, tests, &tree, acting)?)
+    Ok(!two_edges_stand(alloc, types, tests, module, &tree, acting)?)
 }

@@ -5,6 +5,7 @@
 mod acting;
 mod assigned;
 mod by_rules;
+mod cells;
 mod edge;
 mod inputs;
 mod leaves;

@@ -4,6 +4,3 @@ pub mod ByNames
 pub mod Chars
 pub mod Shapes
 pub mod JoinPlaces
-pub mod LineMarks
-pub mod SamePlaces
-pub mod Asking

@@ -5,7 +5,6 @@ mod act;
 mod attributes;
 mod constant;
 mod draft;
-mod few_names;
 mod laws;
 mod open_cell;
 mod open_module;

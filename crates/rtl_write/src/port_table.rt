@@ -11,6 +11,7 @@ ghost use Rattle.rtl_write.specs.PortTables.{
   natural_of,
   port_of,
   add_port,
+  with_port,
   with_line,
   modules_of,
 };

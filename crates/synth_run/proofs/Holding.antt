@@ -10,7 +10,7 @@ use Rattle.synth_io.specs.declared.input.TheConstants.{LIMIT}
 use Rattle.synth_io.specs.Taking.{TakesAtMost, TakesJust}
 use Rattle.desk_read.specs.declared.command.Command.{Command}
 use Rattle.desk_read.specs.Taking.{OpenBlock, commands_from}
-use Rattle.build_crew.specs.Rises.{RisesUpTo}
+use Rattle.desk_core.specs.Builds.{RisesUpTo}
 use Rattle.desk_core.specs.State.{State}
 use Rattle.desk_core.proofs.Rises.{rises_more}
 use Rattle.synth_run.specs.Lines.{is_unended, last_line, lines_of, read_lines}

@@ -8,8 +8,7 @@ use Rattle.std.proofs.lemmas.List.{map-append, take-append-le, take_at}
 use Rattle.std.proofs.lemmas.Grind.{flat_map-append}
 use Rattle.desk_read.specs.declared.command.Command.{Command}
 use Rattle.desk_read.specs.Taking.{OpenBlock, commands_from}
-use Rattle.build_crew.specs.Rises.{RisesUpTo}
-use Rattle.desk_core.specs.Builds.{builds_of}
+use Rattle.desk_core.specs.Builds.{RisesUpTo, builds_of}
 use Rattle.desk_core.specs.State.{State}
 use Rattle.desk_core.specs.Step.{IsStep}
 use Rattle.desk_core.proofs.Rises.{rises_more, rises_none, rises_within}

@@ -9,8 +9,7 @@ use Rattle.desk_read.specs.Commands.{block_command, block_of, commands_by, comma
 use Rattle.desk_read.specs.Heads.{head_by}
 use Rattle.desk_read.specs.Taking.{OpenBlock, Takes, commands_from}
 use Rattle.desk_read.specs.Words.{words_of}
-use Rattle.build_crew.specs.Rises.{RisesUpTo}
-use Rattle.desk_core.specs.Builds.{builds_of}
+use Rattle.desk_core.specs.Builds.{RisesUpTo, builds_of}
 use Rattle.desk_core.specs.State.{State}
 use Rattle.desk_core.specs.Step.{IsStep}
 use Rattle.reply_lines.specs.declared.reply.Reply.{Reply}

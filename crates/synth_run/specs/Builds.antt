@@ -6,7 +6,7 @@ use Rattle.rtl_ir.specs.declared.module.Design.{Design}
 use Rattle.rtl_ir.specs.Faults.{check_faults}
 use Rattle.rtl_read.specs.Reads.{Reads}
 use Rattle.script_core.specs.declared.word.Word.{Word}
-use Rattle.build_crew.specs.Rises.{RisesUpTo}
+use Rattle.desk_core.specs.Builds.{RisesUpTo}
 use Rattle.desk_core.specs.Netlist.{built_count}
 use Rattle.desk_core.specs.State.{first_state}
 use Rattle.synth_run.specs.declared.program.Status.{Status}

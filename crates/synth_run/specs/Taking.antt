@@ -5,7 +5,7 @@ use Rattle.std.specs.Io.KnownBytes.{Appends, Consumes, IsAtEnd}
 use Rattle.synth_io.specs.declared.input.TheConstants.{LIMIT}
 use Rattle.desk_read.specs.declared.command.Command.{Command}
 use Rattle.desk_read.specs.Taking.{OpenBlock, commands_from}
-use Rattle.build_crew.specs.Rises.{RisesUpTo}
+use Rattle.desk_core.specs.Builds.{RisesUpTo}
 use Rattle.desk_core.specs.State.{State}
 use Rattle.synth_run.specs.Lines.{Lines, is_unended, lines_of, read_lines}
 use Rattle.synth_run.specs.Session.{AreTurns, Turn, all_commands, builds_in, commands_in, ended_commands, has_error, input_commands, is_overlong, is_quit, is_whole, session_said, state_after, text_in, up_to_quit}

@@ -1,3 +1,4 @@
+pub mod Fits
 pub mod Moving
 pub mod ByKind
 pub mod Renaming

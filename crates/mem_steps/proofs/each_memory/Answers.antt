@@ -1,7 +1,6 @@
 use Rattle.std.proofs.Common.{◌≡◌, ◌∙◌, Err, ap, false, length, rules, sym}
 use Rattle.std.specs.Prelude.{◌==◌}
 use Rattle.net_index.specs.declared.builder_fault.PassFault.TheVariants as faults
-use Rattle.mem_steps.proofs.FirstCells.{next_plain}
 use Rattle.mem_steps.proofs.Turns.{goes, passes}
 use Rattle.mem_steps.proofs.each_memory.Goals as goal
 
@@ -20,10 +19,4 @@ pub loop-alloc-preserved : goal.loop-alloc-preserved
 loop-alloc-preserved c =
     let some : (length c.loop-alloc.after.memories == 0) ≡ false = sym (ap (λ stores. length stores == 0) c.as_slice.ensures.value) ∙ sym c.is_empty.ensures ∙ c.loop-alloc-test.true in
     let next = goes c.loop-alloc.after c.in_ok-plan.plan c.in_ok-plan.ensures.exact some c.in_ok-after.after c.in_ok-after.ensures.exact c.in_ok-after.ensures.within in
-    record {
-      end = next.end ∙ c.loop-alloc.invariant.end;
-      within = next.within ∙ c.loop-alloc.invariant.within;
-      first =
-          next_plain c.loop-alloc.after c.in_ok-plan.plan c.in_ok-plan.ensures.exact some c.in_ok-after.after c.in_ok-after.ensures.exact c.loop-alloc.first c.staying_first-left.result c.loop-alloc.invariant.first
-          c.staying_first-left.ensures.value;
-    }
+    record { end = next.end ∙ c.loop-alloc.invariant.end; within = next.within ∙ c.loop-alloc.invariant.within }

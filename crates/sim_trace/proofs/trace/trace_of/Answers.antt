@@ -1,5 +1,5 @@
 use Rattle.std.proofs.Common.{◌<◌, ◌≤◌, length, take, arith}
-use Rattle.sim_trace.proofs.Tracing.{goes_over, traced_all, traced_more}
+use Rattle.sim_trace.proofs.Tracing.{goes_over, traced_all, traced_more, traced_none}
 use Rattle.sim_trace.proofs.trace.trace_of.Goals as goal
 
 pub put_step-requires : goal.put_step-requires

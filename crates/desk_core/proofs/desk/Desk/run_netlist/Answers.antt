@@ -6,20 +6,20 @@ use Rattle.rtl_ir.specs.Types.{module_named}
 use Rattle.sim_trace.specs.Stimulus.{stimulus_of}
 use Rattle.desk_core.specs.Answers.{netlist_reply}
 use Rattle.desk_core.specs.Netlist.{netlist_answer, netlist_of}
-use Rattle.desk_core.specs.State.{DeskView}
+use Rattle.desk_core.specs.State.{State}
 use Rattle.desk_core.proofs.Showing.{bad_line}
 use Rattle.desk_core.proofs.Simulating.{simulated}
 use Rattle.desk_core.proofs.desk.Desk.run_netlist.Goals as goal
 
 pub returns-in-Ok-clause-ok : goal.returns-in-Ok-clause-ok
 returns-in-Ok-clause-ok g c =
-    let s = c.args.self.now.state in
+    let s = c.args.self.now in
     let name = c.args.ask.now.module in
     let at = c.in-Some.at in
     let m = c.index-modules-at.result in
     let steps = c.as_slice-in-Ok.result.now in
     let here : c.as_slice-modules.result.now ≡ s.design.modules =
-    c.as_slice-modules.ensures.value ∙ ap (λ (d : Design). d.modules) c.design.ensures.value ∙ ap (λ (t : DeskView). t.state.design.modules) c.self.view_is in
+    c.as_slice-modules.ensures.value ∙ ap (λ (d : Design). d.modules) c.design.ensures.value ∙ ap (λ (t : State). t.design.modules) c.self.view_is in
     let asked : c.as_slice.result.now ≡ name = c.as_slice.ensures.value in
     let place : Some at ≡ place_named s.design.modules name =
     sym c.in-Some.is ∙ c.place_named.ensures.value ∙ ap (place_named c.as_slice-modules.result.now) asked ∙ ap (λ (ms : List Module). place_named ms name) here in
@@ -30,12 +30,12 @@ returns-in-Ok-clause-ok g c =
 
 pub returns-in-Err-Bad-clause-ok : goal.returns-in-Err-Bad-clause-ok
 returns-in-Err-Bad-clause-ok g c =
-    let s = c.args.self.now.state in
+    let s = c.args.self.now in
     let name = c.args.ask.now.module in
     let at = c.in-Some.at in
     let m = c.index-modules-at.result in
     let here : c.as_slice-modules.result.now ≡ s.design.modules =
-    c.as_slice-modules.ensures.value ∙ ap (λ (d : Design). d.modules) c.design.ensures.value ∙ ap (λ (t : DeskView). t.state.design.modules) c.self.view_is in
+    c.as_slice-modules.ensures.value ∙ ap (λ (d : Design). d.modules) c.design.ensures.value ∙ ap (λ (t : State). t.design.modules) c.self.view_is in
     let asked : c.as_slice.result.now ≡ name = c.as_slice.ensures.value in
     let place : Some at ≡ place_named s.design.modules name =
     sym c.in-Some.is ∙ c.place_named.ensures.value ∙ ap (place_named c.as_slice-modules.result.now) asked ∙ ap (λ (ms : List Module). place_named ms name) here in

@@ -1,4 +1,0 @@
-pub mod Rises
-pub mod Calls
-pub mod Kept
-pub mod Leaves
