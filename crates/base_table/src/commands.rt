@@ -22,6 +22,13 @@ fn parts(command: &Command) -> (&'static [u8], &[u8], &[u8]) {
     }
 }
 
+/// Puts a part last, with a mark before it.
+fn put_part(shown: &mut Vec<u8>, mark: u8, part: &[u8]) -> Result<(), Memory> {
+    shown.push(mark)?;
+    shown.extend_from_slice(part)?;
+    Ok(())
+}
+
 /// Puts an answer last: `NAME(FIRST,SECOND)` for a command, else `-`.
 fn put_answer(shown: &mut Vec<u8>, answer: &Option<Command>) -> Result<(), Memory> {
     let Some(command) = answer else {
@@ -29,12 +36,9 @@ fn put_answer(shown: &mut Vec<u8>, answer: &Option<Command>) -> Result<(), Memor
         return Ok(());
     };
     let (name, first, second) = parts(command);
-    shown.push(b' ')?;
-    shown.extend_from_slice(name)?;
-    shown.push(b'(')?;
-    shown.extend_from_slice(first)?;
-    shown.push(b',')?;
-    shown.extend_from_slice(second)?;
+    put_part(shown, b' ', name)?;
+    put_part(shown, b'(', first)?;
+    put_part(shown, b',', second)?;
     shown.push(b')')?;
     Ok(())
 }

@@ -2,6 +2,7 @@
 #![tactic(auto)]
 
 mod bits;
+mod calls;
 mod commands;
 mod lists;
 mod names;
@@ -18,9 +19,9 @@ use std::process::ExitCode;
 use table_rows::{LINES, TEXTS, Tally, report};
 
 /// The files whose rows are lines.
-const FILES: [&str; 13] = [
+const FILES: [&str; 14] = [
     "bits", "numbers", "filled", "given", "names", "parts", "extended", "joined", "ports",
-    "sources", "reads", "sinks", "writes",
+    "sources", "reads", "sinks", "writes", "calls",
 ];
 
 /// Whether a row of the file of this name holds.
@@ -39,6 +40,7 @@ fn holds(alloc: Global, file: &str, fields: &[&[u8]]) -> Result<bool, Memory> {
         "reads" => sources::fails(alloc, fields),
         "sinks" => sinks::hold(alloc, fields),
         "writes" => sinks::is_refused(alloc, fields),
+        "calls" => calls::end_well(alloc, fields),
         _ => Ok(false),
     }
 }
@@ -51,25 +53,10 @@ fn count_files(rt: &HostRuntime, tally: &mut Tally) -> Result<(), Memory> {
     tally.file(rt, "commands", TEXTS, commands::are_answered)
 }
 
-/// Counts what is called by hand.
-fn count_calls(alloc: Global, tally: &mut Tally) -> Result<(), Memory> {
-    let calls = "calls";
-    tally.count(calls, b"a list of bits", lists::holds_bits(alloc)?)?;
-    tally.count(calls, b"a list of texts", lists::holds_texts(alloc)?)?;
-    tally.count(calls, b"parts of a counter", lists::counts_steps())?;
-    tally.count(calls, b"100,000 names", names::are_many(alloc)?)?;
-    tally.count(calls, b"a copied signal", signals::stays(alloc, b"a0b")?)?;
-    tally.count(calls, b"the widest signals", signals::are_widest(alloc)?)?;
-    tally.count(calls, b"a copied machine", records::keeps_machine(alloc)?)?;
-    tally.count(calls, b"a copied plan", records::keeps_plan(alloc)?)?;
-    tally.count(calls, b"a writer without room", sinks::is_full())
-}
-
 /// Counts all rows.
 fn tally_of(rt: &HostRuntime) -> Result<Tally, Memory> {
     let mut tally = Tally::make(rt.alloc());
     count_files(rt, &mut tally)?;
-    count_calls(rt.alloc(), &mut tally)?;
     Ok(tally)
 }
 

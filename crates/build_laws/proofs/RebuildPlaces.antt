@@ -30,7 +30,7 @@ use Rattle.rtl_ir.specs.Flat.Driver.{Driven, StorePoints}
 use Rattle.rtl_ir.specs.Flat.Memory.{addresses_of, init_cells, is_read_kind, memories_rows, memory_rows, read_rows, reading_cells, word_row, word_rows}
 use Rattle.rtl_ir.specs.Flat.Place.{Path, Place, word_place}
 use Rattle.rtl_ir.specs.Flat.Point.{At, Constant, Point, bit_place, pin_points}
-use Rattle.rtl_ir.specs.Flat.Process.{Trigger, edge_trigger, level_trigger, level_row, loaded_row, loaded_rows, no_modules, one_rule_rows, process_rows, processes_rows, raced_row, raced_rows, rules_rows, tree_bit_rows, two_rules_rows}
+use Rattle.rtl_ir.specs.Flat.Process.{Trigger, edge_trigger, level_trigger, level_row, loaded_row, loaded_rows, no_modules, one_rule_rows, process_rows, processes_rows, raced_row, raced_rows, rules_rows, tree_bit_rows, two_rules_rows, pair_by}
 use Rattle.rtl_ir.specs.Follow.{all_joins, source_at}
 use Rattle.rtl_ir.specs.declared.follow.Join.{Join}
 use Rattle.rtl_ir.specs.Parameters.{signal_at}
@@ -86,7 +86,7 @@ module _ (start : SigBit → Bit) (p : Path) (wires : List Wire) where
     raced_places updates None (Some b) = refl
     raced_places updates None None = refl
 
-    two_places : (a b : SyncRule) (e f l k : Option Trigger) → places_of (two_rules_rows start p wires m root bits a b e f l k) ≡ bits_places p wires (two_rules_bits a b e f l k)
+    two_places : (a b : SyncRule) (e f l k : Option Trigger) → places_of (two_rules_rows start p wires m root bits (pair_by a b e f l k)) ≡ bits_places p wires (two_rules_bits a b e f l k)
     two_places a b (Some e) (Some f) (Some l) (Some k) = loaded_places e (all_joins a.updates) k (all_joins b.updates)
     two_places a b (Some e) (Some f) None (Some k) = loaded_places e (all_joins a.updates) k (all_joins b.updates)
     two_places a b (Some e) None (Some l) (Some k) = loaded_places e (all_joins a.updates) k (all_joins b.updates)

@@ -1,21 +1,20 @@
 -- Edges, and what a register holds at an impossible one.
-use Rattle.std.proofs.Common.{ℕ, ◌≡◌, refl, sym, ◌∙◌, ap, subst, ◌⊎◌, inl, inr, ◌↔◌, Bool, true, false}
+use Rattle.std.proofs.Common.{ℕ, ◌≡◌, refl, ◌∙◌, ap, inl, inr, ◌↔◌, Bool}
 use Rattle.rtl_bits.specs.declared.bit.Bit.{Bit}
-use Rattle.rtl_bits.specs.declared.bit.Bit.TheVariants.{S0, S1, X, Z, M, Dash}
-use Rattle.rtl_bits.specs.Tables.{seen_of, not_of, and_of, merge_of, mux_of, IsPlain}
+use Rattle.rtl_bits.specs.declared.bit.Bit.TheVariants.{S0, S1}
+use Rattle.rtl_bits.specs.Tables.{seen_of, IsPlain}
 use Rattle.rtl_bits.proofs.Tables.{seen_of_plain, not_of_plain, and_of_plain, or_of_plain, xor_of_plain, mux_of_plain}
 use Rattle.cell_types.specs.declared.gate.GateKind.{GateKind}
-use Rattle.cell_types.specs.declared.gate.GateKind.TheVariants.{Buf, Not, And, Nand, Or, Nor, Xor, Xnor, AndNot, OrNot, Mux, Nmux}
+use Rattle.cell_types.specs.declared.gate.GateKind.TheVariants.{Buf, And, Or, Xor, AndNot, OrNot, Mux}
 use Rattle.cell_types.specs.declared.storage.StorageKind.{StorageKind}
 use Rattle.cell_types.specs.declared.storage.StorageKind.TheVariants.{Ff, Dff, Dffe, Sdff, Sdffe, Sdffce, Adff, Adffe, Aldff, Aldffe, Dffsr, Dffsre, Dlatch, Adlatch, Dlatchsr, Sr}
 use Rattle.cell_gate.specs.declared.pins.Pins.{Pins}
-use Rattle.cell_types.specs.declared.levels.Levels.{Levels}
 use Rattle.cell_gate.specs.declared.store.Store.{Store}
 use Rattle.cell_gate.specs.Gates.{output_of}
 use Rattle.cell_gate.specs.Control.{active_of, pick_of, edge_of, was_of, IsCertain, IsImpossible}
 use Rattle.cell_types.specs.declared.shape.Shape.{Shape}
 use Rattle.cell_gate.specs.Store.{store_of, storage_kind}
-use Rattle.cell_gate.specs.Storage.{acting_of, clocked_of, enabled_of, set_or_cleared_of, register_of, enabled_register_of, latch_of, next_of, stored_of, store_bit_of, IsRegister, IsQuiet}
+use Rattle.cell_gate.specs.Storage.{acting_of, clocked_of, set_or_cleared_of, next_of, stored_of, store_bit_of, IsRegister, IsQuiet}
 
 certain_from : (was is : Bit) → edge_of was is ≡ S1 → IsCertain was is
 certain_from S0 S1 e = (refl, refl)

@@ -14,7 +14,7 @@ use Rattle.cell_gate.specs.declared.pins.Pins.{Pins}
 use Rattle.cell_types.specs.declared.levels.Levels.{Levels}
 use Rattle.cell_gate.specs.declared.store.Store.{Store}
 use Rattle.cell_gate.specs.Gates.{output_of}
-use Rattle.cell_gate.specs.Control.{active_of, pick_of, edge_of, was_of}
+use Rattle.cell_gate.specs.Control.{active_of, pick_of, was_of}
 use Rattle.cell_types.specs.declared.shape.Shape.{Shape}
 use Rattle.cell_gate.specs.Store.{store_of}
 use Rattle.cell_gate.specs.Storage.{acting_of, clocked_of, enabled_of, set_or_cleared_of, register_of, enabled_register_of, latch_of, next_of, stored_of, store_bit_of, PinsBelow, IsPinMonotone}

@@ -7,29 +7,14 @@ use Rattle.cell_types.specs.declared.kind.CellKind.TheVariants.{Storage, Storage
 use Rattle.cell_types.specs.declared.shape.Resets.{Resets}
 use Rattle.cell_types.specs.declared.shape.Shape.{Shape}
 use Rattle.cell_types.specs.declared.storage.StorageKind.{StorageKind}
-use Rattle.cell_types.specs.declared.storage.StorageKind.TheVariants.{Ff, Dff, Dffe, Sdff, Sdffe, Sdffce, Adff, Adffe, Aldff, Aldffe, Dffsr, Dffsre, Dlatch, Adlatch, Dlatchsr, Sr}
+use Rattle.cell_types.specs.declared.storage.StorageKind.TheVariants.{Ff, Sdff, Sdffe, Sdffce, Adff, Adffe, Adlatch}
 use Rattle.cell_types.specs.declared.storage_gate.StorageGate.{StorageGate as AnyGate}
-use Rattle.cell_types.specs.declared.storage_gate.StorageGate.TheVariants as Gate
+use Rattle.cell_types.specs.StorageGate.{kind_of_gate}
 use Rattle.cell_gate.specs.declared.store.Store.{Store}
 
 -- the kind of storage cell that has the meaning of a gate
 abbrev pub gate_kind : AnyGate → StorageKind
-gate_kind Gate.Ff = Ff
-gate_kind (Gate.Dff _) = Dff
-gate_kind (Gate.Dffe _ _) = Dffe
-gate_kind (Gate.Adff _ _ _) = Adff
-gate_kind (Gate.Adffe _ _ _ _) = Adffe
-gate_kind (Gate.Sdff _ _ _) = Sdff
-gate_kind (Gate.Sdffe _ _ _ _) = Sdffe
-gate_kind (Gate.Sdffce _ _ _ _) = Sdffce
-gate_kind (Gate.Dffsr _ _ _) = Dffsr
-gate_kind (Gate.Dffsre _ _ _ _) = Dffsre
-gate_kind (Gate.Aldff _ _) = Aldff
-gate_kind (Gate.Aldffe _ _ _) = Aldffe
-gate_kind (Gate.Dlatch _) = Dlatch
-gate_kind (Gate.Adlatch _ _ _) = Adlatch
-gate_kind (Gate.Dlatchsr _ _ _) = Dlatchsr
-gate_kind (Gate.Sr _ _) = Sr
+gate_kind gate = kind_of_gate gate
 
 -- a cell is a storage cell, on words or of one bit
 abbrev pub IsStorage : CellKind → Type 0
@@ -40,7 +25,7 @@ IsStorage kind = ⊥
 -- its kind; that of any other cell is `$ff`, which nothing reads
 abbrev pub storage_kind : CellKind → StorageKind
 storage_kind (Storage kind) = kind
-storage_kind (StorageGate gate) = gate_kind gate
+storage_kind (StorageGate gate) = kind_of_gate gate
 storage_kind kind = Ff
 
 -- the bit that the reset of a kind gives at a place

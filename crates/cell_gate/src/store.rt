@@ -1,9 +1,9 @@
 //! How one bit of a storage cell works.
 
 ghost use Rattle.std.specs.Prelude.{◌≡◌, slice_index_or};
-ghost use Rattle.cell_gate.specs.Store.{IsStorage, gate_kind, reset_at, storage_kind, store_of};
+ghost use Rattle.cell_gate.specs.Store.{IsStorage, reset_at, storage_kind, store_of};
 
-use cell_types::{CellKind, Levels, Resets, Shape, StorageGate, StorageKind};
+use cell_types::{CellKind, Levels, Resets, Shape, StorageKind};
 use rtl_bits::Bit;
 
 /// One bit of a storage cell: its kind, the levels of its controls, and the value that its reset
@@ -35,32 +35,8 @@ pub fn storage_kind(kind: CellKind) -> StorageKind
 {
     match kind {
         CellKind::Storage(storage) => storage,
-        CellKind::StorageGate(gate) => gate_kind(gate),
+        CellKind::StorageGate(gate) => gate.kind(),
         _ => StorageKind::Ff,
-    }
-}
-
-/// The kind of storage cell that has the meaning of the gate.
-fn gate_kind(gate: StorageGate) -> StorageKind
-    ensures value { result ≡ gate_kind gate }
-{
-    match gate {
-        StorageGate::Ff => StorageKind::Ff,
-        StorageGate::Dff { .. } => StorageKind::Dff,
-        StorageGate::Dffe { .. } => StorageKind::Dffe,
-        StorageGate::Adff { .. } => StorageKind::Adff,
-        StorageGate::Adffe { .. } => StorageKind::Adffe,
-        StorageGate::Sdff { .. } => StorageKind::Sdff,
-        StorageGate::Sdffe { .. } => StorageKind::Sdffe,
-        StorageGate::Sdffce { .. } => StorageKind::Sdffce,
-        StorageGate::Dffsr { .. } => StorageKind::Dffsr,
-        StorageGate::Dffsre { .. } => StorageKind::Dffsre,
-        StorageGate::Aldff { .. } => StorageKind::Aldff,
-        StorageGate::Aldffe { .. } => StorageKind::Aldffe,
-        StorageGate::Dlatch { .. } => StorageKind::Dlatch,
-        StorageGate::Adlatch { .. } => StorageKind::Adlatch,
-        StorageGate::Dlatchsr { .. } => StorageKind::Dlatchsr,
-        StorageGate::Sr { .. } => StorageKind::Sr,
     }
 }
 

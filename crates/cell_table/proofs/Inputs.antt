@@ -1,5 +1,5 @@
 -- The words of a row are such as `word_value` takes.
-use Rattle.std.proofs.Common.{◌≡◌, refl, sym, ◌∙◌, ap, subst, ℕ, ◌≤◌, List, length, Ok, arith}
+use Rattle.std.proofs.Common.{◌≡◌, sym, ◌∙◌, ap, ◌≤◌, List, length, Ok, arith}
 use Rattle.rtl_bits.specs.declared.bit.Bit.{Bit}
 use Rattle.cell_types.specs.declared.given.Param.{Param}
 use Rattle.cell_types.specs.declared.given.PinWidth.{PinWidth}

@@ -1,6 +1,6 @@
 //! The numbers that lists of bits stand for.
 
-ghost use Rattle.std.specs.Prelude.{◌≡◌, ◌+◌, ◌^◌, length, min, nat_lt, drop};
+ghost use Rattle.std.specs.Prelude.{◌≡◌, ◌+◌, ◌^◌, min, nat_lt};
 ghost use Rattle.rtl_bits.specs.Numbers.{number_of};
 ghost use Rattle.cell_types.specs.Number.{digit_at};
 

@@ -72,7 +72,10 @@ fn memory_params(kind: MemoryKind) -> &'static [ParamName]
 {
     match kind {
         MemoryKind::Memrd => &[Memid, Abits, Width, ClkEnable, ClkPolarity, Transparent],
-        MemoryKind::MemrdV2 => &[Memid, Abits, Width, ClkEnable, ClkPolarity, TransparencyMask, CollisionXMask, ArstValue, SrstValue, InitValue, CeOverSrst],
+        MemoryKind::MemrdV2 => &[
+            Memid, Abits, Width, ClkEnable, ClkPolarity, TransparencyMask, CollisionXMask, ArstValue, SrstValue,
+            InitValue, CeOverSrst,
+        ],
         MemoryKind::MemwrV2 => &[Memid, Abits, Width, ClkEnable, ClkPolarity, Portid, PriorityMask],
         MemoryKind::Meminit => &[Memid, Abits, Width, Words, Priority],
         MemoryKind::MeminitV2 => &[Memid, Abits, Width, Words, Priority],

@@ -1,6 +1,6 @@
 //! Storage gates.
 
-ghost use Rattle.std.specs.Prelude.{◌≡◌, ◌∷◌, ◌++◌, [], Some, IfOk, codes};
+ghost use Rattle.std.specs.Prelude.{◌≡◌, ◌++◌, [], Some, IfOk, codes};
 ghost use Rattle.cell_types.specs.Kind.{kind_of};
 ghost use Rattle.cell_types.specs.Letters.{value_of};
 ghost use Rattle.cell_types.specs.StorageGate.{kind_of_gate};

@@ -1,6 +1,6 @@
 //! The cells that compute with integers.
 
-ghost use Rattle.std.specs.Prelude.{◌≡◌, ◌<◌, ◌≤◌, IfOk, length, ℤ, ◌+ℤ◌, ◌-ℤ◌, ◌*ℤ◌, neg_ℤ, int_div, int_rem, int_lt};
+ghost use Rattle.std.specs.Prelude.{◌≡◌, ◌<◌, ◌≤◌, IfOk, length, ℤ, ◌+ℤ◌, ◌*ℤ◌, neg_ℤ, int_div, int_rem, int_lt};
 ghost use Rattle.cell_word.specs.Arithmetic.{arith_of, division_of, floor_div, floor_rem, is_ordered, negative_of};
 ghost use Rattle.cell_word.specs.Arithmetic.{order_of, quotient_bits_of, quotient_of, result_of, rounds_up};
 ghost use Rattle.cell_word.specs.Sizes.{IsProper, StandsFor, integer_value};

@@ -6,7 +6,7 @@ ghost use Rattle.rtl_bits.specs.Numbers.{bits_of};
 ghost use Rattle.cell_word.specs.Integers.{integer_bits};
 ghost use Rattle.cell_word.specs.Sizes.{IsRead, StandsFor};
 
-use rtl_bits::{Bit, Bits, Memory};
+use rtl_bits::{Bits, Memory};
 use std::alloc::Global;
 
 /// An integer by its sign and its size.

@@ -2,15 +2,14 @@
 
 ghost use Rattle.std.specs.Prelude.{◌≡◌, ◌<◌, ◌≤◌, ◌+◌, ◌^◌, true, IfOk, length, max};
 ghost use Rattle.rtl_bits.specs.Knowledge.{all_known};
-ghost use Rattle.rtl_bits.specs.Numbers.{digit_of};
 ghost use Rattle.cell_word.specs.Integers.{integer_in};
 ghost use Rattle.cell_word.specs.Words.{word_of};
-ghost use Rattle.cell_word.specs.Shifts.{below_of, distance_of, moved_of, read_at, shifted_of};
+ghost use Rattle.cell_word.specs.Shifts.{below_of, distance_of, read_at, shifted_of};
 ghost use Rattle.cell_word.specs.Distances.{IsDistance, far_of, flipped, read_by};
 
 use crate::words::{at_or, fill, unknown};
-use cell_types::ShiftKind;
-use rtl_bits::{Bit, Bits, Memory, all_known, bit_not};
+use cell_types::{ShiftKind, Signs};
+use rtl_bits::{Bit, Bits, Memory, all_known, bit_not, digit_of};
 use std::alloc::Global;
 
 /// Where a distance is cut off, past each width.
@@ -31,22 +30,21 @@ pub struct Distance {
 pub(crate) fn shifted(
     alloc: Global,
     kind: ShiftKind,
-    a_signed: bool,
-    b_signed: bool,
+    signs: Signs,
     a: &[Bit],
     b: &[Bit],
     width: u32,
 ) -> Result<Bits, Memory>
     requires room { length a.now < 2 ^ 32 }
-    ensures value { IfOk result (λ bits. bits ≡ shifted_of kind a_signed b_signed a.now b.now width) }
+    ensures value { IfOk result (λ bits. bits ≡ shifted_of kind signs.a signs.b a.now b.now width) }
 {
     if all_known(b) {
         moved(
             alloc,
             kind,
-            a_signed,
+            signs.a,
             a,
-            read_distance(kind, b_signed, b),
+            read_distance(kind, signs.b, b),
             width,
         )
     } else {
@@ -173,15 +171,14 @@ fn far(inverse: bool, bits: &[Bit]) -> u64
 {
     let mut number = 0;
     for at in (0..bits.len()).rev() {
-        number = (2 * number + digit(inverse, bits[at])).min(FAR);
+        number = (2 * number + u64::from(digit_of(flipped(inverse, bits[at])))).min(FAR);
     }
     number
 }
 
-fn digit(inverse: bool, bit: Bit) -> u64
-    ensures value { result ≡ digit_of (flipped inverse bit) }
-    ensures small { result ≤ 1 }
+/// The bit, or its inverse.
+fn flipped(inverse: bool, bit: Bit) -> Bit
+    ensures value { result ≡ flipped inverse bit }
 {
-    let bit = if inverse { bit_not(bit) } else { bit };
-    if bit == Bit::S1 { 1 } else { 0 }
+    if inverse { bit_not(bit) } else { bit }
 }

@@ -107,16 +107,7 @@ fn binary(alloc: Global, kind: WordKind, shape: &Shape, a: &Bits, b: &Bits) -> R
         WordKind::Arith(kind) => arith(alloc, kind, signed, a, b, y),
         WordKind::Division(kind) => division(alloc, kind, signed, a, b, y),
         WordKind::Shift(kind) => {
-            let (a_signed, b_signed) = (shape.signs.a, shape.signs.b);
-            shifted(
-                alloc,
-                kind,
-                a_signed,
-                b_signed,
-                a.as_slice(),
-                b.as_slice(),
-                y,
-            )
+            shifted(alloc, kind, shape.signs, a.as_slice(), b.as_slice(), y)
         }
         WordKind::Concat => joined(alloc, a.as_slice(), b.as_slice()),
         _ => unreachable!(),

@@ -1,7 +1,7 @@
 //! Words: lists of bits, the least significant first.
 
 ghost use Rattle.std.specs.Prelude.{◌≡◌, ◌<◌, IfOk, slice_index_or};
-ghost use Rattle.cell_word.specs.Words.{extended_at, fill_of, one_bit_of, unknown_of};
+ghost use Rattle.cell_word.specs.Words.{fill_of, one_bit_of, unknown_of};
 
 use rtl_bits::{Bit, Bits, Memory, top_of};
 use std::alloc::Global;

@@ -17,7 +17,7 @@ use Rattle.rtl_ir.specs.Faults.TwoEdges.{EdgeBit, edge_bit, is_tested}
 use Rattle.rtl_ir.specs.Flat.Driver.{Driven}
 use Rattle.rtl_ir.specs.Flat.Place.{Path}
 use Rattle.rtl_ir.specs.Flat.Point.{bit_place}
-use Rattle.rtl_ir.specs.Flat.Process.{Trigger, edge_trigger, level_trigger, no_modules, tree_bit_rows, loaded_row, loaded_rows, level_row, raced_row, raced_rows, one_rule_rows, two_rules_rows, rules_rows, processes_rows}
+use Rattle.rtl_ir.specs.Flat.Process.{Trigger, edge_trigger, level_trigger, no_modules, tree_bit_rows, loaded_row, loaded_rows, level_row, raced_row, raced_rows, one_rule_rows, two_rules_rows, rules_rows, processes_rows, pair_by}
 use Rattle.rtl_ir.specs.Follow.{all_joins, source_at}
 use Rattle.rtl_ir.specs.declared.follow.Join.{Join}
 use Rattle.rtl_ir.specs.Rules.{acting_rules, updated_by, updated_bits}
@@ -139,7 +139,7 @@ module _ (start : SigBit → Bit) (p : Path) (wires : List Wire) where
     raced_part updates None (Some b) all h = part_none (at_places p wires all)
     raced_part updates None None all h = part_none (at_places p wires all)
 
-    two_part : (a b : SyncRule) (e f l k : Option Trigger) (all : List WireBit) → IsPart (joined (all_joins a.updates)) all → IsPart (joined (all_joins b.updates)) all → IsPart (places_of (two_rules_rows start p wires m root bits a b e f l k)) (at_places p wires all)
+    two_part : (a b : SyncRule) (e f l k : Option Trigger) (all : List WireBit) → IsPart (joined (all_joins a.updates)) all → IsPart (joined (all_joins b.updates)) all → IsPart (places_of (two_rules_rows start p wires m root bits (pair_by a b e f l k))) (at_places p wires all)
     two_part a b (Some e) (Some f) (Some l) (Some k) all h i = loaded_part e k (all_joins a.updates) (all_joins b.updates) all h i
     two_part a b (Some e) (Some f) None (Some k) all h i = loaded_part e k (all_joins a.updates) (all_joins b.updates) all h i
     two_part a b (Some e) None (Some l) (Some k) all h i = loaded_part e k (all_joins a.updates) (all_joins b.updates) all h i

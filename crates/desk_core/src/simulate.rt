@@ -20,11 +20,14 @@ use crate::results::Results;
 use crate::runs::{Told, tell};
 use design_edit::place_named;
 use desk_read::SimAsk;
-use reply_lines::{Reply, counted, error_reply, number_reply, put_counted, text_reply, told_reply};
+use reply_lines::{
+    Reply, counted, error_reply, number_reply, ok_line, ok_reply, put_counted, text_reply,
+    told_reply,
+};
 use rtl_bits::{Bits, Memory, Steps, Text};
 use rtl_check::Checked;
 use rtl_write::module_text;
-use sim_trace::{StimulusFault, stimulus_of, titled_trace, trace_text};
+use sim_trace::{StimulusFault, put_titled_trace, put_trace, stimulus_of};
 use std::alloc::Global;
 
 impl Desk {
@@ -65,9 +68,10 @@ impl Desk {
         ensures value { («module» : Module) → slice_get self.now.design.modules at ≡ Some «module» →
             IfOk result (λ reply. reply ≡ source_reply self.now «module» stimulus.now) }
     {
-        let trace = trace_text(self.alloc, self.design.design(), at, stimulus)?;
         let words = counted(self.alloc, b"steps", stimulus.len())?;
-        text_reply(self.alloc, words.as_slice(), trace.as_slice())
+        let mut text = ok_line(self.alloc, words.as_slice())?;
+        put_trace(&mut text, self.design.design(), at, stimulus)?;
+        Ok(ok_reply(text))
     }
 
     /// As `run`, and then a module of the netlist is run.
@@ -148,8 +152,9 @@ fn traced(
 {
     let modules = design.design().modules.as_slice();
     let netlist = netlist_modules(alloc, modules, results.found.as_slice())?;
-    let trace = titled_trace(alloc, netlist.as_slice(), at, stimulus)?;
     let mut words = words;
     put_counted(&mut words, b"steps", stimulus.len())?;
-    text_reply(alloc, words.as_slice(), trace.as_slice())
+    let mut text = ok_line(alloc, words.as_slice())?;
+    put_titled_trace(&mut text, netlist.as_slice(), at, stimulus)?;
+    Ok(ok_reply(text))
 }

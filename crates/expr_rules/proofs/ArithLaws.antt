@@ -31,7 +31,8 @@ use Rattle.expr_rules.specs.Change.{when}
 use Rattle.expr_rules.specs.Laws.{IsReading}
 use Rattle.expr_rules.specs.Rules.Arith.{add_zero, equal_difference, moved_up, mul_by_bit, mul_by_power, power_of, times_small}
 use Rattle.expr_rules.specs.Rules.Logic.{beside_zeros}
-use Rattle.expr_rules.specs.Signals.{filled, is_zero, same_word}
+use Rattle.rtl_ir.specs.Signals.{same_signal}
+use Rattle.expr_rules.specs.Signals.{filled, is_zero}
 use Rattle.expr_rules.specs.declared.change.Change.{Change}
 use Rattle.expr_rules.specs.declared.change.Change.TheVariants.{Gives}
 use Rattle.expr_rules.specs.declared.operands.Operands.{Operands}
@@ -41,7 +42,7 @@ use Rattle.expr_rules.proofs.Digits.{bits_at}
 use Rattle.expr_rules.proofs.Integers.{AreCongruent, bits_congruent, congruent_bits, congruent_difference, congruent_product, congruent_refl, congruent_sum, congruent_trans, has_residue}
 use Rattle.expr_rules.proofs.LogicLaws.{beside_case, filled_at}
 use Rattle.expr_rules.proofs.Reading.{default_at, extended_length, read_below, read_word}
-use Rattle.expr_rules.proofs.Sameness.{same_word_is}
+use Rattle.rtl_ir.proofs.SamePlaces.{signal_is}
 use Rattle.expr_rules.proofs.Says.{IsMeantAs, RuleSays, WordSays, bit_of}
 
 less_zero : (a : ℤ) → a -ℤ pos 0 ≡ a
@@ -135,9 +136,9 @@ module _ (f : SigBit → Bit) (fixed : IsReading f) (shape : Shape) (o : Operand
 
   pub equal_difference_says : RuleSays f shape o (λ kind. equal_difference kind shape o)
   equal_difference_says (Arith Sub) m change e =
-      when_case (WordSays f shape o (Arith Sub)) change (same_word o.left o.right) (Gives (filled shape.widths.y S0)) e (λ t.
+      when_case (WordSays f shape o (Arith Sub)) change (same_signal o.left o.right) (Gives (filled shape.widths.y S0)) e (λ t.
       arith_gives Sub (filled shape.widths.y S0) (λ ka kb.
-      let same : o.left ≡ o.right = same_word_is o.left o.right t in
+      let same : o.left ≡ o.right = signal_is o.left o.right t in
       let c : AreCongruent shape.widths.y left_integer right_integer = bits_congruent shape.widths.y left_integer right_integer (left_bits Sub m ka ∙ ap (map f) same ∙ sym (right_bits Sub m kb)) in
       congruent_bits shape.widths.y (left_integer -ℤ right_integer) (right_integer -ℤ right_integer)
       (congruent_difference shape.widths.y left_integer right_integer right_integer right_integer c (congruent_refl shape.widths.y right_integer))

@@ -35,7 +35,8 @@ use Rattle.cell_word.specs.Words.{extended_at, one_bit_of, word_of}
 use Rattle.expr_rules.specs.Change.{first_some, inverter, when}
 use Rattle.expr_rules.specs.Laws.{IsReading, read_at}
 use Rattle.expr_rules.specs.Rules.Compare.{beside_bit, compare, of_equals, one_bit_compare, passing, turning}
-use Rattle.expr_rules.specs.Signals.{is_bit, same_word}
+use Rattle.rtl_ir.specs.Signals.{same_signal}
+use Rattle.expr_rules.specs.Signals.{is_bit}
 use Rattle.expr_rules.specs.declared.change.Change.{Change}
 use Rattle.expr_rules.specs.declared.change.Change.TheVariants.{Gives}
 use Rattle.expr_rules.specs.declared.operands.Operands.{Operands}
@@ -44,7 +45,8 @@ use Rattle.expr_rules.proofs.ConstantWords.{meant_bits}
 use Rattle.expr_rules.proofs.FoldLaws.{bit_says, inverse_says, one_of}
 use Rattle.expr_rules.proofs.Integers.{AreCongruent, bits_congruent}
 use Rattle.expr_rules.proofs.Reading.{extended_length, extended_read}
-use Rattle.expr_rules.proofs.Sameness.{equal_numbers, same_word_is}
+use Rattle.rtl_ir.proofs.SamePlaces.{signal_is}
+use Rattle.expr_rules.proofs.Sameness.{equal_numbers}
 use Rattle.expr_rules.proofs.Says.{IsMeantAs, IsNarrow, RuleSays, WordSays, becomes_inverter}
 use Rattle.expr_rules.proofs.Tables.{xnor_same}
 
@@ -223,7 +225,7 @@ module _ (f : SigBit → Bit) (fixed : IsReading f) (shape : Shape) (o : Operand
         (subst (λ z. Below z (not_of (read_at f other 0))) (sym (value ∙ ap (λ c. side c (read_at f other 0)) (constant_is (turning kind) constant p.0))) (turn (read_at f other 0))))))
       where
         constant_is : (c : Bit) (word : List SigBit) → is_bit c word ≡ true → read_at f word 0 ≡ c
-        constant_is c word t = ap (λ w. read_at f w 0) (same_word_is word (Fixed c ∷ []) t) ∙ fixed c
+        constant_is c word t = ap (λ w. read_at f w 0) (signal_is word (Fixed c ∷ []) t) ∙ fixed c
 
     one_bit_says : (kind : EqualKind) → IsMeantAs (Equal kind) shape o → (change : Change) → one_bit_compare kind own shape o ≡ Some change → WordSays f shape o (Equal kind) change
     one_bit_says kind m change e =
@@ -241,13 +243,13 @@ module _ (f : SigBit → Bit) (fixed : IsReading f) (shape : Shape) (o : Operand
 
     pub compare_says : RuleSays f shape o (λ kind. compare kind own shape o)
     compare_says (Equal kind) m change e =
-        if_case (WordSays f shape o (Equal kind)) change (same_word o.left o.right) (Some (Gives (Fixed (passing kind) ∷ []))) (one_bit_compare kind own shape o) e
+        if_case (WordSays f shape o (Equal kind)) change (same_signal o.left o.right) (Some (Gives (Fixed (passing kind) ∷ []))) (one_bit_compare kind own shape o) e
         (λ t e. some_case (WordSays f shape o (Equal kind)) change (Gives (Fixed (passing kind) ∷ [])) e
         (bit_says f fixed shape o (equality_of kind (both_signed shape) (map f o.a) (map f o.b)) (Fixed (passing kind))
-        (subst (Below (equality_of kind (both_signed shape) (map f o.a) (map f o.b))) (sym (fixed (passing kind))) (equality_below m.left m.right kind (same_word_is o.left o.right t)))))
+        (subst (Below (equality_of kind (both_signed shape) (map f o.a) (map f o.b))) (sym (fixed (passing kind))) (equality_below m.left m.right kind (signal_is o.left o.right t)))))
         (λ t e. one_bit_says kind m change e)
     compare_says (Order kind) m change e =
-        when_case (WordSays f shape o (Order kind)) change (same_word o.left o.right) (Gives (Fixed (of_equals kind) ∷ [])) e (λ t.
+        when_case (WordSays f shape o (Order kind)) change (same_signal o.left o.right) (Gives (Fixed (of_equals kind) ∷ [])) e (λ t.
         bit_says f fixed shape o (order_of kind (both_signed shape) (map f o.a) (map f o.b)) (Fixed (of_equals kind))
-        (subst (Below (order_of kind (both_signed shape) (map f o.a) (map f o.b))) (sym (fixed (of_equals kind))) (order_below m.left m.right kind (same_word_is o.left o.right t))))
+        (subst (Below (order_of kind (both_signed shape) (map f o.a) (map f o.b))) (sym (fixed (of_equals kind))) (order_below m.left m.right kind (signal_is o.left o.right t))))
     compare_says kind m change e = absurd (cc)

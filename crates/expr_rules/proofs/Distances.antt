@@ -1,5 +1,5 @@
 -- Distances of shifts, and the bits that are read at them.
-use Rattle.std.proofs.Common.{◌≡◌, refl, sym, ◌∙◌, ap, subst, ℕ, zero, suc, ◌+◌, ◌-◌, ◌*◌, ◌^◌, ◌<◌, ◌≤◌, min, max, Bool, true, false, List, [], ◌∷◌, ◌++◌, map, length, get_or, drop, arith, inl, inr, ℤ, pos, negsuc, neg_ℤ, ◌+ℤ◌, Some}
+use Rattle.std.proofs.Common.{◌≡◌, refl, sym, ◌∙◌, ap, subst, ℕ, zero, suc, ◌+◌, ◌-◌, ◌^◌, ◌<◌, ◌≤◌, min, max, Bool, true, false, List, [], ◌∷◌, ◌++◌, map, length, arith, inl, inr, ℤ, pos, negsuc, neg_ℤ, ◌+ℤ◌, Some}
 use Rattle.std.specs.Prelude.{nat_lt, nat_le, if◌then◌else◌, slice_index_or}
 use Rattle.std.specs.List.{list_all, range_with_len}
 use Rattle.std.proofs.lemmas.List.{get_or_past, length-map}
@@ -7,11 +7,8 @@ use Rattle.std.proofs.lemmas.List.FromFn.{map-range_with_len_more}
 use Rattle.std.proofs.lemmas.Int.{ints}
 use Rattle.std.proofs.lemmas.Bool.{and_parts, cases_lt}
 use Rattle.std.proofs.lemmas.Bool.Decides.{nat_tests}
-use Rattle.rtl_bits.specs.declared.bit.Bit.{Bit}
 use Rattle.rtl_bits.specs.declared.bit.Bit.TheVariants.{S0, S1, X}
 use Rattle.rtl_bits.specs.Knowledge.{all_known}
-use Rattle.rtl_bits.specs.Numbers.{digit_of, number_of, top_of}
-use Rattle.rtl_bits.proofs.NumberLemmas as Numbers
 use Rattle.rtl_sig.specs.Signal.{fill_of}
 use Rattle.rtl_sig.specs.declared.sig.SigBit.{SigBit}
 use Rattle.rtl_sig.specs.declared.sig.SigBit.TheVariants.{Fixed, Wire as OnWire}
@@ -24,11 +21,8 @@ use Rattle.cell_types.specs.declared.word.ShiftKind.TheVariants.{Sshr, Shiftx}
 use Rattle.cell_types.specs.declared.word.WordKind.{WordKind}
 use Rattle.cell_types.specs.declared.word.WordKind.TheVariants.{Shift}
 use Rattle.cell_word.specs.Distances.{IsDistance}
-use Rattle.cell_word.specs.Integers.{integer_in}
 use Rattle.cell_word.specs.Shifts.{below_of}
 use Rattle.cell_word.specs.Sizes.{signed_of}
-use Rattle.cell_word.specs.Words as filled
-use Rattle.cell_word.proofs.Distances as words
 use Rattle.expr_rules.specs.Distances.{signal_by}
 use Rattle.expr_rules.specs.Laws.{IsComputed}
 use Rattle.expr_rules.specs.Operands.{counted_as}

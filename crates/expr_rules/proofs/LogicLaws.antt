@@ -24,13 +24,15 @@ use Rattle.cell_word.specs.Words.{extended_at}
 use Rattle.expr_rules.specs.Change.{first_some, inverter, when}
 use Rattle.expr_rules.specs.Laws.{IsReading, KnowsInverters, read_at}
 use Rattle.expr_rules.specs.Rules.Logic.{and_with_ones, beside_ones, beside_zeros, double_not, equal_operands, equal_parity, or_with_zeros, xor_with_ones}
-use Rattle.expr_rules.specs.Signals.{filled, is_one, is_zero, same_word}
+use Rattle.rtl_ir.specs.Signals.{same_signal}
+use Rattle.expr_rules.specs.Signals.{filled, is_one, is_zero}
 use Rattle.expr_rules.specs.declared.change.Change.{Change}
 use Rattle.expr_rules.specs.declared.change.Change.TheVariants.{Gives}
 use Rattle.expr_rules.specs.declared.operands.Operands.{Operands}
 use Rattle.expr_rules.proofs.Cases.{first_case, map_case, when_case}
 use Rattle.expr_rules.proofs.Reading.{all_at, default_at, extended_length, extended_read, read_word, word_at}
-use Rattle.expr_rules.proofs.Sameness.{equal_numbers, same_word_is}
+use Rattle.rtl_ir.proofs.SamePlaces.{signal_is}
+use Rattle.expr_rules.proofs.Sameness.{equal_numbers}
 use Rattle.expr_rules.proofs.Says.{IsMeantAs, IsNarrow, RuleSays, WordSays, becomes_inverter, bit_of}
 use Rattle.expr_rules.proofs.Tables.{and_one, and_same, not_below, one_and, one_xor, or_same, or_zero, xnor_same, xor_one, xor_same, xor_zero, zero_or, zero_xor}
 
@@ -99,11 +101,11 @@ module _ (f : SigBit → Bit) (fixed : IsReading f) where
           (below (f (slice_index_or o.right at (Fixed S0)))))
 
       -- equal operands
-      equal_is : same_word o.left o.right ≡ true → (g : Bit → Bit) → ((a : Bit) → Below (bit_by kind a a) (g a)) → (at : ℕ) → at < shape.widths.y → Below (bit_of f shape o (Bitwise kind) at) (g (f (slice_index_or o.left at (Fixed S0))))
+      equal_is : same_signal o.left o.right ≡ true → (g : Bit → Bit) → ((a : Bit) → Below (bit_by kind a a) (g a)) → (at : ℕ) → at < shape.widths.y → Below (bit_of f shape o (Bitwise kind) at) (g (f (slice_index_or o.left at (Fixed S0))))
       equal_is t g below =
           bits_below (λ at. g (f (slice_index_or o.left at (Fixed S0)))) (λ at h.
           subst (λ w. Below (bit_by kind (f (slice_index_or o.left at (Fixed S0))) (f (slice_index_or w at (Fixed S0)))) (g (f (slice_index_or o.left at (Fixed S0)))))
-          (same_word_is o.left o.right t)
+          (signal_is o.left o.right t)
           (below (f (slice_index_or o.left at (Fixed S0)))))
 
       -- the operand beside zeros
@@ -115,14 +117,14 @@ module _ (f : SigBit → Bit) (fixed : IsReading f) where
           (λ t. left_is is_zero S0 zeros_read t (λ a. a) left))
 
       -- equal operands that give themselves
-      same_say : ((a : Bit) → Below (bit_by kind a a) a) → (change : Change) → when (same_word o.left o.right) (Gives o.left) ≡ Some change → WordSays f shape o (Bitwise kind) change
+      same_say : ((a : Bit) → Below (bit_by kind a a) a) → (change : Change) → when (same_signal o.left o.right) (Gives o.left) ≡ Some change → WordSays f shape o (Bitwise kind) change
       same_say below change e =
-          when_case (WordSays f shape o (Bitwise kind)) change (same_word o.left o.right) (Gives o.left) e (λ t. equal_is t (λ a. a) below)
+          when_case (WordSays f shape o (Bitwise kind)) change (same_signal o.left o.right) (Gives o.left) e (λ t. equal_is t (λ a. a) below)
 
       -- equal operands that give a constant
-      parity_say : (c : Bit) → ((a : Bit) → Below (bit_by kind a a) c) → (change : Change) → when (same_word o.left o.right) (Gives (filled shape.widths.y c)) ≡ Some change → WordSays f shape o (Bitwise kind) change
+      parity_say : (c : Bit) → ((a : Bit) → Below (bit_by kind a a) c) → (change : Change) → when (same_signal o.left o.right) (Gives (filled shape.widths.y c)) ≡ Some change → WordSays f shape o (Bitwise kind) change
       parity_say c below change e =
-          when_case (WordSays f shape o (Bitwise kind)) change (same_word o.left o.right) (Gives (filled shape.widths.y c)) e (λ t at h.
+          when_case (WordSays f shape o (Bitwise kind)) change (same_signal o.left o.right) (Gives (filled shape.widths.y c)) e (λ t at h.
           subst (Below (bit_of f shape o (Bitwise kind) at)) (sym (ap f (filled_at shape.widths.y c at (Fixed S0) h) ∙ fixed c)) (equal_is t (λ a. c) below at h))
 
     pub and_with_ones_says : RuleSays f shape o (λ kind. and_with_ones kind o)

@@ -17,15 +17,15 @@ use Rattle.cell_types.specs.declared.word.WordKind.TheVariants as Word
 use Rattle.expr_rules.specs.Change.{chooser, inverter, when}
 use Rattle.expr_rules.specs.Laws.{IsReading, KnowsInverters, read_at}
 use Rattle.expr_rules.specs.Rules.Mux.{arm_bit, arm_of, equal_arms, equal_words, known_selects, inverted_select, known_select, select_inverse, select_itself, unknown_arm}
-use Rattle.expr_rules.specs.Signals.{first_bit, is_bit, is_known_constant, is_one, is_unknown_constant, same_word}
+use Rattle.expr_rules.specs.Signals.{first_bit, is_bit, is_known_constant, is_one, is_unknown_constant}
 use Rattle.expr_rules.specs.declared.change.Change.{Change}
 use Rattle.expr_rules.specs.declared.change.Change.TheVariants.{Gives}
 use Rattle.expr_rules.specs.declared.operands.Operands.{Operands}
 use Rattle.expr_rules.proofs.Cases.{first_case, map_case, some_case, when_case}
 use Rattle.expr_rules.proofs.Reading.{read_below, read_word, word_at}
-use Rattle.expr_rules.proofs.Sameness.{same_word_is}
+use Rattle.rtl_ir.proofs.SamePlaces.{signal_is}
 use Rattle.expr_rules.proofs.Says.{IsNarrow, RuleSays, WordSays, becomes_chooser, becomes_inverter, bit_of}
-use Rattle.rtl_ir.specs.Signals.{is_constant}
+use Rattle.rtl_ir.specs.Signals.{is_constant, same_signal}
 use Rattle.expr_rules.proofs.Tables.{merge_left, mux_inverse, mux_itself, mux_left, mux_none, mux_right, mux_same, mux_turned, seen_below}
 
 module _ (f : SigBit → Bit) (fixed : IsReading f) (shape : Shape) (o : Operands) where
@@ -56,8 +56,8 @@ module _ (f : SigBit → Bit) (fixed : IsReading f) (shape : Shape) (o : Operand
 
   pub equal_arms_says : RuleSays f shape o (λ kind. equal_arms kind o)
   equal_arms_says Word.Mux m change e =
-      when_case (WordSays f shape o Word.Mux) change (same_word o.a o.b) (Gives o.a) e (λ t.
-      let same : o.a ≡ o.b = same_word_is o.a o.b t in
+      when_case (WordSays f shape o Word.Mux) change (same_signal o.a o.b) (Gives o.a) e (λ t.
+      let same : o.a ≡ o.b = signal_is o.a o.b t in
       gives o.a (λ at h. subst (λ z. Below (mux_of (read_at f o.a at) (read_at f z at) (read_at f o.s 0)) (read_at f o.a at)) same (mux_same (read_at f o.a at) (read_at f o.s 0))))
   equal_arms_says kind m change e = absurd (cc)
 
@@ -94,7 +94,7 @@ module _ (f : SigBit → Bit) (fixed : IsReading f) (shape : Shape) (o : Operand
   select_itself_says Word.Mux m change e =
       when_case (WordSays f shape o Word.Mux) change (is_bit S0 o.a && is_bit S1 o.b) (Gives o.s) e (λ t.
       let p = and_parts (is_bit S0 o.a) (is_bit S1 o.b) t in
-      gives o.s (λ at h. bit_arms S0 S1 (same_word_is o.a (Fixed S0 ∷ []) p.0) (same_word_is o.b (Fixed S1 ∷ []) p.1) (read_at f o.s) (mux_itself (read_at f o.s 0)) at))
+      gives o.s (λ at h. bit_arms S0 S1 (signal_is o.a (Fixed S0 ∷ []) p.0) (signal_is o.b (Fixed S1 ∷ []) p.1) (read_at f o.s) (mux_itself (read_at f o.s 0)) at))
   select_itself_says kind m change e = absurd (cc)
 
   -- a bit of the output where each bit has its own S
@@ -136,8 +136,8 @@ module _ (f : SigBit → Bit) (fixed : IsReading f) (shape : Shape) (o : Operand
 
   pub equal_words_says : RuleSays f shape o (λ kind. equal_words kind o)
   equal_words_says Word.Bwmux m change e =
-      when_case (WordSays f shape o Word.Bwmux) change (same_word o.a o.b) (Gives o.a) e (λ t at h.
-      let same : o.a ≡ o.b = same_word_is o.a o.b t in
+      when_case (WordSays f shape o Word.Bwmux) change (same_signal o.a o.b) (Gives o.a) e (λ t at h.
+      let same : o.a ≡ o.b = signal_is o.a o.b t in
       subst (λ z. Below z (f (slice_index_or o.a at (Fixed S0)))) (sym (bwmux_bit at h))
       (Below_trans _ _ _
       (subst (λ z. Below (mux_of (read_at f o.a at) (read_at f z at) (read_at f o.s at)) (read_at f o.a at)) same (mux_same (read_at f o.a at) (read_at f o.s at)))
@@ -151,7 +151,7 @@ module _ (f : SigBit → Bit) (fixed : IsReading f) (shape : Shape) (o : Operand
         let p = and_parts (is_bit S1 o.a) (is_bit S0 o.b) t in
         becomes_inverter f fixed shape o Word.Mux own narrow o.s (λ at h.
         subst (λ z. Below z (not_of (read_at f o.s at))) (sym (mux_bit at h))
-        (bit_arms S1 S0 (same_word_is o.a (Fixed S1 ∷ []) p.0) (same_word_is o.b (Fixed S0 ∷ []) p.1) (λ at. not_of (read_at f o.s at)) (mux_inverse (read_at f o.s 0)) at)))
+        (bit_arms S1 S0 (signal_is o.a (Fixed S1 ∷ []) p.0) (signal_is o.b (Fixed S0 ∷ []) p.1) (λ at. not_of (read_at f o.s at)) (mux_inverse (read_at f o.s 0)) at)))
     select_inverse_says kind m change e = absurd (cc)
 
     pub inverted_select_says : KnowsInverters f o → RuleSays f shape o (λ kind. inverted_select kind own o)

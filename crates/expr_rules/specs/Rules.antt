@@ -10,7 +10,6 @@ pub mod Fold
 pub mod Parts
 use Rattle.std.specs.Prelude.{List, [], ◌∷◌, Option, Some, None}
 use Rattle.std.specs.Option.{option_map}
-use Rattle.cell_types.specs.declared.kind.CellKind.{CellKind}
 use Rattle.cell_types.specs.declared.shape.Shape.{Shape}
 use Rattle.cell_types.specs.declared.word.WordKind.{WordKind}
 use Rattle.expr_rules.specs.Change.{first_some, fitted}

@@ -1,12 +1,12 @@
 -- Words of constants and of bits of wires, and the tests that the rules make.
-use Rattle.std.specs.Prelude.{ℕ, ◌+◌, ◌==◌, ◌&&◌, Bool, true, false, List, [], ◌∷◌, map, replicate, slice_index_or}
+use Rattle.std.specs.Prelude.{ℕ, ◌+◌, Bool, true, false, List, [], ◌∷◌, map, replicate, slice_index_or}
 use Rattle.std.specs.List.{range_with_len}
 use Rattle.rtl_bits.specs.declared.bit.Bit.{Bit}
-use Rattle.rtl_bits.specs.declared.bit.Bit.TheVariants.{S0, S1, X, Z, M, Dash}
+use Rattle.rtl_bits.specs.declared.bit.Bit.TheVariants.{S0, S1, X}
 use Rattle.rtl_bits.specs.Knowledge.{is_known}
 use Rattle.rtl_sig.specs.declared.sig.SigBit.{SigBit}
 use Rattle.rtl_sig.specs.declared.sig.SigBit.TheVariants.{Fixed, Wire as OnWire}
-use Rattle.rtl_ir.specs.Signals.{constant_of}
+use Rattle.rtl_ir.specs.Signals.{constant_of, same_signal}
 
 -- the bits of a word, those that are not constant as x
 abbrev pub constants_of : List SigBit → List Bit
@@ -34,31 +34,9 @@ is_unknown_constant (Fixed S1) = false
 is_unknown_constant (Fixed b) = true
 is_unknown_constant (OnWire b) = false
 
--- the numbers of the six values
-abbrev pub code_of : Bit → ℕ
-code_of S0 = 0
-code_of S1 = 1
-code_of X = 2
-code_of Z = 3
-code_of M = 4
-code_of Dash = 5
-
--- two bits are one: one constant, where x and z differ, or one bit of a wire
-abbrev pub same : SigBit → SigBit → Bool
-same (Fixed a) (Fixed b) = code_of a == code_of b
-same (OnWire a) (OnWire b) = (a.wire == b.wire) && (a.at == b.at)
-same a b = false
-
--- two words are one, place by place
-abbrev pub same_word : List SigBit → List SigBit → Bool
-same_word [] [] = true
-same_word [] (b ∷ bs) = false
-same_word (a ∷ as') [] = false
-same_word (a ∷ as') (b ∷ bs) = same a b && same_word as' bs
-
 -- a word is this one constant
 abbrev pub is_bit : Bit → List SigBit → Bool
-is_bit b word = same_word word (Fixed b ∷ [])
+is_bit b word = same_signal word (Fixed b ∷ [])
 
 -- the lowest bit of a word
 abbrev pub first_bit : List SigBit → SigBit

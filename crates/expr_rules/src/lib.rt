@@ -7,6 +7,5 @@ mod rules;
 mod signals;
 
 pub use change::{Change, NewCell};
-pub use operands::Operands;
+pub use operands::{Inverters, Operands};
 pub use rules::{RULES, Rule, first_fit};
-pub use signals::same_word;

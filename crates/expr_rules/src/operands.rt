@@ -5,7 +5,7 @@ ghost use Rattle.expr_rules.specs.Operands.{IsMeant, counted_as, counted_gate, m
 ghost use Rattle.expr_rules.specs.Operands.{operands_of};
 
 use cell_types::{BitwiseKind, CellKind, GateKind, Shape, UnaryKind, WordKind};
-use rtl_bits::{Bit, Memory};
+use rtl_bits::Memory;
 use rtl_sig::{SigBit, SigSpec, extended};
 use std::alloc::Global;
 
@@ -27,6 +27,15 @@ pub struct Operands {
     pub inner: Option<SigSpec>,
 }
 
+/// The signals that lead to a cell through inverters.
+#[derive(Drop)]
+pub struct Inverters {
+    /// The A of an inverter of one bit whose Y is S.
+    pub inverted: Option<SigBit>,
+    /// The A of another `$not` or `$_NOT_` whose whole Y is A.
+    pub inner: Option<SigSpec>,
+}
+
 impl Operands {
     /// The operands of a cell of a shape, with these signals at A, B and S, and these signals of inverters below it.
     #[tactic(auto, using(crate::proofs::Meant::operands_meant))]
@@ -36,14 +45,14 @@ impl Operands {
         a: SigSpec,
         b: SigSpec,
         s: SigSpec,
-        inverted: Option<SigBit>,
-        inner: Option<SigSpec>,
+        inverters: Inverters,
     ) -> Result<Operands, Memory>
-        ensures value { IfOk result (λ o. o ≡ operands_of shape.now a b s inverted inner) }
+        ensures value { IfOk result (λ o. o ≡ operands_of shape.now a b s inverters.inverted inverters.inner) }
         ensures meant { IfOk result (IsMeant shape.now) }
     {
         let left = meant(alloc, shape, &a, &b, &a)?;
         let right = meant(alloc, shape, &a, &b, &b)?;
+        let Inverters { inverted, inner } = inverters;
         Ok(Operands {
             a,
             b,

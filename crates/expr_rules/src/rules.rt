@@ -13,8 +13,7 @@ mod wiring;
 ghost use Rattle.std.specs.Prelude.{◌≡◌, IfOk, None, Some};
 ghost use Rattle.expr_rules.specs.Laws.{IsComputed, Refines};
 ghost use Rattle.expr_rules.specs.Operands.{IsMeant, counted_as};
-ghost use Rattle.expr_rules.specs.Rules.{change_of, first_of, result_as, result_by, result_of, result_of_gate};
-ghost use Rattle.expr_rules.specs.Rules.{rules_in_order};
+ghost use Rattle.expr_rules.specs.Rules.{change_of, first_of, result_by, result_of, result_of_gate};
 ghost use Rattle.expr_rules.specs.declared.change.Change.{Change};
 
 use crate::change::Change;
@@ -148,7 +147,7 @@ impl Rule {
         Ok(found)
     }
 
-    /// The same by the kind of the cell.
+    /// What the rule makes of the cell, by its kind.
     fn of_cell(
         self,
         alloc: Global,
@@ -164,9 +163,10 @@ impl Rule {
         }
     }
 
-    /// The same of a cell that counts as a word cell of this kind.
+    /// What the rule makes of a cell that counts as a word cell of this kind.
     #[rattlefmt::skip]
-    fn of_word(self, alloc: Global, kind: WordKind, shape: &Shape, operands: &Operands) -> Result<Option<Change>, Memory>
+    fn of_word(self, alloc: Global, kind: WordKind, shape: &Shape, operands: &Operands)
+        -> Result<Option<Change>, Memory>
         requires counted { counted_as shape.now.kind ≡ Some kind }
         requires computed { IsComputed shape.now.kind shape.now operands.now }
         ensures exact { IfOk result (λ change. change ≡ result_by self kind shape.now operands.now) }
@@ -203,7 +203,7 @@ impl Rule {
         }
     }
 
-    /// The same of a gate that counts as none.
+    /// What the rule makes of a gate that counts as no word cell.
     fn of_gate(
         self,
         alloc: Global,

@@ -4,10 +4,11 @@ ghost use Rattle.std.specs.Prelude.{◌≡◌, ◌<◌, ◌^◌, ◌++◌, IfOk,
 ghost use Rattle.rtl_bits.specs.declared.bit.Bit.TheVariants.{X};
 ghost use Rattle.std.specs.List.{list_all};
 ghost use Rattle.rtl_sig.specs.declared.sig.SigBit.TheVariants.{Fixed};
-ghost use Rattle.expr_rules.specs.Signals.{code_of, filled, first_bit, is_bit, is_known_constant, is_one};
-ghost use Rattle.expr_rules.specs.Signals.{is_unknown_constant, is_zero, part_of, same, same_word};
+ghost use Rattle.expr_rules.specs.Signals.{filled, first_bit, is_bit, is_known_constant, is_one};
+ghost use Rattle.expr_rules.specs.Signals.{is_unknown_constant, is_zero, part_of};
 
 use rtl_bits::{Bit, Copied, Memory};
+use rtl_ir::same_signal;
 use rtl_sig::{SigBit, SigSpec};
 use std::alloc::Global;
 
@@ -80,53 +81,11 @@ pub(crate) fn are_unknown(word: &[SigBit]) -> bool
     word.iter().all(|bit| is_unknown_constant(*bit))
 }
 
-/// The number of one of the six values.
-fn code(bit: Bit) -> u8
-    ensures value { result ≡ code_of bit }
-{
-    match bit {
-        Bit::S0 => 0,
-        Bit::S1 => 1,
-        Bit::X => 2,
-        Bit::Z => 3,
-        Bit::M => 4,
-        Bit::Dash => 5,
-    }
-}
-
-/// Whether two bits are one: one constant, where x and z differ, or one bit of a wire.
-fn same(a: SigBit, b: SigBit) -> bool
-    ensures value { result ≡ same a b }
-{
-    match (a, b) {
-        (SigBit::Fixed(a), SigBit::Fixed(b)) => code(a) == code(b),
-        (SigBit::Wire(a), SigBit::Wire(b)) => a.wire == b.wire && a.at == b.at,
-        _ => false,
-    }
-}
-
-/// Whether two words are one, place by place: of one length, and at each place one constant, where x and z differ, or
-/// one bit of a wire.
-#[tactic(auto, using(crate::proofs::Sameness::other_length))]
-pub fn same_word(a: &[SigBit], b: &[SigBit]) -> bool
-    ensures value { result ≡ same_word a.now b.now }
-{
-    if a.len() != b.len() {
-        return false;
-    }
-    for at in 0..a.len() {
-        if !same(a[at], b[at]) {
-            return false;
-        }
-    }
-    true
-}
-
 /// Whether the word is this one constant.
 pub(crate) fn is_bit(bit: Bit, word: &[SigBit]) -> bool
     ensures value { result ≡ is_bit bit word.now }
 {
-    same_word(word, &[SigBit::Fixed(bit)])
+    same_signal(word, &[SigBit::Fixed(bit)])
 }
 
 /// The lowest bit of a word.

@@ -5,12 +5,12 @@ use Rattle.rtl_sig.specs.declared.sig.SigBit.{SigBit}
 use Rattle.rtl_sig.specs.declared.sig.WireBit.{WireBit}
 use Rattle.rtl_ir.specs.declared.wire.Wire.{Wire}
 use Rattle.rtl_ir.specs.Decisions as rtl
-use Rattle.rtl_ir.specs.Decisions.{Decision, Leaf, after_switches, branches_of, branches_with_leaves, case_decision, expanded_within, with_leaves}
+use Rattle.rtl_ir.specs.Decisions.{Decision, after_switches, branches_of, branches_with_leaves, with_leaves}
 use Rattle.rtl_ir.specs.Faults.TwoEdges.{SwitchTest, branch_patterns, cases_patterns}
 use Rattle.rtl_ir.specs.Flat.Pick.{Pick, pick_of, picks_of, where_of}
 use Rattle.rtl_ir.specs.Flat.Place.{Path, Place}
 use Rattle.rtl_ir.specs.Flat.Point as flat
-use Rattle.rtl_ir.specs.Flat.Point.{bit_place, point, points}
+use Rattle.rtl_ir.specs.Flat.Point.{points}
 use Rattle.rtl_ir.specs.Follow.{all_joins}
 use Rattle.rtl_ir.specs.declared.follow.Join.{Join}
 use Rattle.rtl_ir.specs.Tree.{Cases, NoCase, OneCase, CaseView, SwitchView, cases_of, switches_of}
@@ -18,7 +18,7 @@ use Rattle.flat_net.specs.declared.choices.Assign.{Assign}
 use Rattle.flat_net.specs.declared.leaves.Source.{Source}
 use Rattle.flat_net.specs.declared.net.Point.{Point}
 use Rattle.flat_net.specs.Choices as choices
-use Rattle.flat_net.specs.Choices.{Choices, OneChoice, Branches, OneBranch, BranchView, ChoiceView, choices_of}
+use Rattle.flat_net.specs.Choices.{OneBranch, BranchView, ChoiceView, choices_of}
 use Rattle.flat_net.specs.Known.{Keeps}
 use Rattle.flat_net.specs.Picks.{branch_pick, branches_pick, choices_pick}
 use Rattle.flat_net.specs.Points.{points_of}

@@ -12,7 +12,7 @@ use Rattle.rtl_sig.specs.declared.sig.SigBit.TheVariants.{Fixed, Wire as OnWire}
 use Rattle.rtl_sig.specs.declared.sig.WireBit.{WireBit}
 use Rattle.rtl_ir.specs.declared.wire.Wire.{Wire}
 use Rattle.rtl_ir.specs.Decisions as rtl
-use Rattle.rtl_ir.specs.Decisions.{Decision, Leaf, after_switches, branches_of, branches_with_leaves, case_decision, expanded_within, with_leaves}
+use Rattle.rtl_ir.specs.Decisions.{Decision, Leaf, branches_with_leaves, case_decision, expanded_within, with_leaves}
 use Rattle.rtl_ir.specs.Faults.TwoEdges.{SwitchTest}
 use Rattle.rtl_ir.specs.Flat.Driver.{Decided, Driven}
 use Rattle.rtl_ir.specs.Flat.Pick.{Is, no_test, pick_of}

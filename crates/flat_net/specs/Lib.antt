@@ -11,7 +11,6 @@ pub mod Reads
 pub mod Cells
 pub mod Starts
 pub mod Registers
-pub mod Rules
 pub mod Pairs
 pub mod Trees
 pub mod Resets

@@ -1,6 +1,6 @@
 -- How two rules stand together.
 use Rattle.std.specs.Prelude.{Option, Some}
-use Rattle.flat_net.specs.declared.registers.Trigger.{Trigger}
+use Rattle.rtl_ir.specs.declared.trigger.Trigger.{Trigger}
 use Rattle.flat_net.specs.declared.rules.Paired.{Paired}
 use Rattle.flat_net.specs.declared.rules.Paired.TheVariants.{First, Second, Edges}
 

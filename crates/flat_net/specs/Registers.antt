@@ -20,14 +20,9 @@ use Rattle.flat_net.specs.declared.net.StoreBit.{StoreBit}
 use Rattle.flat_net.specs.declared.net.StorePins.{StorePins}
 use Rattle.flat_net.specs.declared.registers.Control.{Control}
 use Rattle.flat_net.specs.declared.registers.Register.{Register}
-use Rattle.flat_net.specs.declared.registers.Trigger.{Trigger}
 use Rattle.flat_net.specs.Parts.{store_row}
 use Rattle.flat_net.specs.Reads.{IsPoint}
 use Rattle.flat_net.specs.Within.{IsStoreWithin}
-
--- the edge or the level, as the definitions have it
-abbrev pub trigger_of : Trigger → rtl.Trigger
-trigger_of t = record { signal = t.signal.now; level = t.level }
 
 -- the control is that of an edge or a level
 pub record IsControl (ps : List Place) (p : Path) (wires : List Wire) (c : Control) (t : rtl.Trigger) : Type 0 where

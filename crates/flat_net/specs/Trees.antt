@@ -1,12 +1,12 @@
 -- Trees in numbers are those of processes, over the tree bits in order of their places.
-use Rattle.std.specs.Prelude.{◌≡◌, ℕ, nat_eq, Bool, false, List, [], ◌∷◌, length, map, position, slice_get, Option, Some, None}
+use Rattle.std.specs.Prelude.{◌≡◌, ℕ, nat_eq, Bool, false, List, [], ◌∷◌, length, map, position, slice_get, reverse, Option, Some, None}
 use Rattle.std.specs.List.{AllByRecursion}
 use Rattle.std.specs.Option.{option_map_or}
 use Rattle.rtl_sig.specs.declared.sig.SigBit.{SigBit}
 use Rattle.rtl_sig.specs.declared.sig.SigBit.TheVariants.{Fixed, Wire as OnWire}
 use Rattle.rtl_sig.specs.declared.sig.WireBit.{WireBit}
 use Rattle.rtl_ir.specs.declared.wire.Wire.{Wire}
-use Rattle.rtl_ir.specs.Assigns.{last_source}
+use Rattle.rtl_ir.specs.Assigns.{last_source, tree_bits}
 use Rattle.rtl_ir.specs.Decisions.{Decision, Leaf, Choice as Chosen, after_assigns, after_switches, branches_of, branches_with_leaves, with_leaves}
 use Rattle.rtl_ir.specs.Faults.TwoEdges.{SwitchTest}
 use Rattle.rtl_ir.specs.Flat.Driver.{Driven}
@@ -27,6 +27,10 @@ use Rattle.flat_net.specs.Picks.{assigned_pick, branch_pick, branches_pick, choi
 use Rattle.flat_net.specs.Points.{points_of}
 use Rattle.flat_net.specs.Reads.{IsPoint}
 use Rattle.flat_net.specs.Within.{ArePointsWithin, IsAssignWithin, AreChoicesWithin, AreBranchesWithin, IsBranchWithin, IsTreeWithin}
+
+-- the bits are the tree bits of the process with this root, the last one first
+abbrev pub AreTreeBits : List WireBit → CaseView → Type 0
+AreTreeBits bits root = reverse bits ≡ tree_bits root
 
 -- whether a place that may be there is this one
 abbrev pub is_at : Option ℕ → ℕ → Bool

@@ -51,8 +51,9 @@ impl Builder {
         requires outside { slice_get self.old.places.paths 0 ≡ Some [] }
         ensures rows { (d : Design) → IsTable table.now d.modules →
             IfOk result (λ _. Adds self.old self.new
-            (given_rows (places (role_points Input (root (record body.now { id = id.now })) (ports_of body.now.wires))) 0 ++ in_tree d
-            (rows_of (design_ports d)) (suc below) (root (record body.now { id = id.now })) body.now)) }
+            (given_rows
+            (places (role_points Input (root (record body.now { id = id.now })) (ports_of body.now.wires))) 0
+            ++ in_tree d (rows_of (design_ports d)) (suc below) (root (record body.now { id = id.now })) body.now)) }
         ensures outputs { IfOk result (λ outputs.
             AreNumbers self.new.places.places outputs (output_places (record body.now { id = id.now }))) }
     {

@@ -1,6 +1,6 @@
 //! The parts of a module: of its cells, and of what else it has.
 
-ghost use Rattle.std.specs.Prelude.{◌≡◌, ◌<◌, List, [], ◌∷◌, Option, Some, OnOk, length, map, slice_get};
+ghost use Rattle.std.specs.Prelude.{◌≡◌, ◌<◌, List, ◌∷◌, Some, OnOk, length, map, slice_get};
 ghost use Rattle.cell_types.specs.declared.kind.CellKind.{CellKind};
 ghost use Rattle.rtl_ir.specs.declared.module.Design.{Design};
 ghost use Rattle.rtl_ir.specs.Flat.Cell.{cell_kind, cell_rows, cells_rows, instance_rows, kind_rows, port_joins};
@@ -9,7 +9,6 @@ ghost use Rattle.rtl_ir.specs.Flat.Point as rtl;
 ghost use Rattle.rtl_ir.specs.Flat.Point.{points, wire_points};
 ghost use Rattle.rtl_bits.specs.declared.bit.Bit.{Bit};
 ghost use Rattle.rtl_sig.specs.declared.sig.SigBit.{SigBit};
-ghost use Rattle.rtl_ir.specs.Flat.Start.{start_of};
 ghost use Rattle.rtl_ir.specs.Flat.Tree.{design_ports};
 ghost use Rattle.rtl_ir.specs.Parameters.{signal_at};
 ghost use Rattle.rtl_ir.specs.Ports.{line_of};

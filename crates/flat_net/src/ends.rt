@@ -1,6 +1,6 @@
 //! The inputs and outputs of the module that is run.
 
-ghost use Rattle.std.specs.Prelude.{◌≡◌, ◌<◌, Some, IfOk, OnOk, length, slice_get, []};
+ghost use Rattle.std.specs.Prelude.{◌≡◌, ◌<◌, Some, IfOk, OnOk, slice_get, []};
 ghost use Rattle.flat_net.specs.Ends.{IsEnds};
 ghost use Rattle.flat_net.specs.Known.{Extends};
 

@@ -1,13 +1,12 @@
 //! The inputs and outputs of the module that is run.
 
-ghost use Rattle.std.specs.Prelude.{◌≡◌, ◌<◌, List, [], ◌∷◌, ◌++◌, Some, IfOk, OnOk, length, map, slice_get};
+ghost use Rattle.std.specs.Prelude.{◌≡◌, ◌<◌, List, [], ◌∷◌, Some, IfOk, OnOk, length, map, slice_get};
 ghost use Rattle.rtl_ir.specs.Flat.Place.{Path, Place};
 ghost use Rattle.rtl_ir.specs.Flat.Point.{wire_points};
 ghost use Rattle.rtl_ir.specs.Flat.Tree.{given_rows, if_role, places, role_points};
 ghost use Rattle.rtl_ir.specs.Ports.{line_of};
-ghost use Rattle.flat_net.specs.Adds.{Adds, Gives, PutsNumbers};
+ghost use Rattle.flat_net.specs.Adds.{Adds, PutsNumbers};
 ghost use Rattle.flat_net.specs.Known.{Extends};
-ghost use Rattle.flat_net.specs.Points.{place_at};
 ghost use Rattle.flat_net.specs.Reads.{AreNumbers, ArePoints};
 ghost use Rattle.flat_net.specs.Tables.{all_now};
 

@@ -1,43 +1,14 @@
 //! The lines of processes that write a memory, as write ports.
 
-ghost use Rattle.std.specs.Prelude.{
-  ◌≡◌,
-  ◌+◌,
-  ◌<◌,
-  ◌++◌,
-  ◌==◌,
-  ◌∷◌,
-  ◌||◌,
-  [],
-  ℕ,
-  List,
-  false,
-  IfOk,
-  OnOk,
-  if◌then◌else◌,
-  length,
-  map,
-  option_map,
-  slice_index_or,
-};
+ghost use Rattle.std.specs.Prelude.{◌≡◌, ◌+◌, ◌++◌, ◌∷◌, [], List, IfOk, OnOk, length, map, option_map};
 ghost use Rattle.net_model.specs.Mem.Gather.{write_port};
 ghost use Rattle.rtl_ir.specs.declared.process.Event.{Event};
 ghost use Rattle.rtl_ir.specs.declared.process.WriteLine.{WriteLine};
-ghost use Rattle.rtl_ir.specs.Flat.Access.{
-  line_access,
-  line_accesses,
-  line_follows,
-  line_mask,
-  rule_accesses,
-  write_trigger,
-};
+ghost use Rattle.rtl_ir.specs.Flat.Access.{line_access, line_accesses, rule_accesses};
 ghost use Rattle.flat_net.specs.Accesses.{event_of, have_line, next_of, rules_of};
-ghost use Rattle.flat_net.specs.Registers.{trigger_of};
 
-use crate::registers::{Trigger, at_level};
-use cell_types::Level;
-use rtl_bits::{Bit, Bits, Copied, Memory, Seq, is_one};
-use rtl_ir::{Event, Process, SyncRule, WriteLine, WritePort, value_bits};
+use rtl_bits::{Copied, Memory};
+use rtl_ir::{Event, Process, SyncRule, WriteLine, WritePort, line_mask, value_bits};
 use std::alloc::Global;
 
 /// The first number behind those of the ports. One of 2^32 is taken for want of memory.
@@ -158,74 +129,6 @@ fn line_port(
     })
 }
 
-/// The mask of a line as that of a port of this number: a bit for each number before it, at least one bit.
-fn line_mask(
-    alloc: Global,
-    number: u32,
-    before: &[Option<u32>],
-    mask: &[Bit],
-) -> Result<Bits, Memory>
-    ensures value { IfOk result (λ bits. bits ≡ line_mask number before.now mask.now) }
-{
-    let count = number.max(1) as usize;
-    let marks = followed(alloc, count, before, mask)?;
-    let mut bits = Vec::with_capacity(alloc, count)?;
-    for port in 0..count {
-        bits.push(mask_bit(marks[port]))?;
-    }
-    Ok(Seq::from_vec(bits))
-}
-
-/// Which of so many ports a line may follow: of the earlier lines of its rule those that are ports, where the bit of
-/// the mask is set.
-fn followed(
-    alloc: Global,
-    count: usize,
-    before: &[Option<u32>],
-    mask: &[Bit],
-) -> Result<Vec<bool>, Memory>
-    ensures length { IfOk result (λ marks. length marks.items ≡ count) }
-    ensures value { IfOk result (λ marks. (k : ℕ) → k < count →
-        slice_index_or marks.items k false ≡ line_follows k before.now mask.now) }
-{
-    let mut marks = vec![in alloc; false; count]?;
-    for at in 0..before.len().min(mask.len()) {
-        put_mark(&mut marks, before[at], mask[at]);
-    }
-    Ok(marks)
-}
-
-/// Marks the port that an earlier line is, where it is one of the ports and the bit of the mask is set.
-fn put_mark(marks: &mut Vec<bool>, port: Option<u32>, bit: Bit)
-    ensures marks { (k : ℕ) → k < length marks.old.items → slice_index_or marks.new.items k false ≡
-        (line_follows k (port ∷ []) (bit ∷ []) || slice_index_or marks.old.items k false) }
-    ensures length { length marks.new.items ≡ length marks.old.items }
-{
-    if let Some(number) = port {
-        if is_one(bit) {
-            mark(marks, number);
-        }
-    }
-}
-
-/// Marks the number, where it is one of the numbers.
-fn mark(marks: &mut Vec<bool>, number: u32)
-    ensures marks { (k : ℕ) → k < length marks.old.items →
-        slice_index_or marks.new.items k false ≡ ((number == k) || slice_index_or marks.old.items k false) }
-    ensures length { length marks.new.items ≡ length marks.old.items }
-{
-    if let Some(mark) = marks.get_mut(number as usize) {
-        *mark = true;
-    }
-}
-
-/// The bit of a mark.
-fn mask_bit(mark: bool) -> Bit
-    ensures value { result ≡ (if mark then Bit.S1 else Bit.S0) }
-{
-    if mark { Bit::S1 } else { Bit::S0 }
-}
-
 /// The event of the first rule with a line that writes the memory of this name.
 pub(crate) fn first_event<'a>(name: &[u8], processes: &'a [Process]) -> Option<&'a Event>
     ensures value { option_map (λ e. e.now) result ≡ event_of name.now (rules_of processes.now) }
@@ -260,15 +163,4 @@ fn writes(name: &[u8], lines: &[WriteLine]) -> bool
         }
     }
     false
-}
-
-/// The edge at which the lines of a rule write.
-pub(crate) fn write_trigger(event: &Event) -> Trigger<'_>
-    ensures value { trigger_of result ≡ write_trigger event.now }
-{
-    match event {
-        Event::Posedge(signal) => at_level(signal.as_slice(), Level::High),
-        Event::Negedge(signal) => at_level(signal.as_slice(), Level::Low),
-        _ => at_level(&[], Level::Low),
-    }
 }

@@ -1,6 +1,6 @@
 //! The modules of a design by their names.
 
-ghost use Rattle.std.specs.Prelude.{◌≡◌, List, IfOk, option_map};
+ghost use Rattle.std.specs.Prelude.{List, IfOk, option_map};
 ghost use Rattle.rtl_ir.specs.declared.module.Module.{Module};
 ghost use Rattle.rtl_ir.specs.Flat.Tree.{named};
 ghost use Rattle.flat_net.specs.Tables.{IsTable, Stands};

@@ -1,6 +1,6 @@
 //! The parts of processes.
 
-ghost use Rattle.std.specs.Prelude.{◌≡◌, ◌<◌, Some, OnOk, length, map, reverse, slice_get};
+ghost use Rattle.std.specs.Prelude.{◌≡◌, ◌<◌, Some, OnOk, length, reverse, slice_get};
 ghost use Rattle.rtl_bits.specs.declared.bit.Bit.{Bit};
 ghost use Rattle.rtl_sig.specs.declared.sig.SigBit.{SigBit};
 ghost use Rattle.rtl_ir.specs.Flat.Place.{Path};
@@ -8,6 +8,7 @@ ghost use Rattle.rtl_ir.specs.Flat.Process.{
   edge_trigger,
   level_trigger,
   one_rule_rows,
+  pair_by,
   process_rows,
   processes_rows,
   rules_rows,
@@ -22,15 +23,16 @@ ghost use Rattle.flat_net.specs.Starts.{IsStart};
 
 use crate::builder::Builder;
 use crate::net::Part;
-use crate::registers::at_level;
 use crate::resets::{Tested, Tests, tests_of};
 use crate::rooted::Rooted;
-use crate::rules::{Paired, edge_trigger, level_trigger, pairing};
+use crate::rules::{Paired, pairing};
 use crate::scope::Scope;
 use cell_types::Level;
 use process_trees::{Acting, acting_rules};
 use rtl_bits::Memory;
-use rtl_ir::{Event, Join, Module, Process, SyncRule, all_joins};
+use rtl_ir::{
+    Event, Join, Module, Process, SyncRule, all_joins, edge_trigger, level_trigger, trigger_at,
+};
 
 impl Builder {
     /// The processes of a module.
@@ -129,16 +131,16 @@ impl Builder {
             Event::Always => self.add_always(scope, rooted, lines),
             Event::Global => self.add_steps(scope, lines),
             Event::Posedge(signal) => {
-                self.add_edge(scope, at_level(signal.as_slice(), Level::High), lines)
+                self.add_edge(scope, trigger_at(signal.as_slice(), Level::High), lines)
             }
             Event::Negedge(signal) => {
-                self.add_edge(scope, at_level(signal.as_slice(), Level::Low), lines)
+                self.add_edge(scope, trigger_at(signal.as_slice(), Level::Low), lines)
             }
             Event::High(signal) => {
-                self.add_level(scope, at_level(signal.as_slice(), Level::High), lines)
+                self.add_level(scope, trigger_at(signal.as_slice(), Level::High), lines)
             }
             Event::Low(signal) => {
-                self.add_level(scope, at_level(signal.as_slice(), Level::Low), lines)
+                self.add_level(scope, trigger_at(signal.as_slice(), Level::Low), lines)
             }
             Event::Edge(_) | Event::Init => Ok(()),
         }
@@ -158,9 +160,9 @@ impl Builder {
             IsStart scope.now.starts.now start →
             KnowsTests tree.entry.tests.table.now tree.entry.tests.body.now →
             OnOk result (Adds self.old self.new (two_rules_rows start p scope.now.wires.now tree.entry.tests.body.now
-            tree.entry.rooted.now.root (reverse tree.entry.rooted.now.bits) a.now b.now
+            tree.entry.rooted.now.root (reverse tree.entry.rooted.now.bits) (pair_by a.now b.now
             (edge_trigger a.now.event) (edge_trigger b.now.event) (level_trigger a.now.event)
-            (level_trigger b.now.event))) }
+            (level_trigger b.now.event)))) }
     {
         let of_a = all_joins(scope.alloc, a.updates.as_slice())?;
         let of_b = all_joins(scope.alloc, b.updates.as_slice())?;

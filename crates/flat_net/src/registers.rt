@@ -6,6 +6,7 @@ ghost use Rattle.rtl_sig.specs.declared.sig.SigBit.{SigBit};
 ghost use Rattle.rtl_ir.specs.Flat.Driver.{StorePoints};
 ghost use Rattle.rtl_ir.specs.Flat.Place.{Path};
 ghost use Rattle.rtl_ir.specs.Flat.Process.{rule_shape};
+ghost use Rattle.rtl_ir.specs.Triggers.{trigger_of};
 ghost use Rattle.flat_net.specs.Adds.{Adds};
 ghost use Rattle.flat_net.specs.Known.{Extends};
 ghost use Rattle.flat_net.specs.Registers.{
@@ -16,7 +17,6 @@ ghost use Rattle.flat_net.specs.Registers.{
   level_register,
   loaded_register,
   register_row,
-  trigger_of,
 };
 ghost use Rattle.flat_net.specs.Reads.{ArePins};
 ghost use Rattle.flat_net.specs.Starts.{IsStart};
@@ -27,7 +27,7 @@ use crate::places::Places;
 use crate::scope::Scope;
 use cell_types::{CellKind, Level, Levels, Port, Resets, Shape, Signs, StorageKind, Widths};
 use rtl_bits::{Bit, Bits, Memory, Seq};
-use rtl_ir::Join;
+use rtl_ir::{Join, Trigger};
 use rtl_sig::SigBit;
 use std::alloc::Global;
 
@@ -37,20 +37,6 @@ pub(crate) struct Register {
     kind: StorageKind,
     levels: Levels,
     pins: StorePins,
-}
-
-/// The edge or the level of a rule: its signal, and the level, of an edge that after it.
-#[derive(Clone, Copy)]
-pub(crate) struct Trigger<'a> {
-    pub(crate) signal: &'a [SigBit],
-    pub(crate) level: Level,
-}
-
-/// The edge or the level of this signal and this level.
-pub(crate) fn at_level(signal: &[SigBit], level: Level) -> Trigger<'_>
-    ensures value { trigger_of result ≡ record { signal = signal.now; level = level } }
-{
-    Trigger { signal, level }
 }
 
 /// What a register reads of an edge or a level, and that level.

@@ -1,8 +1,8 @@
 //! The trees of processes, as they are read.
 
-ghost use Rattle.std.specs.Prelude.{◌≡◌, IfOk, reverse};
-ghost use Rattle.rtl_ir.specs.Assigns.{tree_bits};
+ghost use Rattle.std.specs.Prelude.{◌≡◌, IfOk};
 ghost use Rattle.rtl_ir.specs.SwitchRules.{root_by_rules};
+ghost use Rattle.flat_net.specs.Trees.{AreTreeBits};
 
 use crate::tree_bits::TreeBits;
 use process_trees::ruled;
@@ -21,7 +21,7 @@ impl Rooted {
     /// The tree of a process with this root.
     pub(crate) fn of(alloc: Global, root: &Case) -> Result<Rooted, Memory>
         ensures root { IfOk result (λ tree. tree.root ≡ root_by_rules root.now) }
-        ensures bits { IfOk result (λ tree. reverse tree.bits ≡ tree_bits root.now) }
+        ensures bits { IfOk result (λ tree. AreTreeBits tree.bits root.now) }
     {
         Ok(Rooted {
             root: ruled(alloc, root)?,

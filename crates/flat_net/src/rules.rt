@@ -1,84 +1,30 @@
 //! The parts of rules that are storage cells.
 
-ghost use Rattle.std.specs.Prelude.{
-  ◌≡◌,
-  ◌<◌,
-  ◌∷◌,
-  [],
-  ◌++◌,
-  List,
-  Some,
-  not,
-  IfOk,
-  OnOk,
-  filter,
-  length,
-  map,
-  option_map,
-  slice_get,
-};
-ghost use Rattle.std.specs.HashMap.{get_by};
+ghost use Rattle.std.specs.Prelude.{◌≡◌, ◌<◌, ◌∷◌, [], List, Some, not, IfOk, OnOk, filter, length, map, slice_get};
 ghost use Rattle.std.specs.Option.{is_some};
 ghost use Rattle.rtl_bits.specs.declared.bit.Bit.{Bit};
 ghost use Rattle.rtl_sig.specs.declared.sig.SigBit.{SigBit};
-ghost use Rattle.rtl_sig.specs.declared.sig.WireBit.{WireBit};
 ghost use Rattle.rtl_ir.specs.Flat.Place.{Path};
 ghost use Rattle.rtl_ir.specs.Flat.Process as rtl;
-ghost use Rattle.rtl_ir.specs.Flat.Process.{
-  edge_row,
-  edge_trigger,
-  global_rows,
-  level_row,
-  level_trigger,
-  loaded_row,
-  loaded_rows,
-};
+ghost use Rattle.rtl_ir.specs.Flat.Process.{edge_row, global_rows, level_row, loaded_row, loaded_rows};
 ghost use Rattle.rtl_ir.specs.Follow.{source_at};
 ghost use Rattle.rtl_ir.specs.declared.follow.Join.{Join};
-ghost use Rattle.rtl_ir.specs.Signals.{same_bit};
+ghost use Rattle.rtl_ir.specs.Sources.{AreSources};
+ghost use Rattle.rtl_ir.specs.Triggers.{trigger_of};
 ghost use Rattle.flat_net.specs.Adds.{Adds};
 ghost use Rattle.flat_net.specs.Known.{Extends};
-ghost use Rattle.flat_net.specs.Registers.{IsControl, trigger_of};
+ghost use Rattle.flat_net.specs.Registers.{IsControl};
 ghost use Rattle.flat_net.specs.Pairs.{pairing_of};
-ghost use Rattle.flat_net.specs.Rules.{AreSources};
 ghost use Rattle.flat_net.specs.Starts.{IsStart};
 
 use crate::builder::Builder;
-use crate::registers::{
-    Control, Trigger, at_level, bare_register, edge_register, level_register, loaded_register,
-};
+use crate::registers::{Control, bare_register, edge_register, level_register, loaded_register};
 use crate::scope::Scope;
-use cell_types::{Level, StorageKind};
+use cell_types::StorageKind;
 use rtl_bits::Memory;
-use rtl_ir::{Event, Join};
-use rtl_sig::{SigBit, WireBit};
+use rtl_ir::{Join, Sources, Trigger, source_of, sources_of};
+use rtl_sig::SigBit;
 use std::alloc::Global;
-use std::collections::HashMap;
-
-/// What the first of some places gives to each bit.
-type Sources = HashMap<WireBit, SigBit>;
-
-/// The edge of an event, where it is one.
-pub(crate) fn edge_trigger(event: &Event) -> Option<Trigger<'_>>
-    ensures value { option_map trigger_of result ≡ edge_trigger event.now }
-{
-    match event {
-        Event::Posedge(signal) => Some(at_level(signal.as_slice(), Level::High)),
-        Event::Negedge(signal) => Some(at_level(signal.as_slice(), Level::Low)),
-        _ => None,
-    }
-}
-
-/// The level of an event, where it is one.
-pub(crate) fn level_trigger(event: &Event) -> Option<Trigger<'_>>
-    ensures value { option_map trigger_of result ≡ level_trigger event.now }
-{
-    match event {
-        Event::High(signal) => Some(at_level(signal.as_slice(), Level::High)),
-        Event::Low(signal) => Some(at_level(signal.as_slice(), Level::Low)),
-        _ => None,
-    }
-}
 
 /// How two rules stand together: the first is an edge and the second a level, or the other way round, or both are
 /// edges.
@@ -235,24 +181,6 @@ impl Builder {
             }
         }
     }
-}
-
-/// What the first of the places gives to each bit.
-fn sources_of(alloc: Global, lines: &[Join]) -> Result<Sources, Memory>
-    ensures value { IfOk result (λ sources. AreSources sources lines.now) }
-{
-    let mut sources = HashMap::new(alloc);
-    for at in (0..lines.len()).rev() {
-        sources.insert(lines[at].bit, lines[at].source)?;
-    }
-    Ok(sources)
-}
-
-/// What the first place of the bit gives to it, where there is one.
-fn source_of(sources: &Sources, bit: WireBit) -> Option<SigBit>
-    ensures value { (js : List Join) → AreSources sources.now js → result ≡ source_at js bit }
-{
-    sources.get(&bit).copied()
 }
 
 /// The places of the bits that no source is known of.

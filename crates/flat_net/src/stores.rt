@@ -1,6 +1,6 @@
 //! The parts of storage cells.
 
-ghost use Rattle.std.specs.Prelude.{◌≡◌, ◌<◌, ℕ, List, [], ◌∷◌, Some, IfOk, OnOk, length, slice_get};
+ghost use Rattle.std.specs.Prelude.{◌≡◌, ◌<◌, ℕ, [], ◌∷◌, Some, IfOk, OnOk, length, slice_get};
 ghost use Rattle.rtl_bits.specs.declared.bit.Bit.{Bit};
 ghost use Rattle.rtl_sig.specs.declared.sig.SigBit.{SigBit};
 ghost use Rattle.rtl_ir.specs.Flat.Cell.{cell_shape, stored_rows};

@@ -1,9 +1,8 @@
 //! The tree bits of a process.
 
 ghost use Rattle.std.specs.Prelude.{◌≡◌, ◌<◌, IfOk, Some, length, position, reverse, slice_get};
-ghost use Rattle.rtl_ir.specs.Assigns.{tree_bits};
 ghost use Rattle.rtl_ir.specs.Signals.{same_bit};
-ghost use Rattle.flat_net.specs.Trees.{IsFound, place_in};
+ghost use Rattle.flat_net.specs.Trees.{AreTreeBits, IsFound, place_in};
 
 use crate::places::number_at;
 use indexmap::IndexSet;
@@ -36,7 +35,7 @@ impl Model for TreeBits {
 impl TreeBits {
     /// The tree bits of the process with this root.
     pub(crate) fn of(alloc: Global, root: &Case) -> Result<TreeBits, Memory>
-        ensures value { IfOk result (λ bits. reverse bits ≡ tree_bits root.now) }
+        ensures value { IfOk result (λ bits. AreTreeBits bits root.now) }
     {
         let assigned = assigned_bits(alloc, root)?;
         let mut bits = IndexSet::new(alloc);

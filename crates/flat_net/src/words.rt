@@ -37,7 +37,6 @@ ghost use Rattle.flat_net.specs.Memories.{
 ghost use Rattle.flat_net.specs.Registers.{IsControl};
 ghost use Rattle.flat_net.specs.Words.{Ported};
 
-use crate::line_ports::write_trigger;
 use crate::memory::{Remembered, WordBit, WritePort};
 use crate::places::{Places, number_at};
 use crate::registers::Control;
@@ -45,7 +44,7 @@ use crate::scope::Scope;
 use cell_types::Level;
 use rtl_bits::{Bit, Bits, Copied, Memory, Seq};
 use rtl_ir as ir;
-use rtl_ir::{Event, MemPlan, Store};
+use rtl_ir::{Event, MemPlan, Store, write_trigger};
 
 impl Places {
     /// The words of a memory with this plan, which lines write too, the first of them in a rule with this event.

@@ -1,9 +1,10 @@
 -- The outputs of a tree, and what signals become in the code.
-use Rattle.std.specs.Prelude.{◌≡◌, ℕ, ◌+◌, List, [], ◌∷◌, map, Option, Some, None, if◌then◌else◌}
+use Rattle.std.specs.Prelude.{◌≡◌, ℕ, ◌+◌, List, [], ◌∷◌, length, map, Option, Some, None, if◌then◌else◌}
+use Rattle.rtl_bits.specs.declared.bit.Bit.{Bit}
 use Rattle.rtl_sig.specs.declared.sig.SigBit.{SigBit}
 use Rattle.rtl_ir.specs.Build.{Build, fresh_wire}
 use Rattle.rtl_ir.specs.Signals.{same_signal}
-use Rattle.net_model.specs.Fsm.Code.{Coding as Codes, Output as Pair}
+use Rattle.net_model.specs.Fsm.Code.{Coding as Codes, Output as Pair, code_init}
 use Rattle.fsm_parts.specs.SignalTable.{place_in}
 use Rattle.fsm_code.specs.declared.coding.Coding.{Coding}
 use Rattle.fsm_code.specs.declared.outputs.Output.{Output}
@@ -30,10 +31,18 @@ IsTabled o = (signal : List SigBit) → place_in o.table signal ≡ first_output
 abbrev pub coding_of : Coding → Codes
 coding_of c = record { states = c.states.now; state = c.state; code = c.code; outputs = outputs_of c.outputs }
 
+-- the fresh wire of a code of these states, with the code of the start value
+abbrev pub code_wire : List (List Bit) → Option (List Bit) → Build (List SigBit)
+code_wire states start = fresh_wire (length states) (code_init states start)
+
+-- the fresh wire of an output of a width
+abbrev pub output_wire : ℕ → Build (List SigBit)
+output_wire width = fresh_wire width []
+
 -- fresh outputs of a width for old ones, in their order
 abbrev pub fresh_by : ℕ → List (List SigBit) → Build (List Pair)
 fresh_by width [] b = ([], b)
 fresh_by width (signal ∷ signals) b =
-    let wire = fresh_wire width [] b in
+    let wire = output_wire width b in
     let rest = fresh_by width signals wire.1 in
     (record { before = signal; after = wire.0 } ∷ rest.0, rest.1)

@@ -14,7 +14,7 @@ ghost use Rattle.fsm_code.specs.Parts.{clock_params, flop_pins, pins_of, reset_p
 
 use crate::coding::Coding;
 use crate::numbers::code_of;
-use cell_types::{CellKind, Level, Levels, ParamName, PinName};
+use cell_types::{CellKind, Levels, ParamName, PinName};
 use fsm_parts::{at_pin, followed};
 use match_cells::polarity_of;
 use net_index::Drivers;

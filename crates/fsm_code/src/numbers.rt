@@ -5,7 +5,7 @@ ghost use Rattle.rtl_bits.specs.declared.bit.Bit.TheVariants.{S0, S1};
 ghost use Rattle.rtl_bits.specs.Numbers.{digit_of, number_of};
 ghost use Rattle.rtl_sig.specs.declared.sig.SigBit.TheVariants.{Fixed};
 ghost use Rattle.net_model.specs.Fsm.Code.{code_of, state_bit};
-ghost use Rattle.fsm_code.specs.Digits.{digit_at};
+ghost use Rattle.fsm_code.specs.Digits.{digit_at, same_number};
 
 use rtl_bits::{Bit, Bits, Memory, digit_of};
 use rtl_sig::{SigBit, SigSpec, fixed};
@@ -24,7 +24,7 @@ fn digit_at(bits: &[Bit], at: usize) -> u8
 /// Whether the bits stand for one number.
 #[tactic(auto, using(crate::proofs::Digits::numbers_differ, crate::proofs::Digits::numbers_same))]
 pub(crate) fn same_number(a: &[Bit], b: &[Bit]) -> bool
-    ensures value { result ≡ (number_of a.now == number_of b.now) }
+    ensures value { result ≡ same_number a.now b.now }
 {
     for at in 0..a.len().max(b.len()) {
         if digit_at(a, at) != digit_at(b, at) {

@@ -1,19 +1,18 @@
 //! Fresh wires for the code and for the outputs of the tree.
 
-ghost use Rattle.std.specs.Prelude.{◌≡◌, [], Err, IfOk, OnOk, Some, length, map, option_map, slice_get};
+ghost use Rattle.std.specs.Prelude.{◌≡◌, Err, IfOk, OnOk, Some, map, option_map, slice_get};
 ghost use Rattle.cell_types.specs.declared.pin_name.PinName.TheVariants.{Y};
-ghost use Rattle.rtl_ir.specs.Build.{fresh_wire};
 ghost use Rattle.rtl_ir.specs.declared.cell.Cell.{Cell};
 ghost use Rattle.net_index.specs.Builder.{IsInLimits, PassesLimit};
 ghost use Rattle.net_model.specs.Fsm.Code.{code_init};
 ghost use Rattle.net_model.specs.Fsm.Find.{at_pin};
-ghost use Rattle.fsm_code.specs.Outputs.{IsTabled, fresh_by, outputs_of};
+ghost use Rattle.fsm_code.specs.Outputs.{IsTabled, code_wire, fresh_by, output_wire, outputs_of};
 
 use crate::numbers::code_of;
 use crate::outputs::Outputs;
 use cell_types::PinName;
 use fsm_parts::{at_pin, cell_at};
-use net_index::{Builder, PassFault, whole};
+use net_index::{Builder, PassFault};
 use rtl_bits::{Bits, Memory, Seq, Text};
 use rtl_ir::{Attribute, Cell, Value};
 use rtl_sig::SigSpec;
@@ -68,27 +67,21 @@ pub(crate) fn code_wire(
     start: &Option<Bits>,
     builder: &mut Builder,
 ) -> Result<SigSpec, PassFault>
-    ensures exact { IfOk result (λ code. (code, builder.new) ≡
-        fresh_wire (length states.now) (code_init states.now start.now) builder.old) }
-    ensures over { result ≡ Err PassFault.Over →
-        PassesLimit (fresh_wire (length states.now) (code_init states.now start.now) builder.old).1 }
+    ensures exact { IfOk result (λ code. (code, builder.new) ≡ code_wire states.now start.now builder.old) }
+    ensures over { result ≡ Err PassFault.Over → PassesLimit (code_wire states.now start.now builder.old).1 }
     ensures within { OnOk result (IsInLimits builder.new) }
 {
-    let width = u32::try_from(states.len()).map_err(|_| Memory)?;
     let attributes = code_init(alloc, states, start)?;
-    let wire = builder.fresh_wire_with(width, attributes)?;
-    Ok(whole(alloc, wire, width)?)
+    builder.fresh_signal(states.len(), attributes)
 }
 
 /// A fresh wire of this width.
 fn output_wire(alloc: Global, width: usize, builder: &mut Builder) -> Result<SigSpec, PassFault>
-    ensures exact { IfOk result (λ signal. (signal, builder.new) ≡ fresh_wire width [] builder.old) }
-    ensures over { result ≡ Err PassFault.Over → PassesLimit (fresh_wire width [] builder.old).1 }
+    ensures exact { IfOk result (λ signal. (signal, builder.new) ≡ output_wire width builder.old) }
+    ensures over { result ≡ Err PassFault.Over → PassesLimit (output_wire width builder.old).1 }
     ensures within { OnOk result (IsInLimits builder.new) }
 {
-    let width = u32::try_from(width).map_err(|_| Memory)?;
-    let wire = builder.fresh_wire(width)?;
-    Ok(whole(alloc, wire, width)?)
+    builder.fresh_signal(width, Seq::make(alloc))
 }
 
 /// Fresh outputs of this width for the old ones, in their order.

@@ -7,3 +7,4 @@ pub mod Found
 pub mod Readers
 pub mod Starts
 pub mod Finder
+pub mod Params

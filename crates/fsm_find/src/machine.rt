@@ -9,7 +9,6 @@ ghost use Rattle.std.specs.Prelude.{
   ◌≤◌,
   [],
   List,
-  ℕ,
   IfOk,
   OnOk,
   filter,
@@ -20,7 +19,6 @@ ghost use Rattle.std.specs.Prelude.{
 ghost use Rattle.std.specs.List.{list_all, list_any, range_with_len};
 ghost use Rattle.rtl_sig.specs.declared.sig.WireBit.{WireBit};
 ghost use Rattle.rtl_ir.specs.declared.module.Module.{Module};
-ghost use Rattle.rtl_ir.specs.Signals.{wire_bits};
 ghost use Rattle.rtl_ir.specs.Types.{Ports};
 ghost use Rattle.net_model.specs.Fsm.Find.{cells_at_places, compares, fits_code, tree_outputs};
 ghost use Rattle.fsm_find.specs.Readers.{AreMarks};

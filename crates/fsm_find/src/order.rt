@@ -1,19 +1,6 @@
 //! Whether no fork is below itself.
 
-ghost use Rattle.std.specs.Prelude.{
-  ◌≡◌,
-  ◌<◌,
-  ℕ,
-  Bool,
-  true,
-  false,
-  IfOk,
-  MatchBool,
-  OnOk,
-  length,
-  slice_index_or,
-  slice_set,
-};
+ghost use Rattle.std.specs.Prelude.{◌≡◌, ◌<◌, ℕ, true, false, IfOk, MatchBool, OnOk, length, slice_set};
 ghost use Rattle.std.specs.List.{list_all};
 ghost use Rattle.net_model.specs.Lists.{In};
 ghost use Rattle.fsm_find.specs.declared.reach.Node.{Node};

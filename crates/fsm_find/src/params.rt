@@ -1,16 +1,14 @@
 //! What the parameters of cells and the attributes of wires say.
 
-ghost use Rattle.std.specs.Prelude.{◌≡◌, ◌&&◌, IfOk, map, slice_index_or};
+ghost use Rattle.std.specs.Prelude.{◌≡◌, IfOk, map, slice_index_or};
 ghost use Rattle.std.specs.List.{range_with_len};
 ghost use Rattle.rtl_bits.specs.declared.bit.Bit.TheVariants.{X};
 ghost use Rattle.rtl_bits.specs.Tables.{seen_of};
-ghost use Rattle.cell_types.specs.declared.param_name.ParamName.TheVariants.{ASigned, BSigned};
-ghost use Rattle.cell_types.specs.Shape.{is_set};
 ghost use Rattle.rtl_ir.specs.Flat.Cell.{cell_shape};
 ghost use Rattle.rtl_ir.specs.Attributes.{attribute_bits};
-ghost use Rattle.rtl_ir.specs.Parameters.{given_params};
 ghost use Rattle.net_model.specs.Fsm.Find.{reset_value};
 ghost use Rattle.fsm_find.specs.Attributes.{init_bits};
+ghost use Rattle.fsm_find.specs.Params.{are_signed};
 
 use cell_types::{CellKind, ParamName, StorageKind};
 use rtl_bits::{Bit, Bits, Memory};
@@ -20,8 +18,7 @@ use std::alloc::Global;
 /// Whether both operands of a cell of this kind are signed.
 #[tactic(auto, unfolding(rtl_ir::specs::Flat::Cell::cell_shape))]
 pub(crate) fn are_signed(alloc: Global, kind: CellKind, cell: &Cell) -> Result<bool, Memory>
-    ensures value { IfOk result (λ both. both ≡
-        (is_set (given_params cell.now.params) ASigned && is_set (given_params cell.now.params) BSigned)) }
+    ensures value { IfOk result (λ both. both ≡ are_signed cell.now.params) }
 {
     let shape = fitting_shape(alloc, kind, cell)?;
     Ok(shape.signs.a && shape.signs.b)

@@ -5,9 +5,7 @@ ghost use Rattle.std.specs.Prelude.{
   List,
   [],
   ◌∷◌,
-  ◌++◌,
   IfOk,
-  IfSome,
   MatchBool,
   MatchOption,
   OnOk,
@@ -18,17 +16,16 @@ ghost use Rattle.std.specs.Prelude.{
   slice_get,
 };
 ghost use Rattle.rtl_sig.specs.declared.sig.SigBit.{SigBit};
-ghost use Rattle.rtl_ir.specs.declared.cell.Cell.{Cell};
 ghost use Rattle.rtl_ir.specs.declared.module.Module.{Module};
 ghost use Rattle.rtl_ir.specs.Types.{Ports};
 ghost use Rattle.net_model.specs.Lists.{In};
 ghost use Rattle.fsm_find.specs.Trees.{HasNoTree, IsForkUnder, IsReach, IsUnder, IsWhole, Learns, Meets, Opens, Visits};
-ghost use Rattle.fsm_find.specs.View.{IsView, arms_in};
+ghost use Rattle.fsm_find.specs.View.{IsView};
 
 use crate::view::{Step, View};
 use fsm_parts::{arms, is_state_constant};
 use rtl_bits::{Bits, Memory};
-use rtl_ir::{Cell, Module, constants_of};
+use rtl_ir::{Module, constants_of};
 use rtl_sig::{SigBit, SigSpec};
 use std::alloc::Global;
 

@@ -1,6 +1,6 @@
 //! Choosing keeps what a code says of the state. Each law is the contract of a function that does nothing.
 
-ghost use Rattle.std.specs.Prelude.{◌≡◌, ◌≤◌, ◌<◌, ℕ, List};
+ghost use Rattle.std.specs.Prelude.{ℕ};
 ghost use Rattle.rtl_bits.specs.declared.bit.Bit.{Bit};
 ghost use Rattle.rtl_bits.specs.Knowledge.{Below};
 ghost use Rattle.rtl_bits.specs.Tables.{mux_of};

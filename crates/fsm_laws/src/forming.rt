@@ -47,7 +47,7 @@ pub fn recoded_fits()
         HaveOwnNames m → HaveOwnNames (recoded_of m machine) }
 {}
 
-/// The same of the machines of all wires, one after another.
+/// A module stays in form where the machines of all its wires are recoded, one after another.
 pub fn machines_fit()
     ensures same_id { (ports : Ports) (m : Module) →
         IsReady ports m → AreShort ports 0 (length m.wires) m →

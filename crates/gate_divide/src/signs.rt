@@ -1,8 +1,7 @@
 //! Words in two's complement by sign and size.
 
-ghost use Rattle.std.specs.Prelude.{◌≡◌, Err, IfOk, OnOk, true};
+ghost use Rattle.std.specs.Prelude.{◌≡◌, Err, IfOk, OnOk};
 ghost use Rattle.net_index.specs.Builder.{IsInLimits, PassesLimit};
-ghost use Rattle.rtl_sig.specs.Signal.{fill_of};
 ghost use Rattle.gate_divide.specs.Signs.{magnitude_of, negated_where, top_of};
 
 use gate_nets::{negate, select};

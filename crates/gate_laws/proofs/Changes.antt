@@ -29,7 +29,8 @@ use Rattle.expr_rules.specs.Rules.Fold.{folded_bit}
 use Rattle.expr_rules.specs.Rules.Logic.{beside_ones, beside_zeros}
 use Rattle.expr_rules.specs.Rules.Mux.{arm_of}
 use Rattle.expr_rules.specs.Rules.Parts.{number_in}
-use Rattle.expr_rules.specs.Signals.{filled, first_bit, is_bit, is_unknown_constant, is_zero, part_of, same_word}
+use Rattle.rtl_ir.specs.Signals.{same_signal}
+use Rattle.expr_rules.specs.Signals.{filled, first_bit, is_bit, is_unknown_constant, is_zero, part_of}
 use Rattle.expr_rules.specs.declared.change.Change.{Change}
 use Rattle.expr_rules.specs.declared.change.Change.TheVariants.{Becomes, Gives}
 use Rattle.expr_rules.specs.declared.operands.Operands.{Operands}
@@ -111,7 +112,7 @@ module _ (shape : Shape) (o : Operands) (inverts : IsNewGate (inverter_kind shap
   by_left By.Wiring kind = tt
   by_left By.KnownSelect Word.Mux = arm (first_bit o.s)
   by_left By.KnownSelect kind = tt
-  by_left By.EqualArms Word.Mux = given (same_word o.a o.b) o.a
+  by_left By.EqualArms Word.Mux = given (same_signal o.a o.b) o.a
   by_left By.EqualArms kind = tt
   by_left By.UnknownArm Word.Mux =
       first_left (when (list_all is_unknown_constant o.a) (Gives o.b)) (when (list_all is_unknown_constant o.b) (Gives o.a)) (given (list_all is_unknown_constant o.a) o.b) (given (list_all is_unknown_constant o.b) o.a)
@@ -154,15 +155,15 @@ module _ (shape : Shape) (o : Operands) (inverts : IsNewGate (inverter_kind shap
   by_left By.KnownShift (Word.Shift kind) = given _ _
   by_left By.KnownShift kind = tt
   by_left By.Compare (Word.Equal kind) =
-      if_left (same_word o.left o.right) (Some (Gives (Fixed (passing kind) ∷ []))) _ tt (one_compare kind)
-  by_left By.Compare (Word.Order kind) = given (same_word o.left o.right) (Fixed (of_equals kind) ∷ [])
+      if_left (same_signal o.left o.right) (Some (Gives (Fixed (passing kind) ∷ []))) _ tt (one_compare kind)
+  by_left By.Compare (Word.Order kind) = given (same_signal o.left o.right) (Fixed (of_equals kind) ∷ [])
   by_left By.Compare kind = tt
   by_left By.OneBit (Word.Fold kind) = folded kind
   by_left By.OneBit Word.Pmux = when_left (length o.s == 1) (chooser shape.kind o.a o.b o.s) chooses
   by_left By.OneBit kind = tt
   by_left By.KnownSelects Word.Bwmux = given _ _
   by_left By.KnownSelects kind = tt
-  by_left By.EqualWords Word.Bwmux = given (same_word o.a o.b) o.a
+  by_left By.EqualWords Word.Bwmux = given (same_signal o.a o.b) o.a
   by_left By.EqualWords kind = tt
   by_left By.KnownPart Word.Bmux = map_left (λ part. Gives (part_of o.a (part * shape.widths.y) shape.widths.y)) (number_in o.s) (λ part. tt)
   by_left By.KnownPart kind = tt

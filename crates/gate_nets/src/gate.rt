@@ -1,12 +1,12 @@
 //! One gate with a fresh wire at its output.
 
-ghost use Rattle.std.specs.Prelude.{◌≡◌, Err, IfOk, OnErr, OnOk};
+ghost use Rattle.std.specs.Prelude.{◌≡◌, Err, IfOk, OnOk};
 ghost use Rattle.net_index.specs.Builder.{IsInLimits, PassesLimit};
-ghost use Rattle.gate_nets.specs.Gate.{bit_of, gate_for, gate_of, inputs_of, kind_of, one};
+ghost use Rattle.gate_nets.specs.Gate.{gate_for, gate_of, inputs_of, kind_of, one};
 
 use cell_types::{BitwiseKind, CellKind, GateKind, PinName};
 use net_index::{Builder, PassFault};
-use rtl_bits::{Memory, Seq, Text};
+use rtl_bits::{Memory, Text};
 use rtl_ir::Pin;
 use rtl_sig::{SigBit, SigSpec, WireBit};
 use std::alloc::Global;

@@ -13,7 +13,7 @@ ghost use Rattle.rtl_ir.specs.Build.{Building};
 ghost use Rattle.rtl_sig.specs.declared.sig.SigBit.{SigBit};
 ghost use Rattle.gate_nets.specs.Reading.{Computes, IsReading};
 ghost use Rattle.gate_nets.specs.Sum.{sum_of};
-ghost use Rattle.gate_nets.specs.Words.{fold_of, inverse_of, select_of};
+ghost use Rattle.gate_nets.specs.Words.{fold_of, inverse_of};
 
 /// A fold has at least what the bits joined by its table have.
 pub fn folds_join()

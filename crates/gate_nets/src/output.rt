@@ -1,7 +1,6 @@
 //! Values that are given to outputs.
 
-ghost use Rattle.std.specs.Prelude.{◌≡◌, OnOk, IfOk, length, false};
-ghost use Rattle.rtl_sig.specs.Signal.{extended};
+ghost use Rattle.std.specs.Prelude.{◌≡◌, OnOk};
 ghost use Rattle.net_index.specs.Builder.{IsInLimits};
 ghost use Rattle.gate_nets.specs.Give.{give_to};
 

@@ -1,24 +1,19 @@
 //! Asks an index of modules of a table what numbers bits have, what drives them, what reads them, and where
-//! connections lead from them.
+//! connections lead from them, and adds to modules up to the limits, and one item more.
 #![tactic(auto)]
+
+mod gates;
+mod limits;
+mod texts;
 
 use net_index::{CellPin, Driver, Index, Reader};
 use rtl_bits::{Bit, Memory, Text};
-use rtl_ir::{Design, Module, port_table};
-use rtl_read::{ReadFault, read};
+use rtl_ir::{Module, port_table};
 use rtl_sig::{SigBit, WireBit};
 use std::alloc::Global;
 use std::process::ExitCode;
 use table_rows::{TEXTS, Tally, letter, report};
-
-/// The design of the text, where it is one.
-fn design_of(alloc: Global, text: &[u8]) -> Result<Option<Design>, Memory> {
-    match read(alloc, text) {
-        Ok(design) => Ok(Some(design)),
-        Err(ReadFault::Memory) => Err(Memory),
-        Err(_) => Ok(None),
-    }
-}
+use texts::design_of;
 
 /// A bit as the rows write it: a wire's name and a place, or a constant.
 fn bit_text(alloc: Global, module: &Module, bit: SigBit) -> Result<Text, Memory> {
@@ -151,10 +146,12 @@ fn holds(alloc: Global, fields: &[&[u8]]) -> Result<bool, Memory> {
     is_answered(alloc, module, &index, asked, wanted)
 }
 
-/// Counts the rows at standard input.
+/// Counts the rows at standard input and of the files.
 fn tally_of(rt: &HostRuntime) -> Result<Tally, Memory> {
     let mut tally = Tally::make(rt.alloc());
     tally.read("standard input", rt.reader(), TEXTS, holds)?;
+    tally.file(rt, "limits", TEXTS, limits::hold)?;
+    tally.file(rt, "gates", TEXTS, gates::fill)?;
     Ok(tally)
 }
 

@@ -7,7 +7,7 @@ use Rattle.rtl_ir.specs.Assigns.{tree_bits}
 use Rattle.rtl_ir.specs.Faults.TwoEdges.{EdgeBit, edge_bit}
 use Rattle.rtl_ir.specs.Flat.Driver.{Driven}
 use Rattle.rtl_ir.specs.Flat.Place.{Path}
-use Rattle.rtl_ir.specs.Flat.Process.{Trigger, always_row, edge_trigger, level_trigger, one_rule_rows, process_rows, raced_rows, rules_rows, tree_bit_rows, two_rules_rows}
+use Rattle.rtl_ir.specs.Flat.Process.{Trigger, always_row, edge_trigger, level_trigger, one_rule_rows, process_rows, raced_rows, rules_rows, tree_bit_rows, two_rules_rows, pair_by}
 use Rattle.rtl_ir.specs.Follow.{all_joins}
 use Rattle.rtl_ir.specs.declared.follow.Join.{Join}
 use Rattle.rtl_ir.specs.Rules.{acting_rules, has_line, is_init}
@@ -86,10 +86,10 @@ module _ (start : SigBit → Bit) (p : Path) (wires : List Wire) (root : CaseVie
   none_raced n updates None None e = refl
 
   -- two rules that are not at two edges drive the same whatever the module has besides
-  same_two : (n n' : Module) (a b : SyncRule) → (edge_bit a.event ≡ None) ⊎ (edge_bit b.event ≡ None) → (e f l k : Option Trigger) → two_rules_rows start p wires n root bits a b e f l k ≡ two_rules_rows start p wires n' root bits a b e f l k
+  same_two : (n n' : Module) (a b : SyncRule) → (edge_bit a.event ≡ None) ⊎ (edge_bit b.event ≡ None) → (e f l k : Option Trigger) → two_rules_rows start p wires n root bits (pair_by a b e f l k) ≡ two_rules_rows start p wires n' root bits (pair_by a b e f l k)
   same_two n n' a b h e f l k = by e f l k (none_raced n (all_joins a.updates) (edge_bit a.event) (edge_bit b.event) h ∙ sym (none_raced n' (all_joins a.updates) (edge_bit a.event) (edge_bit b.event) h))
     where
-      by : (e f l k : Option Trigger) → raced_rows start p wires n root bits (all_joins a.updates) (edge_bit a.event) (edge_bit b.event) ≡ raced_rows start p wires n' root bits (all_joins a.updates) (edge_bit a.event) (edge_bit b.event) → two_rules_rows start p wires n root bits a b e f l k ≡ two_rules_rows start p wires n' root bits a b e f l k
+      by : (e f l k : Option Trigger) → raced_rows start p wires n root bits (all_joins a.updates) (edge_bit a.event) (edge_bit b.event) ≡ raced_rows start p wires n' root bits (all_joins a.updates) (edge_bit a.event) (edge_bit b.event) → two_rules_rows start p wires n root bits (pair_by a b e f l k) ≡ two_rules_rows start p wires n' root bits (pair_by a b e f l k)
       by (Some e) (Some f) (Some l) (Some k) z = refl
       by (Some e) (Some f) None (Some k) z = refl
       by (Some e) None (Some l) (Some k) z = refl
@@ -108,27 +108,27 @@ module _ (start : SigBit → Bit) (p : Path) (wires : List Wire) (root : CaseVie
       by None None None None z = z
 
   -- beside another rule one that always acts drives nothing
-  first_always : (n : Module) (a b : SyncRule) → is_always a.event ≡ true → two_rules_rows start p wires n root bits a b (edge_trigger a.event) (edge_trigger b.event) (level_trigger a.event) (level_trigger b.event) ≡ []
+  first_always : (n : Module) (a b : SyncRule) → is_always a.event ≡ true → two_rules_rows start p wires n root bits (pair_by a b (edge_trigger a.event) (edge_trigger b.event) (level_trigger a.event) (level_trigger b.event)) ≡ []
   first_always n a b h =
       let same : a.event ≡ Always = always_is a.event h in
-      (λ i. two_rules_rows start p wires n root bits a b (edge_trigger (same i)) (edge_trigger b.event) (level_trigger (same i)) (level_trigger b.event))
+      (λ i. two_rules_rows start p wires n root bits (pair_by a b (edge_trigger (same i)) (edge_trigger b.event) (level_trigger (same i)) (level_trigger b.event)))
       ∙ by (edge_trigger b.event) (level_trigger b.event)
       ∙ none_raced n (all_joins a.updates) (edge_bit a.event) (edge_bit b.event) (inl (ap edge_bit same))
     where
-      by : (f k : Option Trigger) → two_rules_rows start p wires n root bits a b None f None k ≡ raced_rows start p wires n root bits (all_joins a.updates) (edge_bit a.event) (edge_bit b.event)
+      by : (f k : Option Trigger) → two_rules_rows start p wires n root bits (pair_by a b None f None k) ≡ raced_rows start p wires n root bits (all_joins a.updates) (edge_bit a.event) (edge_bit b.event)
       by (Some f) (Some k) = refl
       by (Some f) None = refl
       by None (Some k) = refl
       by None None = refl
 
-  second_always : (n : Module) (a b : SyncRule) → is_always b.event ≡ true → two_rules_rows start p wires n root bits a b (edge_trigger a.event) (edge_trigger b.event) (level_trigger a.event) (level_trigger b.event) ≡ []
+  second_always : (n : Module) (a b : SyncRule) → is_always b.event ≡ true → two_rules_rows start p wires n root bits (pair_by a b (edge_trigger a.event) (edge_trigger b.event) (level_trigger a.event) (level_trigger b.event)) ≡ []
   second_always n a b h =
       let same : b.event ≡ Always = always_is b.event h in
-      (λ i. two_rules_rows start p wires n root bits a b (edge_trigger a.event) (edge_trigger (same i)) (level_trigger a.event) (level_trigger (same i)))
+      (λ i. two_rules_rows start p wires n root bits (pair_by a b (edge_trigger a.event) (edge_trigger (same i)) (level_trigger a.event) (level_trigger (same i))))
       ∙ by (edge_trigger a.event) (level_trigger a.event)
       ∙ none_raced n (all_joins a.updates) (edge_bit a.event) (edge_bit b.event) (inr (ap edge_bit same))
     where
-      by : (e l : Option Trigger) → two_rules_rows start p wires n root bits a b e None l None ≡ raced_rows start p wires n root bits (all_joins a.updates) (edge_bit a.event) (edge_bit b.event)
+      by : (e l : Option Trigger) → two_rules_rows start p wires n root bits (pair_by a b e None l None) ≡ raced_rows start p wires n root bits (all_joins a.updates) (edge_bit a.event) (edge_bit b.event)
       by (Some e) (Some l) = refl
       by (Some e) None = refl
       by None (Some l) = refl

@@ -12,7 +12,7 @@ ghost use Rattle.net_model.specs.Refine.{IsWellDriven};
 ghost use Rattle.proc_laws.specs.Ready.{AreRuled, HaveNoStarts, IsReady};
 ghost use Rattle.proc_laws.specs.Kinds.{HaveNoAlways, HaveNoTwoEdges, HaveNoWrites};
 
-use rtl_ir::{Module, PortTable};
+use rtl_ir::Module;
 
 /// The module with latches and connections in the place of rules that always act has the same name, ports
 /// and instances. Where no process has two rules at edges, and the fresh names are numbers of up to nine

@@ -5,14 +5,9 @@ mod order;
 mod sums;
 mod value;
 
-ghost use Rattle.std.specs.Prelude.{◌≡◌, true, Err, List, OnOk, length};
-ghost use Rattle.rtl_bits.specs.declared.bit.Bit.{Bit};
-ghost use Rattle.rtl_sig.specs.declared.sig.SigBit.{SigBit};
-ghost use Rattle.rtl_ir.specs.Flat.Cell.{Ports};
-ghost use Rattle.rtl_ir.specs.declared.wire.Wire.{Wire};
+ghost use Rattle.std.specs.Prelude.{◌≡◌, Err, OnOk};
 ghost use Rattle.net_index.specs.Builder.{IsInLimits, PassesLimit};
-ghost use Rattle.map_laws.specs.Expansion.{IsExpansion, IsWhole, StandsWith, cells_added, links_added};
-ghost use Rattle.map_laws.specs.Operand.{IsShapeOf};
+ghost use Rattle.map_laws.specs.Expansion.{ExpandsMapped, StandsForMapped};
 ghost use Rattle.map_add.specs.Expand.{is_mapped, map_of};
 
 use crate::value::{is_mapped, value};
@@ -33,12 +28,8 @@ pub fn expand(
     ensures exact { OnOk result (builder.new ≡ map_of shape.now cell.now builder.old) }
     ensures over { result ≡ Err PassFault.Over → PassesLimit (map_of shape.now cell.now builder.old) }
     ensures within { IsInLimits builder.old → OnOk result (IsInLimits builder.new) }
-    ensures expansion { OnOk result (IsShapeOf cell.now shape.now → is_mapped shape.now.kind ≡ true →
-        IsWhole (length builder.old.body.wires) shape.now.kind cell.now →
-        IsExpansion builder.old builder.new cell.now) }
-    ensures refines { OnOk result (IsShapeOf cell.now shape.now → is_mapped shape.now.kind ≡ true →
-        (ports : Ports) (start : SigBit → Bit) (wires : List Wire) →
-        StandsWith ports start wires cell.now (cells_added builder.old builder.new) (links_added builder.old builder.new)) }
+    ensures expansion { OnOk result (ExpandsMapped is_mapped shape.now cell.now builder.old builder.new) }
+    ensures refines { OnOk result (StandsForMapped is_mapped shape.now cell.now builder.old builder.new) }
 {
     add_gates(alloc, cell, shape, builder)
 }

@@ -12,7 +12,7 @@ use Rattle.rtl_ir.specs.Flat.Place.{Path}
 use Rattle.rtl_ir.specs.Flat.Point.{point, points}
 use Rattle.rtl_ir.specs.declared.wire.Wire.{Wire}
 use Rattle.cell_word.specs.Words as words
-use Rattle.cell_word.specs.Words.{extended_at, word_of}
+use Rattle.cell_word.specs.Words.{extended_at}
 use Rattle.net_model.specs.Valuation.{Valuation, read, read_all}
 use Rattle.map_gates.specs.Gates.{bit_at}
 

@@ -35,7 +35,7 @@ use Rattle.gate_nets.specs.Operand.{greater_width, operand_of}
 use Rattle.gate_nets.specs.Reading.{IsReading}
 use Rattle.gate_nets.proofs.Expanding.{net_expands, net_stands}
 use Rattle.gate_nets.proofs.Nets as nets
-use Rattle.gate_nets.proofs.Nets.{Goods, Net, net_pure, net_since, net_then, net_weaker}
+use Rattle.gate_nets.proofs.Nets.{Goods, Net, net_pure, net_then, net_weaker}
 use Rattle.gate_nets.proofs.Operands.{goods_extended, goods_in, goods_own, length_map}
 use Rattle.gate_nets.proofs.Standing.{length-extended, reads}
 use Rattle.gate_nets.proofs.Values.{good_at, one_below, word_below}

@@ -32,7 +32,6 @@ pub(crate) fn unary_gates(
 
 /// A gate of two inputs for each bit of Y.
 pub(crate) fn binary_gates(
-    alloc: Global,
     kind: GateKind,
     signed: bool,
     a: &[SigBit],
@@ -44,6 +43,7 @@ pub(crate) fn binary_gates(
     ensures over { result ≡ Err PassFault.Over → PassesLimit (binary_gates kind signed a.now b.now y.now builder.old) }
     ensures within { IsInLimits builder.old → OnOk result (IsInLimits builder.new) }
 {
+    let alloc = builder.allocator();
     for (at, bit) in y.iter().enumerate() {
         let left = bit_at(signed, a, at);
         let right = bit_at(signed, b, at);

@@ -9,14 +9,10 @@ mod operand;
 mod parts;
 mod value;
 
-ghost use Rattle.std.specs.Prelude.{◌≡◌, true, Err, List, OnOk, length};
-ghost use Rattle.rtl_bits.specs.declared.bit.Bit.{Bit};
-ghost use Rattle.rtl_sig.specs.declared.sig.SigBit.{SigBit};
-ghost use Rattle.rtl_ir.specs.Flat.Cell.{Ports};
-ghost use Rattle.rtl_ir.specs.declared.wire.Wire.{Wire};
+ghost use Rattle.std.specs.Prelude.{◌≡◌, Err, OnOk};
 ghost use Rattle.net_index.specs.Builder.{IsInLimits, PassesLimit};
-ghost use Rattle.map_laws.specs.Expansion.{IsExpansion, IsWhole, StandsWith, cells_added, links_added};
-ghost use Rattle.map_laws.specs.Operand.{IsShapeOf, pin_signal};
+ghost use Rattle.map_laws.specs.Expansion.{ExpandsMapped, StandsForMapped};
+ghost use Rattle.map_laws.specs.Operand.{pin_signal};
 ghost use Rattle.cell_types.specs.declared.pin_name.PinName.TheVariants.{Y};
 ghost use Rattle.gate_nets.specs.Give.{given};
 ghost use Rattle.map_gates.specs.Expand.{is_mapped, map_of, value_of};
@@ -42,12 +38,8 @@ pub fn expand(
     ensures exact { OnOk result (builder.new ≡ map_of shape.now cell.now builder.old) }
     ensures over { result ≡ Err PassFault.Over → PassesLimit (map_of shape.now cell.now builder.old) }
     ensures within { IsInLimits builder.old → OnOk result (IsInLimits builder.new) }
-    ensures expansion { OnOk result (IsShapeOf cell.now shape.now → is_mapped shape.now.kind ≡ true →
-        IsWhole (length builder.old.body.wires) shape.now.kind cell.now →
-        IsExpansion builder.old builder.new cell.now) }
-    ensures refines { OnOk result (IsShapeOf cell.now shape.now → is_mapped shape.now.kind ≡ true →
-        (ports : Ports) (start : SigBit → Bit) (wires : List Wire) →
-        StandsWith ports start wires cell.now (cells_added builder.old builder.new) (links_added builder.old builder.new)) }
+    ensures expansion { OnOk result (ExpandsMapped is_mapped shape.now cell.now builder.old builder.new) }
+    ensures refines { OnOk result (StandsForMapped is_mapped shape.now cell.now builder.old builder.new) }
 {
     add_gates(alloc, cell, shape, builder)
 }
@@ -72,7 +64,7 @@ fn add_gates(
         }
         CellKind::Word(WordKind::Bitwise(kind)) => {
             let signed = shape.signs.a && shape.signs.b;
-            binary_gates(alloc, gate_for(kind), signed, a, b, y, builder)
+            binary_gates(gate_for(kind), signed, a, b, y, builder)
         }
         CellKind::Word(WordKind::Mux) => {
             let s = bit_at(false, pin_signal(cell, PinName::S), 0);

@@ -76,7 +76,6 @@ fn parts(
         }
         let hit = hit(alloc, s, inverses, part, builder)?;
         binary_gates(
-            alloc,
             GateKind::And,
             true,
             &[hit],

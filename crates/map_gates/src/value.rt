@@ -82,9 +82,10 @@ pub(crate) fn value(
 {
     let a = pin_signal(cell, PinName::A);
     let b = pin_signal(cell, PinName::B);
+    let s = pin_signal(cell, PinName::S);
+    let width = shape.widths.y as usize;
     match kind {
         WordKind::Unary(UnaryKind::Pos) => {
-            let width = shape.widths.y as usize;
             Ok(operand_of(alloc, cell, PinName::A, width, shape.signs.a)?)
         }
         WordKind::Fold(kind) => {
@@ -99,17 +100,11 @@ pub(crate) fn value(
             let bit = compared(alloc, kind, cell, shape, builder)?;
             Ok(one_bit(alloc, bit)?)
         }
-        WordKind::Pmux => chosen(alloc, a, b, pin_signal(cell, PinName::S), builder),
+        WordKind::Pmux => chosen(alloc, a, b, s, builder),
         WordKind::Slice => Ok(SigSpec::from_slice(alloc, above(a, shape.offset as usize))?),
         WordKind::Concat => Ok(concat(alloc, a, b)?),
-        WordKind::Buf => {
-            let width = shape.widths.y as usize;
-            Ok(operand_of(alloc, cell, PinName::A, width, false)?)
-        }
-        WordKind::Bmux => {
-            let s = pin_signal(cell, PinName::S);
-            halved(alloc, shape.widths.y, a, s, builder)
-        }
+        WordKind::Buf => Ok(operand_of(alloc, cell, PinName::A, width, false)?),
+        WordKind::Bmux => halved(alloc, shape.widths.y, a, s, builder),
         _ => Ok(SigSpec::make(alloc)),
     }
 }

@@ -1,8 +1,9 @@
 -- What is owed of the cells, wires and connections that a map adds to a module for a cell.
-use Rattle.std.specs.Prelude.{◌≡◌, ◌≤◌, ◌+◌, ℕ, true, false, List, [], ◌∷◌, ◌++◌, length, map, drop, flat_map, Option, Some, None, IsPermutation}
+use Rattle.std.specs.Prelude.{◌≡◌, ◌≤◌, ◌+◌, ℕ, Bool, true, false, List, [], ◌∷◌, ◌++◌, length, map, drop, flat_map, Option, Some, None, IsPermutation}
 use Rattle.std.specs.Option.{option_map_or}
 use Rattle.cell_types.specs.PinName.{pin_text}
 use Rattle.cell_types.specs.declared.kind.CellKind.{CellKind}
+use Rattle.cell_types.specs.declared.shape.Shape.{Shape}
 use Rattle.rtl_bits.specs.declared.bit.Bit.{Bit}
 use Rattle.rtl_sig.specs.declared.sig.SigBit.{SigBit}
 use Rattle.rtl_sig.specs.declared.sig.WireBit.{WireBit}
@@ -26,6 +27,7 @@ use Rattle.net_model.specs.Refine.{IsMet, Solved, SolvedBefore}
 use Rattle.net_model.specs.Run.{Time}
 use Rattle.net_model.specs.Valuation.{Valuation}
 use Rattle.net_model.specs.Within.{CellIn, Each, LinkIn}
+use Rattle.map_laws.specs.Operand.{IsShapeOf}
 
 -- the cells that went last in a module
 abbrev pub cells_added : Building → Building → List Cell
@@ -129,3 +131,14 @@ pub record StandsWith (ports : Ports) (start : SigBit → Bit) (wires : List Wir
       Solved (cells_rows start ports p wires cells ++ link_rows p wires links) t w →
       SolvedBefore (cells_rows start ports p wires cells ++ link_rows p wires links) t → (d : Driven) →
       In d (cell_rows start ports p wires c (cell_kind c)) → IsMet d t w
+
+-- what went last for a whole cell of this shape, of a kind that is mapped, is what a map may add for it
+abbrev pub ExpandsMapped : (CellKind → Bool) → Shape → Cell → Building → Building → Type 0
+ExpandsMapped is_mapped shape c old new =
+    IsShapeOf c shape → is_mapped shape.kind ≡ true → IsWhole (length old.body.wires) shape.kind c → IsExpansion old new c
+
+-- what went last for a cell of this shape, of a kind that is mapped, may stand in its place, in each module
+abbrev pub StandsForMapped : (CellKind → Bool) → Shape → Cell → Building → Building → Type 0
+StandsForMapped is_mapped shape c old new =
+    IsShapeOf c shape → is_mapped shape.kind ≡ true → (ports : Ports) (start : SigBit → Bit) (wires : List Wire)
+    → StandsWith ports start wires c (cells_added old new) (links_added old new)

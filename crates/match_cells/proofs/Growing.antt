@@ -10,7 +10,7 @@ use Rattle.net_index.specs.Builder.{PassesLimit}
 use Rattle.net_index.specs.Numbering.{bit_count, widths_of}
 use Rattle.net_index.proofs.Rooms.{bit_count_last}
 use Rattle.net_model.specs.Proc.Mux.{equal_cell, joined_bits, mux_cell}
-use Rattle.match_cells.specs.Parts.{equal_params, equal_pins, mux_pins, or_cell, or_params}
+use Rattle.match_cells.specs.Parts.{binary_params, equal_pins, mux_pins, or_cell, or_params}
 
 -- a module has no fewer cells, bits of wires and numbers of names than before
 pub record Grows (a b : Building) : Type 0 where
@@ -56,7 +56,7 @@ pub link_grows : (left right : List SigBit) (b : Building) → Grows b (new_link
 link_grows left right b = record { cells = omega arith; bits = omega arith; names = omega arith }
 
 pub equal_grows : (places : List (SigBit × SigBit)) (b : Building) → Grows b (equal_cell places b).1
-equal_grows places b = driver_grows (codes "$eq") (equal_params (length places)) (equal_pins places) (codes "\\Y") 1 b
+equal_grows places b = driver_grows (codes "$eq") (binary_params (length places)) (equal_pins places) (codes "\\Y") 1 b
 
 pub or_grows : (bits : List SigBit) (b : Building) → Grows b (or_cell bits b).1
 or_grows bits b = driver_grows (codes "$reduce_or") (or_params (length bits)) (pin_of (codes "\\A") bits ∷ []) (codes "\\Y") 1 b

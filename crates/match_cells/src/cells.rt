@@ -13,7 +13,7 @@ ghost use Rattle.net_model.specs.Proc.Mux.{
   pattern_bit,
   pattern_bits,
 };
-ghost use Rattle.match_cells.specs.Parts.{equal_params, equal_pins, mux_pins, or_cell, or_params};
+ghost use Rattle.match_cells.specs.Parts.{binary_params, bit_cell, equal_pins, mux_pins, or_cell, or_params};
 
 use cell_types::{CellKind, EqualKind, FoldKind, Param, ParamName, PinName, WordKind};
 use net_index::{Builder, PassFault, length_param, number_param, whole};
@@ -47,9 +47,9 @@ pub(crate) fn asked_places(
     Ok(places.filter(|place| is_asked(*place)).collect(alloc)?)
 }
 
-/// The parameters of an `$eq` of operands of this width.
-fn equal_params(alloc: Global, width: usize) -> Result<Vec<Param>, Memory>
-    ensures value { IfOk result (λ params. new_params params.items ≡ equal_params width) }
+/// The parameters of a cell of two unsigned operands of this width, and an output of one bit.
+pub fn binary_params(alloc: Global, width: usize) -> Result<Vec<Param>, Memory>
+    ensures value { IfOk result (λ params. new_params params.items ≡ binary_params width) }
 {
     let mut params = Vec::new(alloc);
     params.push(number_param(alloc, ParamName::ASigned, 0)?)?;
@@ -86,6 +86,21 @@ fn equal_pins(alloc: Global, places: &[Asked]) -> Result<Vec<Pin>, Memory>
     Ok(pins)
 }
 
+/// The bit of a new cell of this kind, whose output Y is one fresh bit.
+pub fn bit_cell(
+    kind: CellKind,
+    params: &[Param],
+    pins: &[Pin],
+    builder: &mut Builder,
+) -> Result<SigBit, PassFault>
+    ensures exact { IfOk result (λ bit. (bit, builder.new) ≡ bit_cell kind params.now pins.now builder.old) }
+    ensures over { result ≡ Err PassFault.Over → PassesLimit (bit_cell kind params.now pins.now builder.old).1 }
+    ensures within { OnOk result (IsInLimits builder.new) }
+{
+    let wire = builder.add_driver(kind, params, pins, PinName::Y.text(), 1)?;
+    Ok(SigBit::Wire(WireBit { wire, at: 0 }))
+}
+
 /// The bit of a one-bit `$eq` of the places that are asked.
 fn equal_cell(alloc: Global, places: &[Asked], builder: &mut Builder) -> Result<SigBit, PassFault>
     ensures exact { IfOk result (λ bit. (bit, builder.new) ≡ equal_cell places.now builder.old) }
@@ -93,16 +108,9 @@ fn equal_cell(alloc: Global, places: &[Asked], builder: &mut Builder) -> Result<
     ensures within { OnOk result (IsInLimits builder.new) }
 {
     let kind = CellKind::Word(WordKind::Equal(EqualKind::Eq));
-    let params = equal_params(alloc, places.len())?;
+    let params = binary_params(alloc, places.len())?;
     let pins = equal_pins(alloc, places)?;
-    let wire = builder.add_driver(
-        kind,
-        params.as_slice(),
-        pins.as_slice(),
-        PinName::Y.text(),
-        1,
-    )?;
-    Ok(SigBit::Wire(WireBit { wire, at: 0 }))
+    bit_cell(kind, params.as_slice(), pins.as_slice(), builder)
 }
 
 /// The bit that a pattern gives, by the places that are asked.
@@ -158,8 +166,7 @@ fn or_cell(alloc: Global, bits: &[SigBit], builder: &mut Builder) -> Result<SigB
     let kind = CellKind::Word(WordKind::Fold(FoldKind::Or));
     let params = or_params(alloc, bits.len())?;
     let pins = [pin_of(alloc, PinName::A, bits)?];
-    let wire = builder.add_driver(kind, params.as_slice(), &pins, PinName::Y.text(), 1)?;
-    Ok(SigBit::Wire(WireBit { wire, at: 0 }))
+    bit_cell(kind, params.as_slice(), &pins, builder)
 }
 
 /// The values of several patterns joined, the first as bit 0. Of one it is the value itself.
@@ -190,7 +197,7 @@ fn mux_pins(alloc: Global, a: &[SigBit], b: &[SigBit], s: SigBit) -> Result<Vec<
 }
 
 /// The output of a `$mux` that gives A, and B where the bit is 1.
-pub(crate) fn mux_cell(
+pub fn mux_cell(
     alloc: Global,
     a: &[SigBit],
     b: &[SigBit],

@@ -7,6 +7,7 @@ mod nodes;
 mod numbers;
 mod trees;
 
+pub use cells::{binary_params, bit_cell, mux_cell};
 pub use levels::polarity_of;
 pub use nodes::{behind, case_nodes};
 pub use numbers::nodes_behind;

@@ -1,8 +1,7 @@
 //! What is built of trees: the matches of cases, each made once, and multiplexers.
 
-ghost use Rattle.std.specs.Prelude.{◌≡◌, ◌∷◌, [], Err, IfOk, OnOk, OnErr, None, Some, replicate, zip};
+ghost use Rattle.std.specs.Prelude.{◌≡◌, [], Err, IfOk, OnOk, None, Some, replicate, zip};
 ghost use Rattle.std.specs.List.{list_any};
-ghost use Rattle.rtl_ir.specs.Signals.{same_signal};
 ghost use Rattle.net_index.specs.Builder.{IsInLimits, PassesLimit};
 ghost use Rattle.net_model.specs.Proc.Mux.{is_asked, is_default};
 ghost use Rattle.match_cells.specs.Trees.{made_at, match_bit, new_match, seen, with_case, with_mux};

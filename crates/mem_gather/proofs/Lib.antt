@@ -3,3 +3,4 @@ mod Starting
 mod Planning
 mod Placing
 mod Asking
+mod First

@@ -1,3 +1,4 @@
 pub mod Ports
 pub mod Tables
 pub mod Rising
+pub mod First

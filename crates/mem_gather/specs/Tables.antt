@@ -8,10 +8,15 @@ use Rattle.rtl_ir.specs.Signals.{constant_of}
 use Rattle.rtl_ir.specs.Flat.Memory.{init_bit_of, init_bits_of, init_enable}
 use Rattle.rtl_ir.specs.Flat.Cell.{cell_kind}
 use Rattle.rtl_ir.specs.Parameters.{signal_at}
+use Rattle.rtl_sig.specs.declared.sig.SigBit.{SigBit}
 use Rattle.rtl_sig.specs.declared.sig.SigBit.TheVariants as sig
 use Rattle.cell_gate.specs.Control.{pick_of}
 use Rattle.cell_types.specs.PinName.{pin_text}
 use Rattle.cell_types.specs.declared.pin_name.PinName.TheVariants.{Data}
+
+-- the constant at a place of a signal, past the end x
+abbrev pub constant_at : List SigBit → ℕ → Bit
+constant_at signal at = constant_of (slice_index_or signal at (sig.Fixed X))
 
 -- the words at so many addresses from a base on
 abbrev pub table : ℕ → ℕ → ℕ → (ℕ → ℕ → Bit) → List (List Bit)

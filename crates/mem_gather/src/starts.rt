@@ -1,37 +1,20 @@
 //! The start words of a memory, by a table over its addresses.
 
-ghost use Rattle.std.specs.Prelude.{
-  ◌≡◌,
-  ◌≤◌,
-  ◌<◌,
-  ◌+◌,
-  ◌*◌,
-  ◌^◌,
-  ℕ,
-  IfOk,
-  OnOk,
-  map,
-  nat_abs,
-  replicate,
-  slice_index_or,
-};
+ghost use Rattle.std.specs.Prelude.{◌≡◌, ◌<◌, ◌+◌, ◌*◌, ◌^◌, ℕ, IfOk, OnOk, map, nat_abs, replicate, slice_index_or};
 ghost use Rattle.std.specs.List.{range_with_len};
 ghost use Rattle.rtl_bits.specs.Tables.{seen_of};
 ghost use Rattle.rtl_bits.specs.declared.bit.Bit.{Bit};
 ghost use Rattle.rtl_bits.specs.declared.bit.Bit.TheVariants.{X};
-ghost use Rattle.rtl_sig.specs.declared.sig.SigBit.TheVariants as sig;
 ghost use Rattle.cell_types.specs.Given.{number_in};
 ghost use Rattle.cell_types.specs.PinName.{pin_text};
 ghost use Rattle.cell_types.specs.declared.param_name.ParamName.TheVariants as param;
 ghost use Rattle.cell_types.specs.declared.pin_name.PinName.TheVariants as pin;
-ghost use Rattle.cell_gate.specs.Control.{pick_of};
 ghost use Rattle.rtl_ir.specs.Faults.MemoryCells.{first_address};
-ghost use Rattle.rtl_ir.specs.Signals.{constant_of};
 ghost use Rattle.rtl_ir.specs.Flat.Cell.{cell_kind};
-ghost use Rattle.rtl_ir.specs.Flat.Memory.{init_bit_of, init_enable};
+ghost use Rattle.rtl_ir.specs.Flat.Memory.{init_enable};
 ghost use Rattle.rtl_ir.specs.Parameters.{given_params, signal_at};
 ghost use Rattle.net_model.specs.Mem.Gather.{words_of};
-ghost use Rattle.mem_gather.specs.Tables.{after, put_start, start_bit, started, table};
+ghost use Rattle.mem_gather.specs.Tables.{after, constant_at, put_start, start_bit, started, table};
 
 use crate::inits::{Init, init_cells};
 use cell_types::{CellKind, MemoryKind, ParamName, PinName, kind_of};
@@ -42,7 +25,7 @@ use std::alloc::Global;
 
 /// The constant at a place of a signal, past the end x.
 fn constant_at(signal: &[SigBit], at: u128) -> Bit
-    ensures value { result ≡ constant_of (slice_index_or signal.now at (sig.Fixed X)) }
+    ensures value { result ≡ constant_at signal.now at }
 {
     if at >= signal.len() as u128 {
         return Bit::X;

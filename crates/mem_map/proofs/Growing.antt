@@ -18,7 +18,8 @@ use Rattle.net_index.proofs.Rooms.{bit_count_last}
 use Rattle.net_model.specs.Mem.Expand.{Word, address_match, halves, low_bit, mux_of_signals, or_unknown, port_runs, port_step, ports_step, read_step, read_tree, reads_step, run_lengths, run_select, word_step, word_wires, words_step}
 use Rattle.net_model.specs.Proc.Start.{init_attribute}
 use Rattle.match_cells.proofs.Growing.{Grows, driver_grows, grows_more, grows_none, link_grows}
-use Rattle.mem_map.specs.Parts.{and_cell, binary_params, binary_pins, mux_pins, register_cell, register_params, register_pins}
+use Rattle.match_cells.specs.Parts.{binary_params, mux_pins}
+use Rattle.mem_map.specs.Parts.{and_cell, binary_pins, register_cell, register_params, register_pins}
 
 pub cell_grows : (kind : List ℕ) (params : List CellParam) (pins : List Pin) (b : Building) → Grows b (new_cell kind params pins b)
 cell_grows kind params pins b = record {

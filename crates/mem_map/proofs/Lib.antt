@@ -5,6 +5,7 @@ pub mod Going
 pub mod RunLengths
 pub mod Passing
 pub mod Trees
+pub mod StayingCells
 pub mod Wiring
 pub mod Asking
 pub mod Promised

@@ -5,19 +5,11 @@ use Rattle.rtl_ir.specs.Build.{Build, Building, integer_param, new_cell, new_dri
 use Rattle.rtl_ir.specs.declared.cell.CellParam.{CellParam}
 use Rattle.rtl_ir.specs.declared.cell.Pin.{Pin}
 use Rattle.net_model.specs.Mem.Expand.{low_bit}
-
--- the parameters of a cell of two unsigned operands of a width, and an output of one bit
-abbrev pub binary_params : ℕ → List CellParam
-binary_params width =
-    integer_param (codes "\\A_SIGNED") 0 ∷ integer_param (codes "\\A_WIDTH") width ∷ integer_param (codes "\\B_SIGNED") 0 ∷ integer_param (codes "\\B_WIDTH") width ∷ integer_param (codes "\\Y_WIDTH") 1 ∷ []
+use Rattle.match_cells.specs.Parts.{binary_params}
 
 -- the pins of the two operands
 abbrev pub binary_pins : List SigBit → List SigBit → List Pin
 binary_pins a b = pin_of (codes "\\A") a ∷ pin_of (codes "\\B") b ∷ []
-
--- the pins of a `$mux`
-abbrev pub mux_pins : List SigBit → List SigBit → SigBit → List Pin
-mux_pins a b s = pin_of (codes "\\A") a ∷ pin_of (codes "\\B") b ∷ pin_of (codes "\\S") (s ∷ []) ∷ []
 
 -- the parameters of a `$dff` of a width, at a rising edge or a falling one
 abbrev pub register_params : ℕ → Bool → List CellParam

@@ -1,40 +1,19 @@
 //! The cells of words, write chains and read trees.
 
 ghost use Rattle.std.specs.Prelude.{◌≡◌, Err, IfOk, OnOk};
-ghost use Rattle.rtl_ir.specs.Build.{pin_of};
 ghost use Rattle.net_index.specs.Builder.{IsInLimits, PassesLimit, new_params};
-ghost use Rattle.net_model.specs.Mem.Expand.{address_match, mux_of_signals, run_select};
-ghost use Rattle.mem_map.specs.Parts.{
-  and_cell,
-  binary_params,
-  binary_pins,
-  mux_pins,
-  register_cell,
-  register_params,
-  register_pins,
-};
+ghost use Rattle.net_model.specs.Mem.Expand.{address_match, run_select};
+ghost use Rattle.mem_map.specs.Parts.{and_cell, binary_pins, register_cell, register_params, register_pins};
 
 use cell_types::{
     BitwiseKind, CellKind, EqualKind, Param, ParamName, PinName, StorageKind, WordKind,
 };
-use net_index::{Builder, PassFault, length_param, number_param, whole};
+use match_cells::{binary_params, bit_cell};
+use net_index::{Builder, PassFault, length_param, number_param};
 use rtl_bits::{Bit, Bits, Memory};
 use rtl_ir::{Pin, pin_of};
-use rtl_sig::{SigBit, SigSpec, WireBit, fixed};
+use rtl_sig::{SigBit, fixed};
 use std::alloc::Global;
-
-/// The parameters of two unsigned operands of this width, and an output of one bit.
-fn binary_params(alloc: Global, width: usize) -> Result<Vec<Param>, Memory>
-    ensures value { IfOk result (λ params. new_params params.items ≡ binary_params width) }
-{
-    let mut params = Vec::new(alloc);
-    params.push(number_param(alloc, ParamName::ASigned, 0)?)?;
-    params.push(length_param(alloc, ParamName::AWidth, width)?)?;
-    params.push(number_param(alloc, ParamName::BSigned, 0)?)?;
-    params.push(length_param(alloc, ParamName::BWidth, width)?)?;
-    params.push(number_param(alloc, ParamName::YWidth, 1)?)?;
-    Ok(params)
-}
 
 /// The pins of two operands.
 fn binary_pins(alloc: Global, a: &[SigBit], b: &[SigBit]) -> Result<Vec<Pin>, Memory>
@@ -63,14 +42,7 @@ pub(crate) fn address_match(
     let params = binary_params(alloc, address.len())?;
     let pins = binary_pins(alloc, address, asked.as_slice())?;
     let kind = CellKind::Word(WordKind::Equal(EqualKind::Eq));
-    let wire = builder.add_driver(
-        kind,
-        params.as_slice(),
-        pins.as_slice(),
-        PinName::Y.text(),
-        1,
-    )?;
-    Ok(SigBit::Wire(WireBit { wire, at: 0 }))
+    bit_cell(kind, params.as_slice(), pins.as_slice(), builder)
 }
 
 /// An `$and` of two bits.
@@ -82,14 +54,7 @@ fn and_cell(alloc: Global, a: SigBit, b: SigBit, builder: &mut Builder) -> Resul
     let params = binary_params(alloc, 1)?;
     let pins = binary_pins(alloc, &[a], &[b])?;
     let kind = CellKind::Word(WordKind::Bitwise(BitwiseKind::And));
-    let wire = builder.add_driver(
-        kind,
-        params.as_slice(),
-        pins.as_slice(),
-        PinName::Y.text(),
-        1,
-    )?;
-    Ok(SigBit::Wire(WireBit { wire, at: 0 }))
+    bit_cell(kind, params.as_slice(), pins.as_slice(), builder)
 }
 
 /// The select of a run of this enable: the match where the enable is the constant 1, else both.
@@ -107,37 +72,6 @@ pub(crate) fn run_select(
         SigBit::Fixed(Bit::S1) => Ok(matched),
         _ => and_cell(alloc, matched, enable, builder),
     }
-}
-
-/// The pins of a `$mux`: A, B and S.
-fn mux_pins(alloc: Global, a: &[SigBit], b: &[SigBit], s: SigBit) -> Result<Vec<Pin>, Memory>
-    ensures value { IfOk result (λ pins. pins.items ≡ mux_pins a.now b.now s) }
-{
-    let mut pins = Vec::new(alloc);
-    pins.push(pin_of(alloc, PinName::A, a)?)?;
-    pins.push(pin_of(alloc, PinName::B, b)?)?;
-    pins.push(pin_of(alloc, PinName::S, &[s])?)?;
-    Ok(pins)
-}
-
-/// The output of a `$mux` that gives A, and B where the bit is 1.
-pub(crate) fn mux_of_signals(
-    alloc: Global,
-    a: &[SigBit],
-    b: &[SigBit],
-    s: SigBit,
-    builder: &mut Builder,
-) -> Result<SigSpec, PassFault>
-    ensures exact { IfOk result (λ output. (output, builder.new) ≡ mux_of_signals a.now b.now s builder.old) }
-    ensures over { result ≡ Err PassFault.Over → PassesLimit (mux_of_signals a.now b.now s builder.old).1 }
-    ensures within { OnOk result (IsInLimits builder.new) }
-{
-    let width = u32::try_from(a.len()).map_err(|_| Memory)?;
-    let params = [length_param(alloc, ParamName::Width, a.len())?];
-    let pins = mux_pins(alloc, a, b, s)?;
-    let kind = CellKind::Word(WordKind::Mux);
-    let wire = builder.add_driver(kind, &params, pins.as_slice(), PinName::Y.text(), width)?;
-    Ok(whole(alloc, wire, width)?)
 }
 
 /// The parameters of a register.

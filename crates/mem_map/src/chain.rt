@@ -5,10 +5,11 @@ ghost use Rattle.net_index.specs.Builder.{IsInLimits, PassesLimit};
 ghost use Rattle.net_model.specs.Mem.Expand.{port_runs, port_step, ports_step, word_step, words_step};
 ghost use Rattle.mem_map.specs.Words.{word, words_of};
 
-use crate::cells::{address_match, mux_of_signals, register_cell, run_select};
+use crate::cells::{address_match, register_cell, run_select};
 use crate::reach::reaches;
 use crate::runs::{cut, low_bit, run_lengths};
 use crate::words::Words;
+use match_cells::mux_cell;
 use net_index::{Builder, PassFault};
 use rtl_bits::{Copied, Seq};
 use rtl_ir::{MemPlan, WritePort};
@@ -17,7 +18,6 @@ use std::alloc::Global;
 
 /// Each run of a word through a multiplexer: from the value so far, and what the port writes.
 fn port_runs(
-    alloc: Global,
     matched: SigBit,
     runs: &[usize],
     acc: &[SigBit],
@@ -31,13 +31,14 @@ fn port_runs(
         PassesLimit (port_runs matched runs.now acc.now written.now enable.now builder.old).1 }
     ensures within { IsInLimits builder.old → OnOk result (IsInLimits builder.new) }
 {
+    let alloc = builder.allocator();
     let mut value = Seq::make(alloc);
     let (mut acc, mut written, mut enable) = (acc, written, enable);
     for count in runs {
         let select = run_select(alloc, matched, low_bit(enable), builder)?;
         let (old, old_rest) = cut(acc, *count);
         let (new, new_rest) = cut(written, *count);
-        let mux = mux_of_signals(alloc, old, new, select, builder)?;
+        let mux = mux_cell(alloc, old, new, select, builder)?;
         value.extend(mux.as_slice())?;
         acc = old_rest;
         written = new_rest;
@@ -67,7 +68,6 @@ fn port_step(
     let enable = port.enable.as_slice();
     let runs = run_lengths(alloc, enable)?;
     port_runs(
-        alloc,
         matched,
         runs.as_slice(),
         acc.as_slice(),

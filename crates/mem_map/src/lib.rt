@@ -9,10 +9,13 @@ mod runs;
 mod without;
 mod words;
 
-ghost use Rattle.std.specs.Prelude.{◌≡◌, ◌<◌, Err, IfOk, OnOk, length, nat_abs};
+ghost use Rattle.std.specs.Prelude.{◌≡◌, ◌<◌, Err, IfOk, OnOk, drop, false, length, nat_abs};
+ghost use Rattle.rtl_ir.specs.Flat.Cell.{cell_kind};
+ghost use Rattle.rtl_ir.specs.declared.cell.Cell.{Cell};
 ghost use Rattle.rtl_ir.specs.declared.ports.PortTable.{PortTable};
 ghost use Rattle.net_index.specs.Builder.{IsInLimits, PassesLimit};
-ghost use Rattle.net_model.specs.Mem.Expand.{expanded_memory, memory_step, words_made};
+ghost use Rattle.net_model.specs.Mem.Expand.{expanded_memory, is_memory_kind, memory_step, words_made};
+ghost use Rattle.net_model.specs.Within.{Each};
 ghost use Rattle.pass_laws.specs.OwnNames.{HaveOwnNames};
 ghost use Rattle.pass_laws.specs.Pass.{IsPass, KeepsInterface, StaysDriven};
 ghost use Rattle.mem_map.specs.Gathered.{IsGathered};
@@ -21,6 +24,7 @@ ghost use Rattle.mem_map.specs.Words.{words_of};
 
 use crate::chain::words_step;
 use crate::reads::reads_step;
+pub use crate::without::staying;
 use crate::without::without_memory;
 use crate::words::{Words, fixed_words, word_wires};
 use net_index::{Builder, PassFault, first_number};
@@ -34,8 +38,14 @@ use std::alloc::Global;
 /// given to a pass, so may the answer, its next memory may be expanded, and no known output bit is lost. `Over` comes
 /// where the module after the memory would pass a limit on cells, on bits of wires or on fresh names. After an error
 /// the module is given up. In the Yosys manual, the command `memory_map`.
-pub fn expand(alloc: Global, module: Module, plan: &MemPlan) -> Result<Module, PassFault>
+pub fn expand(
+    alloc: Global,
+    module: Module,
+    plan: &MemPlan,
+    count: usize,
+) -> Result<Module, PassFault>
     requires in_range { plan.now.store < length «module».memories }
+    requires first { Each (λ (c : Cell). is_memory_kind (cell_kind c) ≡ false) (drop count «module».cells) }
     ensures exact { IfOk result (λ after. after ≡ expanded_memory «module» plan.now (planned_store «module» plan.now)) }
     ensures over { result ≡ Err PassFault.Over → ExpandPassesLimit «module» plan.now }
     ensures within { OnOk result (IsInLimits (expanded «module» plan.now)) }
@@ -47,12 +57,18 @@ pub fn expand(alloc: Global, module: Module, plan: &MemPlan) -> Result<Module, P
     ensures named { IfOk result (λ after. (table : PortTable) → IsGathered table «module» plan.now →
         HaveOwnNames after) }
 {
-    replace_memory(alloc, module, plan)
+    replace_memory(alloc, module, plan, count)
 }
 
 /// Words, write chains and read trees take the place of the memory.
-fn replace_memory(alloc: Global, module: Module, plan: &MemPlan) -> Result<Module, PassFault>
+fn replace_memory(
+    alloc: Global,
+    module: Module,
+    plan: &MemPlan,
+    count: usize,
+) -> Result<Module, PassFault>
     requires in_range { plan.now.store < length «module».memories }
+    requires first { Each (λ (c : Cell). is_memory_kind (cell_kind c) ≡ false) (drop count «module».cells) }
     ensures exact { IfOk result (λ after. after ≡ expanded_memory «module» plan.now (planned_store «module» plan.now)) }
     ensures over { result ≡ Err PassFault.Over → ExpandPassesLimit «module» plan.now }
     ensures within { OnOk result (IsInLimits (expanded «module» plan.now)) }
@@ -61,7 +77,7 @@ fn replace_memory(alloc: Global, module: Module, plan: &MemPlan) -> Result<Modul
     let store = module.memories.as_slice()[at].copy()?;
     // Fresh names go on from those of the whole module, the memory's among them.
     let next = first_number(&module);
-    let rest = without_memory(alloc, at, store.name.as_slice(), module)?;
+    let rest = without_memory(alloc, at, store.name.as_slice(), module, count)?;
     let builder = Builder::numbered_from(alloc, next, rest);
     builder.check_limits()?;
     let after = memory_step(alloc, plan, &store, builder)?;

@@ -5,10 +5,10 @@ ghost use Rattle.net_index.specs.Builder.{IsInLimits, PassesLimit};
 ghost use Rattle.net_model.specs.Mem.Expand.{halves, or_unknown, read_step, read_tree, reads_step, word_at};
 ghost use Rattle.mem_map.specs.Words.{has_word, words_of};
 
-use crate::cells::mux_of_signals;
 use crate::reach::reaches;
 use crate::runs::{cut, low_bit};
 use crate::words::Words;
+use match_cells::mux_cell;
 use net_index::{Builder, PassFault};
 use rtl_bits::{Bit, Copied, Memory};
 use rtl_ir::ReadPort;
@@ -41,7 +41,7 @@ fn halves(
 {
     match (low, high) {
         (Some(a), Some(b)) => {
-            let mux = mux_of_signals(alloc, a.as_slice(), b.as_slice(), select, builder)?;
+            let mux = mux_cell(alloc, a.as_slice(), b.as_slice(), select, builder)?;
             Ok(Some(mux))
         }
         (Some(a), None) => Ok(Some(a)),

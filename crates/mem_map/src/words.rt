@@ -1,13 +1,12 @@
 //! The words of a memory, each with the signal that stands for it.
 
 ghost use Rattle.std.specs.Prelude.{◌≡◌, ◌+◌, [], ◌∷◌, Err, IfOk, OnOk, length, option_map};
-ghost use Rattle.rtl_ir.specs.Build.{fresh_wire};
 ghost use Rattle.net_index.specs.Builder.{IsInLimits, PassesLimit};
 ghost use Rattle.net_model.specs.Mem.Expand.{fixed_words, word_at, word_wires};
 ghost use Rattle.net_model.specs.Proc.Start.{init_attribute};
-ghost use Rattle.mem_map.specs.Words.{words_of};
+ghost use Rattle.mem_map.specs.Words.{word_wire, words_of};
 
-use net_index::{Builder, PassFault, whole};
+use net_index::{Builder, PassFault};
 use rtl_bits::{Bits, Copied, Memory, Seq, Text};
 use rtl_ir::{Attribute, Value};
 use rtl_sig::{SigSpec, fixed};
@@ -53,16 +52,12 @@ pub(crate) fn word_wires(
 
 /// The signal of a fresh wire with these start values.
 fn word_wire(alloc: Global, bits: &Bits, builder: &mut Builder) -> Result<SigSpec, PassFault>
-    ensures exact { IfOk result (λ signal. (signal, builder.new) ≡
-        fresh_wire (length bits.now) (init_attribute bits.now ∷ []) builder.old) }
-    ensures over { result ≡ Err PassFault.Over →
-        PassesLimit (fresh_wire (length bits.now) (init_attribute bits.now ∷ []) builder.old).1 }
+    ensures exact { IfOk result (λ signal. (signal, builder.new) ≡ word_wire bits.now builder.old) }
+    ensures over { result ≡ Err PassFault.Over → PassesLimit (word_wire bits.now builder.old).1 }
     ensures within { OnOk result (IsInLimits builder.new) }
 {
-    let width = u32::try_from(bits.as_slice().len()).map_err(|_| Memory)?;
     let attributes = init_attributes(alloc, bits)?;
-    let wire = builder.fresh_wire_with(width, attributes)?;
-    Ok(whole(alloc, wire, width)?)
+    builder.fresh_signal(bits.as_slice().len(), attributes)
 }
 
 /// The attribute `\init` of these bits alone.

@@ -1,3 +1,4 @@
 pub mod Turns
 pub mod Giving
 pub mod Renaming
+pub mod FirstCells

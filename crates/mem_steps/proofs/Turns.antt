@@ -51,7 +51,7 @@ module _ (m : Module) (plan : MemPlan) (gathers : Some plan ≡ plan_of m 0) whe
         let same : Some plan ≡ Some (gathered m 0 s) = gathers ∙ ap (λ ss. option_map (gathered m 0) (slice_get ss 0)) are in
         cc
 
-    store_is : planned_store m plan ≡ s
+    pub store_is : planned_store m plan ≡ s
     store_is = λ i. slice_index_or (are i) ((plan_is i).store) no_store
 
     building_is : expanded m plan ≡ memory_step (gathered m 0 s) s (building_without 0 s m)

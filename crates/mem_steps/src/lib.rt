@@ -1,19 +1,36 @@
 //! The pass `memory`: each memory of a module becomes words, write chains and read trees.
 #![tactic(auto)]
 
-ghost use Rattle.std.specs.Prelude.{◌≡◌, [], true, false, Err, IfOk, None, OnOk, Some, length};
+ghost use Rattle.std.specs.Prelude.{
+  ◌≡◌,
+  ◌<◌,
+  [],
+  true,
+  false,
+  Err,
+  IfOk,
+  None,
+  OnOk,
+  Some,
+  filter,
+  length,
+  slice_get,
+  take,
+};
 ghost use Rattle.rtl_ir.specs.Flat.Cell.{cell_kind};
 ghost use Rattle.rtl_ir.specs.Types.{table_ports};
 ghost use Rattle.rtl_ir.specs.declared.cell.Cell.{Cell};
+ghost use Rattle.rtl_ir.specs.declared.store.Store.{Store};
 ghost use Rattle.net_model.specs.Mem.Expand.{is_memory_kind, memory_of};
 ghost use Rattle.net_model.specs.Within.{Each};
 ghost use Rattle.pass_laws.specs.OwnNames.{HaveOwnNames};
 ghost use Rattle.pass_laws.specs.Pass.{IsPass, StaysDriven};
 ghost use Rattle.pass_laws.specs.Ready.{IsReady};
+ghost use Rattle.mem_steps.specs.Staying.{stays};
 ghost use Rattle.mem_steps.specs.Within.{are_within, memory_within};
 
-use mem_gather::gather;
-use mem_map::expand;
+use mem_gather::gather_first;
+use mem_map::{expand, staying};
 use net_index::PassFault;
 use rtl_ir::{Module, PortTable};
 use std::alloc::Global;
@@ -42,10 +59,26 @@ fn each_memory(alloc: Global, module: Module) -> Result<Module, PassFault>
     ensures over { result ≡ Err PassFault.Over → are_within (length «module».memories) «module» ≡ false }
     ensures within { OnOk result (are_within (length «module».memories) «module» ≡ true) }
 {
+    // What is made of a memory goes last, and none of it is a cell of a memory, so only these first cells are looked at.
+    let mut first = module.cells.as_slice().len();
     let mut after = module;
     while !after.memories.as_slice().is_empty() {
-        let plan = gather(alloc, &after, 0)?;
-        after = expand(alloc, after, &plan)?;
+        let plan = gather_first(alloc, &after, 0, first)?;
+        let left = staying_first(&after, first);
+        after = expand(alloc, after, &plan, first)?;
+        first = left;
     }
     Ok(after)
+}
+
+/// How many of the first `count` cells are none of the module's first memory.
+fn staying_first(module: &Module, count: usize) -> usize
+    requires some { 0 < length «module».now.memories }
+    ensures value { (s : Store) → slice_get «module».now.memories 0 ≡ Some s →
+        result ≡ length (filter (stays s) (take count «module».now.cells)) }
+{
+    let name = module.memories.as_slice()[0].name.as_slice();
+    let cells = module.cells.as_slice();
+    let first = cells.len().min(count);
+    staying(name, &cells[..first])
 }

@@ -1,61 +1,17 @@
 -- Equal clockings are one.
-use Rattle.std.proofs.Common.{◌≡◌, ℕ, suc, ◌+◌, ◌<◌, ◌≤◌, Bool, true, false, ◌&&◌, List, [], ◌∷◌, length, map, get_or, drop, refl, sym, ◌∙◌, ap, subst, add-one}
+use Rattle.std.proofs.Common.{◌≡◌, ℕ, suc, ◌+◌, ◌<◌, ◌≤◌, Bool, true, false, ◌&&◌, List, [], ◌∷◌, length, map, get_or, drop, refl, sym, ◌∙◌, ap, add-one}
 use Rattle.std.proofs.Math.Seq.{drop-cons}
-use Rattle.std.proofs.lemmas.Bool.{false≢true, and_parts, eqb-true, eq-eqb}
+use Rattle.std.proofs.lemmas.Bool.{false≢true, and_parts}
 use Rattle.std.proofs.lemmas.List.{drop_all}
-use Rattle.std.specs.Bool.{Decides, one_answer}
-use Rattle.std.specs.Cmp.Lexicographic.{pointwise_decides}
-use Rattle.rtl_bits.specs.declared.bit.Bit.{Bit}
-use Rattle.rtl_bits.specs.declared.bit.Bit.TheVariants.{S0, S1, X, Z, M, Dash}
+use Rattle.std.specs.Bool.{one_answer}
 use Rattle.rtl_sig.specs.declared.sig.SigBit.{SigBit}
-use Rattle.rtl_sig.specs.declared.sig.SigBit.TheVariants as sig
-use Rattle.rtl_sig.specs.declared.sig.WireBit.{WireBit}
-use Rattle.rtl_ir.specs.Signals.{same_bit, same_place, same_signal, same_value}
+use Rattle.rtl_ir.specs.Signals.{same_place, same_signal}
 use Rattle.rtl_ir.specs.WritePorts.{Clocking, same_clocking, same_flag}
-
-value_same : (a b : Bit) → same_value a b ≡ true → a ≡ b
-value_same S0 S0 e = refl
-value_same S1 S1 e = refl
-value_same X X e = refl
-value_same Z Z e = refl
-value_same M M e = refl
-value_same Dash Dash e = refl
-value_same a b e = absurd (false≢true e)
-
-value_own : (a : Bit) → same_value a a ≡ true
-value_own S0 = refl
-value_own S1 = refl
-value_own X = refl
-value_own Z = refl
-value_own M = refl
-value_own Dash = refl
-
-bit_same : (a b : WireBit) → same_bit a b ≡ true → a ≡ b
-bit_same a b e =
-    let p = and_parts _ _ e in
-    let wire = eqb-true a.wire b.wire p.0 in
-    let at = eqb-true a.at b.at p.1 in
-    (λ i. record { wire = wire i; at = at i })
-
-place_same : (a b : SigBit) → same_place a b ≡ true → a ≡ b
-place_same (sig.Fixed a) (sig.Fixed b) e = ap sig.Fixed (value_same a b e)
-place_same (sig.Wire a) (sig.Wire b) e = ap sig.Wire (bit_same a b e)
-place_same (sig.Fixed a) (sig.Wire b) e = absurd (false≢true e)
-place_same (sig.Wire a) (sig.Fixed b) e = absurd (false≢true e)
-
-place_own : (a : SigBit) → same_place a a ≡ true
-place_own (sig.Fixed a) = value_own a
-place_own (sig.Wire a) = rw (eq-eqb a.wire a.wire refl, eq-eqb a.at a.at refl) refl
-
-place-decides : (a b : SigBit) → Decides (same_place a b) (a ≡ b)
-place-decides a b = (place_same a b, λ e. subst (λ c. same_place a c ≡ true) e (place_own a))
+use Rattle.rtl_ir.proofs.SamePlaces.{place-decides, signal-decides}
 
 -- a comparison of places is the test of the definition
 pub place_is : (same : Bool) (a b : SigBit) → (same ≡ true → a ≡ b) → (a ≡ b → same ≡ true) → same ≡ same_place a b
 place_is same a b equal complete = one_answer same (same_place a b) (equal, complete) (place-decides a b)
-
-signal-decides : (a b : List SigBit) → Decides (same_signal a b) (a ≡ b)
-signal-decides = pointwise_decides place-decides
 
 flag_same : (a b : Bool) → same_flag a b ≡ true → a ≡ b
 flag_same true true e = refl

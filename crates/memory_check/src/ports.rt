@@ -26,7 +26,7 @@ ghost use Rattle.rtl_ir.specs.declared.store.Store.{Store};
 ghost use Rattle.rtl_ir.specs.Faults.MemoryCells as cells;
 ghost use Rattle.rtl_ir.specs.WritePorts as rtl;
 ghost use Rattle.memory_check.specs.Clocks.{AreClocks, followed};
-ghost use Rattle.memory_check.specs.Ports.{Agree, HasCells, HasLines, is_bad_line_behind, line_of, unlike, with_cell};
+ghost use Rattle.memory_check.specs.Ports.{HasCells, HasLines, is_bad_line_behind, line_of, unlike, with_cell};
 ghost use Rattle.memory_check.specs.Shapes.{HasShape};
 
 use crate::clocks::{Clocking, Clocks};

@@ -19,7 +19,7 @@ use Rattle.net_model.specs.Mem.Expand.{low_bit, mux_of_signals, port_runs, run_l
 use Rattle.build_laws.proofs.Growing.{Grows, grows_both, grows_none, met_before}
 use Rattle.build_laws.proofs.Moments.{AreMet, Moment, seen}
 use Rattle.memory_laws.proofs.PortCells.{at, at_drop, at_get, at_left, at_right, at_take, mux_at, mux_grows, select_grows, select_stands, whole_long}
-use Rattle.pass_laws.proofs.SamePlaces.{place_is}
+use Rattle.rtl_ir.proofs.SamePlaces.{place_is}
 
 -- runs of equal bits that fill a signal
 abbrev pub AreRuns : List ℕ → List SigBit → Type 0

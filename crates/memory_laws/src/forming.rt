@@ -56,7 +56,8 @@ pub fn words_fit()
         (l : Link) → In l (expanded_memory m (gathered m at s) s).links → In l m.links ⊎ IsEven l }
 {}
 
-/// The same of all memories, one after another. No memory is left, and no cell of one.
+/// A module stays in form where all its memories become words, one after another. No memory is left, and no cell of
+/// one.
 pub fn memories_fit()
     ensures same_id { (ports : Ports) (m : Module) →
         IsReady ports m → HaveOwnNames m → AreShort (length m.memories) m →

@@ -23,7 +23,7 @@ use Rattle.mux_laws.proofs.TreePlaces.{Asked}
 use Rattle.build_laws.proofs.CellValues.{mux_gives}
 use Rattle.build_laws.proofs.Moments.{AreMet, Moment, Stands, met_last, seen, stands_at, stands_long, stands_two, wire_stands}
 use Rattle.build_laws.proofs.Orders.{chosen_both, chosen_mux}
-use Rattle.pass_laws.proofs.SamePlaces.{signal_is}
+use Rattle.rtl_ir.proofs.SamePlaces.{signal_is}
 
 case_is : (a b : List ℕ) → same_case a b ≡ true → a ≡ b
 case_is a b e = (slice_eq-Decides Decides-eqb a b (same_case a b) refl).0 e

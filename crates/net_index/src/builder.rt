@@ -6,7 +6,7 @@ ghost use Rattle.net_index.specs.Builder.{HasRoom, IsInLimits, PassesLimit, buil
 ghost use Rattle.net_index.specs.BuilderNames.{name_of};
 
 use crate::builder_fault::PassFault;
-use crate::builder_items::{copied_pins, new_cell, new_wire, put_driver, with_output};
+use crate::builder_items::{copied_pins, new_cell, new_wire, put_driver, whole, with_output};
 use crate::fresh::first_number;
 use crate::limits::count_bits;
 use cell_types::{CellKind, Param};
@@ -68,6 +68,11 @@ impl Builder {
         }
     }
 
+    /// The allocator that the builder keeps. No clause speaks of it, since it is no part of what is built.
+    pub fn allocator(&self) -> Global {
+        self.alloc
+    }
+
     /// `Over` where the module is past a limit on cells, on bits of wires or on fresh names as it is.
     pub fn check_limits(&self) -> Result<(), PassFault>
         ensures over { result ≡ Err PassFault.Over → PassesLimit self.now }
@@ -125,6 +130,21 @@ impl Builder {
         self.next += 1;
         self.bits += u128::from(width);
         Ok(place)
+    }
+
+    /// A fresh wire with attributes, as the signal of all its bits. A width of 2^32 or more is answered with `Memory`.
+    pub fn fresh_signal(
+        &mut self,
+        width: usize,
+        attributes: Seq<Attribute>,
+    ) -> Result<SigSpec, PassFault>
+        ensures exact { IfOk result (λ signal. (signal, self.new) ≡ fresh_wire width attributes self.old) }
+        ensures over { result ≡ Err PassFault.Over → PassesLimit (fresh_wire width attributes self.old).1 }
+        ensures within { OnOk result (IsInLimits self.new) }
+    {
+        let bits = u32::try_from(width).map_err(|_| Memory)?;
+        let wire = self.fresh_wire_with(bits, attributes)?;
+        Ok(whole(self.alloc, wire, bits)?)
     }
 
     /// A cell of this kind goes last, under the next fresh name. The answer is its place in the list of

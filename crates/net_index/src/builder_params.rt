@@ -1,6 +1,6 @@
 //! How the parameters of new cells are written.
 
-ghost use Rattle.std.specs.Prelude.{◌≡◌, ◌≤◌, IfOk, length, map};
+ghost use Rattle.std.specs.Prelude.{◌≡◌, ◌≤◌, IfOk, length};
 ghost use Rattle.rtl_bits.specs.Numbers.{number_of};
 ghost use Rattle.net_index.specs.Builder.{chars_of, new_param, new_params, is_value, new_value, number_value};
 

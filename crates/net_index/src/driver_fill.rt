@@ -53,6 +53,20 @@ pub(crate) fn drivers_of(
     Ok(drivers)
 }
 
+/// The first place of a cell that drives each bit, whatever else drives it.
+pub fn cell_drivers(
+    alloc: Global,
+    module: &Module,
+    types: &Types,
+) -> Result<BitTable<Driver>, Memory>
+    ensures value { IfOk result (λ table. (ports : rtl.Ports) → AreTypes types.now ports →
+        HasDrivers table (cell_drives ports 0 «module».now.cells)) }
+{
+    let mut drivers = BitTable::of(alloc, module.wires.as_slice())?;
+    add_cells(&mut drivers, types, module.cells.as_slice())?;
+    Ok(drivers)
+}
+
 /// The bits of the input ports are driven from outside.
 fn add_ports(drivers: &mut BitTable<Driver>, wires: &[Wire]) -> Result<(), Memory>
     ensures ok { OnOk result (Adds drivers.old (port_drives 0 wires.now) drivers.new) }

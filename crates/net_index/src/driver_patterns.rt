@@ -3,7 +3,6 @@
 ghost use Rattle.std.specs.Prelude.{◌≡◌, zip};
 ghost use Rattle.std.specs.List.{list_all};
 ghost use Rattle.rtl_ir.specs.SwitchRules as rules;
-ghost use Rattle.rtl_ir.specs.Signals as signals;
 
 use rtl_bits::Bit;
 use rtl_sig::SigBit;

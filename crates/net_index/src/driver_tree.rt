@@ -1,10 +1,8 @@
 //! The bits that the trees and the rules of processes name. In the Yosys manual, "The RTL Intermediate Language
 //! (RTLIL)", the section "RTLIL::Process".
 
-ghost use Rattle.std.specs.Prelude.{◌≡◌, [], ◌++◌, ◌&&◌, not, IfOk, OnOk, flat_map};
-ghost use Rattle.rtl_ir.specs.Assigns.{case_assigns, cases_assigns, left_bits, switches_assigns};
-ghost use Rattle.rtl_ir.specs.Rules.{has_line, is_init};
-ghost use Rattle.rtl_ir.specs.Signals.{wire_bits};
+ghost use Rattle.std.specs.Prelude.{◌≡◌, [], ◌++◌, IfOk, OnOk};
+ghost use Rattle.rtl_ir.specs.Assigns.{cases_assigns, left_bits, named_bits, switches_assigns};
 ghost use Rattle.rtl_ir.specs.SwitchRules.{cases_by_rules, root_by_rules, switches_by_rules};
 ghost use Rattle.net_index.specs.DriverTree.{rule_lefts};
 
@@ -16,7 +14,7 @@ use std::alloc::Global;
 
 /// The bits that the assigns of a tree name, those of cases that never act left out.
 pub fn assigned_bits(alloc: Global, root: &Case) -> Result<Vec<WireBit>, Memory>
-    ensures value { IfOk result (λ bits. bits.items ≡ left_bits (case_assigns (root_by_rules root.now))) }
+    ensures value { IfOk result (λ bits. bits.items ≡ named_bits (root_by_rules root.now)) }
 {
     let mut bits = Vec::new(alloc);
     put_case(alloc, &mut bits, root)?;

@@ -1,6 +1,6 @@
 //! Fresh names, and the first number that none of a module's names has.
 
-ghost use Rattle.std.specs.Prelude.{◌≡◌, ◌≤◌, ◌<◌, ◌++◌, IfOk, map, max, length, true};
+ghost use Rattle.std.specs.Prelude.{◌≡◌, ◌≤◌, ◌<◌, IfOk, max, length, true};
 ghost use Rattle.std.specs.List.{list_all};
 ghost use Rattle.rtl_ir.specs.Build.{digits_number, first_number, is_digit, is_made_number, made_name, made_number};
 

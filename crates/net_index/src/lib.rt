@@ -31,6 +31,7 @@ pub use builder_fault::PassFault;
 pub use builder_given::{length_param, memory_param, number_param, value_param};
 pub use builder_items::whole;
 pub use driver::{CellPin, Driver};
+pub use driver_fill::cell_drivers;
 pub use driver_patterns::always_matches;
 pub use driver_rules::{is_dropped, match_every_value};
 pub use driver_tree::assigned_bits;

@@ -1,6 +1,6 @@
 //! Which pins a cell drives.
 
-ghost use Rattle.std.specs.Prelude.{◌≡◌, option_map};
+ghost use Rattle.std.specs.Prelude.{◌≡◌};
 ghost use Rattle.rtl_ir.specs.Outputs.{drives_pin, is_output, output_pin};
 ghost use Rattle.rtl_ir.specs.Types as rtl;
 ghost use Rattle.net_index.specs.Types.{IsType};

@@ -1,6 +1,6 @@
 //! The readers of the bits of a module, in one list.
 
-ghost use Rattle.std.specs.Prelude.{◌≡◌, IfOk, OnOk};
+ghost use Rattle.std.specs.Prelude.{IfOk, OnOk};
 ghost use Rattle.rtl_ir.specs.Types as rtl;
 ghost use Rattle.net_index.specs.ReaderFill.{Adds, HasReaders, reader_of, reads_of_pin};
 ghost use Rattle.net_index.specs.Readers.{cell_readers, cell_reads, pin_reads, places_read, readers_of};

@@ -1,6 +1,6 @@
 //! What the type of a cell names.
 
-ghost use Rattle.std.specs.Prelude.{◌≡◌, List, IfOk, IfSome};
+ghost use Rattle.std.specs.Prelude.{IfOk};
 ghost use Rattle.rtl_ir.specs.declared.module.Module.{Module};
 ghost use Rattle.rtl_ir.specs.Ports.{is_port};
 ghost use Rattle.rtl_ir.specs.Types.{Ports, cell_type, design_ports, port_lines, table_ports};

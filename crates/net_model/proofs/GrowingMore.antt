@@ -33,7 +33,7 @@ use Rattle.rtl_ir.specs.Flat.Memory.{init_cells, start_word_bit, may_follow, por
 use Rattle.rtl_ir.specs.Flat.Pick.{pick_of, no_test}
 use Rattle.rtl_ir.specs.Flat.Place.{Path, word_place}
 use Rattle.rtl_ir.specs.Flat.Point.{At as AtPlace, bit_place, point_at}
-use Rattle.rtl_ir.specs.Flat.Process.{no_modules, rule_shape, no_pins, level_after, Trigger, edge_trigger, level_trigger, may_hold, event_point, edge_row, level_row, loaded_row, loaded_rows, always_row, raced_row, raced_rows, one_rule_rows, two_rules_rows, rules_rows, process_rows, processes_rows}
+use Rattle.rtl_ir.specs.Flat.Process.{no_modules, rule_shape, no_pins, level_after, Trigger, edge_trigger, level_trigger, may_hold, event_point, edge_row, level_row, loaded_row, loaded_rows, always_row, raced_row, raced_rows, one_rule_rows, two_rules_rows, rules_rows, process_rows, processes_rows, pair_by}
 use Rattle.rtl_ir.specs.Flat.Rows.{rows_of}
 use Rattle.rtl_ir.specs.Flat.Start.{start_of}
 use Rattle.rtl_ir.specs.Follow.{all_joins, source_at}
@@ -154,7 +154,7 @@ module _ (processes : List Process) (p : Path) (ws fs : List Wire) where
     one_more root bits updates (Edge signal) h g e = refl
     one_more root bits updates Init h g e = refl
 
-    two_more : (root : CaseView) (bits : List WireBit) (a b : SyncRule) (e e' l l' : Option Trigger) → RootIn (length ws) root → RuleIn (length ws) a → RuleIn (length ws) b → TriggerIn e → TriggerIn e' → TriggerIn l → TriggerIn l' → two_rules_rows (start_of (ws ++ fs) processes) p (ws ++ fs) m root bits a b e e' l l' ≡ two_rules_rows (start_of ws processes) p ws m' root bits a b e e' l l'
+    two_more : (root : CaseView) (bits : List WireBit) (a b : SyncRule) (e e' l l' : Option Trigger) → RootIn (length ws) root → RuleIn (length ws) a → RuleIn (length ws) b → TriggerIn e → TriggerIn e' → TriggerIn l → TriggerIn l' → two_rules_rows (start_of (ws ++ fs) processes) p (ws ++ fs) m root bits (pair_by a b e e' l l') ≡ two_rules_rows (start_of ws processes) p ws m' root bits (pair_by a b e e' l l')
     two_more root bits a b (Some e) edge level (Some l) h f g te te' tl tl' =
         loaded_rows_more e (all_joins a.updates) l (all_joins b.updates) te tl' (all_joins_in (length ws) a.updates f.updates) (all_joins_in (length ws) b.updates g.updates)
     two_more root bits a b edge (Some e) (Some l) level h f g te te' tl tl' =

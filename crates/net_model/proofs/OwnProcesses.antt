@@ -20,7 +20,7 @@ use Rattle.rtl_ir.specs.Flat.Driver.{Held, Joined}
 use Rattle.rtl_ir.specs.Flat.Pick.{Pick, where_of, pick_of, picks_of, no_test, pick_points}
 use Rattle.rtl_ir.specs.Flat.Place.{Path}
 use Rattle.rtl_ir.specs.Flat.Point.{point, points, bit_place}
-use Rattle.rtl_ir.specs.Flat.Process.{no_modules, Trigger, edge_trigger, level_trigger, may_hold, event_point, global_rows, edge_row, level_row, loaded_row, loaded_rows, always_row, raced_row, raced_rows, one_rule_rows, two_rules_rows, rules_rows, process_rows, processes_rows}
+use Rattle.rtl_ir.specs.Flat.Process.{no_modules, Trigger, edge_trigger, level_trigger, may_hold, event_point, global_rows, edge_row, level_row, loaded_row, loaded_rows, always_row, raced_row, raced_rows, one_rule_rows, two_rules_rows, rules_rows, process_rows, processes_rows, pair_by}
 use Rattle.rtl_ir.specs.Flat.Reads.{read_points}
 use Rattle.rtl_ir.specs.Follow.{all_joins, source_at}
 use Rattle.rtl_ir.specs.declared.follow.Join.{Join}
@@ -111,7 +111,7 @@ module _ (start : SigBit → Bit) (p : Path) (wires : List Wire) where
   one_own root bits updates (Edge signal) = λ x i. absurd i
   one_own root bits updates Init = λ x i. absurd i
 
-  two_own : (m : Module) (root : CaseView) (bits : List WireBit) (a b : SyncRule) (e e' l l' : Option Trigger) → AreOwnRows p (two_rules_rows start p wires m root bits a b e e' l l')
+  two_own : (m : Module) (root : CaseView) (bits : List WireBit) (a b : SyncRule) (e e' l l' : Option Trigger) → AreOwnRows p (two_rules_rows start p wires m root bits (pair_by a b e e' l l'))
   two_own m root bits a b (Some e) edge level (Some l) = loaded_rows_own e (all_joins a.updates) l (all_joins b.updates)
   two_own m root bits a b edge (Some e) (Some l) level = loaded_rows_own e (all_joins b.updates) l (all_joins a.updates)
   two_own m root bits a b edge edge' level level' =

@@ -19,7 +19,7 @@ use Rattle.rtl_ir.specs.declared.wire.Wire.{Wire}
 use Rattle.rtl_ir.specs.Drivers.{drive_count, drives_of, is_input, port_drives}
 use Rattle.rtl_ir.specs.Faults.Processes.{process_faults}
 use Rattle.rtl_ir.specs.Flat.Cell as flat
-use Rattle.rtl_ir.specs.Flat.Cell.{cells_rows, instances}
+use Rattle.rtl_ir.specs.Flat.Cell.{instances}
 use Rattle.rtl_ir.specs.Flat.Place.{Frame, OfWire, Path}
 use Rattle.rtl_ir.specs.Flat.Point.{At, name_or_empty, point}
 use Rattle.rtl_ir.specs.Flat.Rows.{plain_rows, rows_of}

@@ -6,7 +6,7 @@ ghost use Rattle.rtl_ir.specs.Follow.{follow};
 ghost use Rattle.rtl_ir.specs.Types as rtl;
 ghost use Rattle.net_index.specs.Drivers.{AreDrivers};
 ghost use Rattle.net_index.specs.Types.{AreTypes, IsType};
-ghost use Rattle.follow_laws.specs.Inputs.{followed_at, followed_cell, followed_pin};
+ghost use Rattle.follow_laws.specs.Inputs.{followed_cell, followed_pin};
 
 use net_index::{CellType, Drivers, Types, drives_pin};
 use rtl_bits::{Copied, Memory, Seq};

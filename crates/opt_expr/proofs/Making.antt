@@ -4,7 +4,7 @@ use Rattle.std.specs.Prelude.{◌&&◌, ◌==◌, ◌-◌, ◌+◌, ◌*◌, ◌
 use Rattle.std.proofs.lemmas.Bool.{and_parts, eqb-true}
 use Rattle.std.specs.List.{list_all, range_with_len}
 use Rattle.rtl_bits.specs.Knowledge.{all_known}
-use Rattle.rtl_ir.specs.Signals.{is_all_constant}
+use Rattle.rtl_ir.specs.Signals.{is_all_constant, same_signal}
 use Rattle.std.specs.Option.{option_map, option_map_or}
 use Rattle.rtl_bits.specs.declared.bit.Bit.{Bit}
 use Rattle.rtl_bits.specs.declared.bit.Bit.TheVariants.{S0, S1, X}
@@ -29,7 +29,7 @@ use Rattle.cell_word.specs.Values.{both_signed}
 use Rattle.net_model.proofs.Members.{In-cases}
 use Rattle.net_model.specs.Lists.{In}
 use Rattle.net_model.specs.Within.{Each}
-use Rattle.expr_rules.proofs.Sameness.{same_word_is}
+use Rattle.rtl_ir.proofs.SamePlaces.{signal_is}
 use Rattle.expr_rules.specs.Change.{chooser, chooser_kind, first_some, fitted, inverter, inverter_kind, when}
 use Rattle.expr_rules.specs.Operands.{counted_as}
 use Rattle.expr_rules.specs.Rules.{change_of, first_of, result_as, result_by, result_of, result_of_gate, rules_in_order}
@@ -42,7 +42,7 @@ use Rattle.expr_rules.specs.Rules.Mux.{arm_bit, arm_of, equal_arms, equal_words,
 use Rattle.expr_rules.specs.Rules.Parts.{known_part, known_place, number_in}
 use Rattle.expr_rules.specs.Rules.Shift.{known_shift, moved_signal, signal_at, signal_from}
 use Rattle.expr_rules.specs.Rules.Wiring.{buffer, wiring}
-use Rattle.expr_rules.specs.Signals.{filled, first_bit, constants_of, is_bit, is_known_constant, is_one, is_unknown_constant, is_zero, part_of, same_word}
+use Rattle.expr_rules.specs.Signals.{filled, first_bit, constants_of, is_bit, is_known_constant, is_one, is_unknown_constant, is_zero, part_of}
 use Rattle.expr_rules.specs.declared.change.Change.{Change}
 use Rattle.expr_rules.specs.declared.change.Change.TheVariants.{Gives, Becomes}
 use Rattle.expr_rules.specs.declared.change.NewCell.{NewCell}
@@ -117,7 +117,7 @@ pub data IsShaped (shape : Shape) (c : NewCell) : Type 0 where
 
 -- a word of one constant has one bit
 one_long : (b : Bit) (word : List SigBit) → is_bit b word ≡ true → length word ≡ 1
-one_long b word e = ap length (same_word_is word (Fixed b ∷ []) e)
+one_long b word e = ap length (signal_is word (Fixed b ∷ []) e)
 
 -- what is there where a test holds
 when_held : {A : Type 0} (t : Bool) (x y : A) → when t x ≡ Some y → (t ≡ true) × (x ≡ y)
@@ -213,7 +213,7 @@ module _ (P : SigBit → Type 0) (fixed : (c : Bit) → P (Fixed c)) (shape : Sh
     known_select_made kind = tt
 
     equal_arms_made : (kind : WordKind) → IfMade (equal_arms kind o)
-    equal_arms_made Word.Mux = when_made (same_word o.a o.b) (Gives o.a) (λ e. a)
+    equal_arms_made Word.Mux = when_made (same_signal o.a o.b) (Gives o.a) (λ e. a)
     equal_arms_made kind = tt
 
     unknown_arm_made : (kind : WordKind) → IfMade (unknown_arm kind o)
@@ -246,13 +246,13 @@ module _ (P : SigBit → Type 0) (fixed : (c : Bit) → P (Fixed c)) (shape : Sh
     or_with_zeros_made kind = tt
 
     equal_operands_made : (kind : WordKind) → IfMade (equal_operands kind o)
-    equal_operands_made (Word.Bitwise Bits.And) = when_made (same_word o.left o.right) (Gives o.left) (λ e. left)
-    equal_operands_made (Word.Bitwise Bits.Or) = when_made (same_word o.left o.right) (Gives o.left) (λ e. left)
+    equal_operands_made (Word.Bitwise Bits.And) = when_made (same_signal o.left o.right) (Gives o.left) (λ e. left)
+    equal_operands_made (Word.Bitwise Bits.Or) = when_made (same_signal o.left o.right) (Gives o.left) (λ e. left)
     equal_operands_made kind = tt
 
     equal_parity_made : (kind : WordKind) → IfMade (equal_parity kind shape o)
-    equal_parity_made (Word.Bitwise Bits.Xor) = when_made (same_word o.left o.right) (Gives (filled shape.widths.y S0)) (λ e. all_zeros)
-    equal_parity_made (Word.Bitwise Bits.Xnor) = when_made (same_word o.left o.right) (Gives (filled shape.widths.y S1)) (λ e. each_filled P fixed shape.widths.y (Fixed S1) (fixed S1))
+    equal_parity_made (Word.Bitwise Bits.Xor) = when_made (same_signal o.left o.right) (Gives (filled shape.widths.y S0)) (λ e. all_zeros)
+    equal_parity_made (Word.Bitwise Bits.Xnor) = when_made (same_signal o.left o.right) (Gives (filled shape.widths.y S1)) (λ e. each_filled P fixed shape.widths.y (Fixed S1) (fixed S1))
     equal_parity_made kind = tt
 
     xor_with_ones_made : (kind : WordKind) → AreWide kind shape o → IfMade (xor_with_ones kind shape.kind o)
@@ -277,7 +277,7 @@ module _ (P : SigBit → Type 0) (fixed : (c : Bit) → P (Fixed c)) (shape : Sh
     add_zero_made kind = tt
 
     equal_difference_made : (kind : WordKind) → IfMade (equal_difference kind shape o)
-    equal_difference_made (Word.Arith Ariths.Sub) = when_made (same_word o.left o.right) (Gives (filled shape.widths.y S0)) (λ e. all_zeros)
+    equal_difference_made (Word.Arith Ariths.Sub) = when_made (same_signal o.left o.right) (Gives (filled shape.widths.y S0)) (λ e. all_zeros)
     equal_difference_made kind = tt
 
     times_made : (factor : List SigBit) (power : Option ℕ) (other : List SigBit) → Each P other → IfMade (times_small shape factor power other)
@@ -344,8 +344,8 @@ module _ (P : SigBit → Type 0) (fixed : (c : Bit) → P (Fixed c)) (shape : Sh
 
     compare_made : (kind : WordKind) → IfMade (compare kind shape.kind shape o)
     compare_made (Word.Equal kind) =
-        if_made (same_word o.left o.right) (Some (Gives (Fixed (passing kind) ∷ []))) (one_bit_compare kind shape.kind shape o) (λ e. each_fixed P fixed (passing kind ∷ [])) (λ e. one_bit_compare_made kind)
-    compare_made (Word.Order kind) = when_made (same_word o.left o.right) (Gives (Fixed (of_equals kind) ∷ [])) (λ e. each_fixed P fixed (of_equals kind ∷ []))
+        if_made (same_signal o.left o.right) (Some (Gives (Fixed (passing kind) ∷ []))) (one_bit_compare kind shape.kind shape o) (λ e. each_fixed P fixed (passing kind ∷ [])) (λ e. one_bit_compare_made kind)
+    compare_made (Word.Order kind) = when_made (same_signal o.left o.right) (Gives (Fixed (of_equals kind) ∷ [])) (λ e. each_fixed P fixed (of_equals kind ∷ []))
     compare_made kind = tt
 
     fold_inverse_made : IfMade (when ((length o.a == 1) && (shape.widths.y == 1)) (inverter shape.kind o.a))
@@ -381,7 +381,7 @@ module _ (P : SigBit → Type 0) (fixed : (c : Bit) → P (Fixed c)) (shape : Sh
     known_selects_made kind = tt
 
     equal_words_made : (kind : WordKind) → IfMade (equal_words kind o)
-    equal_words_made Word.Bwmux = when_made (same_word o.a o.b) (Gives o.a) (λ e. a)
+    equal_words_made Word.Bwmux = when_made (same_signal o.a o.b) (Gives o.a) (λ e. a)
     equal_words_made kind = tt
 
     known_part_made : (kind : WordKind) → IfMade (known_part kind shape o)

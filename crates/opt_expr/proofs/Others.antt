@@ -13,8 +13,8 @@ use Rattle.rtl_ir.specs.Parameters.{signal_at}
 use Rattle.rtl_ir.specs.declared.cell.Cell.{Cell}
 use Rattle.net_model.proofs.Members.{In-right}
 use Rattle.net_model.specs.Lists.{In}
-use Rattle.expr_rules.proofs.Sameness.{same_word_is}
-use Rattle.expr_rules.specs.Signals.{same_word}
+use Rattle.rtl_ir.proofs.SamePlaces.{signal_is}
+use Rattle.rtl_ir.specs.Signals.{same_signal}
 use Rattle.opt_expr.specs.Inverters.{input_at, input_of, inverted, inverted_bit, inverts}
 use Rattle.opt_expr.specs.Places.{other_at, others, place_of}
 
@@ -39,16 +39,16 @@ pub record IsInverter (logic : Bool) (e : Cell) (word input : List SigBit) : Typ
 
 inverter_is : (logic : Bool) (e : Cell) (word input : List SigBit) → input_of logic e word ≡ Some input → IsInverter logic e word input
 inverter_is logic e word input h =
-    by (inverts logic (cell_kind e) && (same_word (signal_at e.pins (pin_text Y)) word && (length (signal_at e.pins (pin_text A)) == length word))) refl h
+    by (inverts logic (cell_kind e) && (same_signal (signal_at e.pins (pin_text Y)) word && (length (signal_at e.pins (pin_text A)) == length word))) refl h
   where
-    by : (t : Bool) → (inverts logic (cell_kind e) && (same_word (signal_at e.pins (pin_text Y)) word && (length (signal_at e.pins (pin_text A)) == length word))) ≡ t → (if t then Some (signal_at e.pins (pin_text A)) else None) ≡ Some input → IsInverter logic e word input
+    by : (t : Bool) → (inverts logic (cell_kind e) && (same_signal (signal_at e.pins (pin_text Y)) word && (length (signal_at e.pins (pin_text A)) == length word))) ≡ t → (if t then Some (signal_at e.pins (pin_text A)) else None) ≡ Some input → IsInverter logic e word input
     by false f g = absurd (cc)
     by true f g =
-        let one = and_parts (inverts logic (cell_kind e)) (same_word (signal_at e.pins (pin_text Y)) word && (length (signal_at e.pins (pin_text A)) == length word)) f in
-        let two = and_parts (same_word (signal_at e.pins (pin_text Y)) word) (length (signal_at e.pins (pin_text A)) == length word) one.1 in
+        let one = and_parts (inverts logic (cell_kind e)) (same_signal (signal_at e.pins (pin_text Y)) word && (length (signal_at e.pins (pin_text A)) == length word)) f in
+        let two = and_parts (same_signal (signal_at e.pins (pin_text Y)) word) (length (signal_at e.pins (pin_text A)) == length word) one.1 in
         record {
           kind = one.0;
-          whole = same_word_is (signal_at e.pins (pin_text Y)) word two.0;
+          whole = signal_is (signal_at e.pins (pin_text Y)) word two.0;
           wide = eqb-true (length (signal_at e.pins (pin_text A))) (length word) two.1;
           reads = (let same : signal_at e.pins (pin_text A) ≡ input = cc in same);
         }

@@ -15,7 +15,7 @@ use Rattle.cell_types.specs.PinName.{pin_text}
 use Rattle.rtl_ir.specs.declared.cell.Cell.{Cell}
 use Rattle.rtl_ir.specs.Flat.Cell.{cell_kind}
 use Rattle.rtl_ir.specs.Parameters.{signal_at}
-use Rattle.expr_rules.specs.Signals.{same_word}
+use Rattle.rtl_ir.specs.Signals.{same_signal}
 use Rattle.opt_expr.specs.Places.{other_at, place_of}
 
 -- a kind that inverts each bit; of one bit so does `$logic_not`, where it counts
@@ -29,7 +29,7 @@ inverts logic kind = false
 abbrev pub input_of : (logic : Bool) → Cell → List SigBit → Option (List SigBit)
 input_of logic c word =
     if inverts logic (cell_kind c)
-    && (same_word (signal_at c.pins (pin_text Y)) word && (length (signal_at c.pins (pin_text A)) == length word))
+    && (same_signal (signal_at c.pins (pin_text Y)) word && (length (signal_at c.pins (pin_text A)) == length word))
     then Some (signal_at c.pins (pin_text A))
     else None
 

@@ -1,7 +1,6 @@
 //! Cells as rules form them anew.
 
-ghost use Rattle.std.specs.Prelude.{◌≡◌, ◌<◌, ◌^◌, [], IfOk};
-ghost use Rattle.net_index.specs.BuilderNames.{name_of};
+ghost use Rattle.std.specs.Prelude.{◌≡◌, ◌<◌, IfOk};
 ghost use Rattle.opt_expr.specs.Formed.{formed, number, params_for, pin, pins_for};
 
 use cell_types::{CellKind, GateKind, ParamName, PinName, WordKind};

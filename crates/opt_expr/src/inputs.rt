@@ -1,13 +1,13 @@
 //! Cells with their inputs followed through the connections.
 
-ghost use Rattle.std.specs.Prelude.{◌≡◌, true, List, IfOk, OnOk, map};
+ghost use Rattle.std.specs.Prelude.{◌≡◌, true, List, IfOk, map};
 ghost use Rattle.rtl_sig.specs.declared.sig.SigBit.{SigBit};
 ghost use Rattle.rtl_ir.specs.Follow.{follow};
 ghost use Rattle.rtl_ir.specs.Types as rtl;
 ghost use Rattle.rtl_ir.specs.declared.module.Link.{Link};
 ghost use Rattle.net_index.specs.Types.{AreTypes, IsType};
 ghost use Rattle.net_alias.specs.Aliases.{IsAliases};
-ghost use Rattle.follow_laws.specs.Inputs.{followed_at, followed_cell, followed_pin};
+ghost use Rattle.follow_laws.specs.Inputs.{followed_cell, followed_pin};
 
 use net_alias::Aliases;
 use net_index::{CellType, Types, drives_pin};
@@ -18,13 +18,13 @@ use std::alloc::Global;
 
 /// A cell whose input bits are followed, and whether that is the cell itself.
 #[derive(Drop)]
-pub(crate) struct Followed {
-    pub(crate) cell: Cell,
-    pub(crate) is_same: bool,
+pub struct Followed {
+    pub cell: Cell,
+    pub is_same: bool,
 }
 
 /// The cell with its input bits followed. All but its pins moves.
-pub(crate) fn followed_cell(
+pub fn followed_cell(
     alloc: Global,
     types: &Types,
     aliases: &mut Aliases,
@@ -85,7 +85,7 @@ fn followed_pin(
 }
 
 /// The signal with each of its bits followed.
-fn followed_signal(
+pub fn followed_signal(
     alloc: Global,
     aliases: &mut Aliases,
     signal: &[SigBit],

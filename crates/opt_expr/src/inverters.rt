@@ -1,19 +1,18 @@
 //! Cells that invert a word, bit by bit.
 
-ghost use Rattle.std.specs.Prelude.{◌≡◌, List, IfOk, length, option_map, slice_index_or};
+ghost use Rattle.std.specs.Prelude.{◌≡◌, List, IfOk, option_map, slice_index_or};
 ghost use Rattle.rtl_bits.specs.declared.bit.Bit.TheVariants.{X};
 ghost use Rattle.rtl_sig.specs.declared.sig.SigBit.TheVariants.{Fixed};
 ghost use Rattle.rtl_ir.specs.Flat.Cell.{cell_kind};
-ghost use Rattle.expr_rules.specs.Signals.{same_word};
+ghost use Rattle.rtl_ir.specs.Signals.{same_signal};
 ghost use Rattle.rtl_ir.specs.declared.cell.Cell.{Cell};
 ghost use Rattle.opt_expr.specs.Inverters.{input_at, input_of, inverted, inverted_bit, inverts};
 ghost use Rattle.opt_expr.specs.Places.{ArePlaces, other_at};
 
 use crate::places::{Places, place_of};
 use cell_types::{CellKind, FoldKind, GateKind, PinName, UnaryKind, WordKind, kind_of};
-use expr_rules::same_word;
 use rtl_bits::{Bit, Memory};
-use rtl_ir::{Cell, signal_at};
+use rtl_ir::{Cell, same_signal, signal_at};
 use rtl_sig::{SigBit, SigSpec};
 use std::alloc::Global;
 use std::collections::VecDeque;
@@ -108,7 +107,7 @@ fn input_of(
     let pins = cell.pins.as_slice();
     let input = signal_at(pins, PinName::A.text());
     if is_inverter(cell, logic)
-        && same_word(signal_at(pins, PinName::Y.text()), word)
+        && same_signal(signal_at(pins, PinName::Y.text()), word)
         && input.len() == word.len()
     {
         return Ok(Some(SigSpec::from_slice(alloc, input)?));

@@ -15,9 +15,12 @@ ghost use Rattle.pass_laws.specs.Ready.{IsReady};
 ghost use Rattle.opt_expr.specs.Sweep.{expr_of};
 
 use crate::sweep::sweep;
+pub use inputs::{Followed, followed_cell, followed_signal};
+pub use places::{Places, place_of, places_of};
 use rtl_bits::{Copied, Memory};
 use rtl_ir::{Module, PortTable};
 use std::alloc::Global;
+pub use sweep::standing;
 
 /// What the pass makes of a module, and whether that is the module itself.
 #[derive(Drop)]

@@ -17,10 +17,10 @@ use std::alloc::Global;
 use std::collections::HashMap;
 
 /// The places of cells in their list, each by the bit that its output begins with.
-pub(crate) type Places = HashMap<WireBit, usize>;
+pub type Places = HashMap<WireBit, usize>;
 
 /// The places of the combinational cells among these. Of two whose outputs begin alike the first counts.
-pub(crate) fn places_of(alloc: Global, cells: &[Cell]) -> Result<Places, Memory>
+pub fn places_of(alloc: Global, cells: &[Cell]) -> Result<Places, Memory>
     ensures places { IfOk result (λ places. ArePlaces places cells.now) }
 {
     let mut places = HashMap::new(alloc);
@@ -42,7 +42,7 @@ fn put_place(places: &mut Places, word: &[SigBit], at: usize) -> Result<(), Memo
 }
 
 /// The place of the cell whose output begins as the word does. It takes no memory.
-pub(crate) fn place_of(places: &Places, word: &[SigBit]) -> Option<usize>
+pub fn place_of(places: &Places, word: &[SigBit]) -> Option<usize>
     ensures value { (cells : List Cell) → ArePlaces places.now cells → result ≡ place_of cells word.now }
 {
     match word.first() {

@@ -1,6 +1,6 @@
 //! One sweep over the cells, each as the module stands when its turn comes.
 
-ghost use Rattle.std.specs.Prelude.{◌≡◌, [], true, IfOk, OnOk, Some, map};
+ghost use Rattle.std.specs.Prelude.{◌≡◌, [], true, IfOk, Some, map};
 ghost use Rattle.rtl_ir.specs.Types as rtl;
 ghost use Rattle.rtl_ir.specs.Types.{table_ports};
 ghost use Rattle.net_index.specs.Types.{AreTypes};
@@ -10,7 +10,7 @@ ghost use Rattle.opt_expr.specs.Sweep.{expr_of, standing, swept};
 
 use crate::Turn;
 use crate::places::{Places, places_of};
-use crate::visit::visit;
+use crate::visit::{Around, visit};
 use net_alias::Aliases;
 use net_index::Types;
 use rtl_bits::{Memory, Seq};
@@ -63,64 +63,48 @@ fn sweep_cells(
     let types = Types::of_table(alloc, ports)?;
     let places = places_of(alloc, cells.as_slice())?;
     let mut aliases = aliases;
-    let mut links = links;
-    let mut slots = Vec::with_capacity(alloc, cells.len())?;
-    let is_same = visit_all(
-        alloc,
-        &types,
-        &places,
-        &mut aliases,
-        cells,
-        &mut slots,
-        &mut links,
-    )?;
-    Ok(Swept {
-        slots,
-        links,
-        is_same,
-    })
+    let swept = visit_all(alloc, &types, &places, &mut aliases, cells, links)?;
+    Ok(swept)
 }
 
-/// Visits the cells in order, where none is done, and tells whether each is as it was. After an error some visits are
-/// missing.
+/// Visits the cells in order, and tells whether each is as it was. After an error some visits are missing.
 fn visit_all(
     alloc: Global,
     types: &Types,
     places: &Places,
     aliases: &mut Aliases,
     cells: Vec<Cell>,
-    done: &mut Vec<Option<Cell>>,
-    links: &mut Seq<Link>,
-) -> Result<bool, Memory>
+    mut links: Seq<Link>,
+) -> Result<Swept, Memory>
     requires places { ArePlaces places.now cells.items }
-    requires none { done.old.items ≡ [] }
-    requires aliases { IsAliases aliases.old links.old }
-    ensures swept { OnOk result ((ports : rtl.Ports) → AreTypes types.now ports →
-        record { cells = done.new.items; links = links.new } ≡ swept ports cells.items [] cells.items links.old) }
-    ensures same { IfOk result (λ is_same. is_same ≡ true →
-        (done.new.items ≡ map Some cells.items) × (links.new ≡ links.old)) }
+    requires aliases { IsAliases aliases.old links }
+    ensures swept { IfOk result (λ after. (ports : rtl.Ports) → AreTypes types.now ports →
+        record { cells = after.slots.items; links = after.links } ≡ swept ports cells.items [] cells.items links) }
+    ensures same { IfOk result (λ after. after.is_same ≡ true →
+        (after.slots.items ≡ map Some cells.items) × (after.links ≡ links)) }
 {
     let mut is_same = true;
+    let mut done = Vec::with_capacity(alloc, cells.len())?;
     let mut rest = VecDeque::from_vec(cells);
     while let Some(cell) = rest.pop_front() {
-        let visited = visit(
-            alloc,
-            types,
+        let around = Around {
             places,
-            aliases,
-            done.as_slice(),
-            cell,
-            &rest,
-            links,
-        )?;
+            done: done.as_slice(),
+            rest: &rest,
+        };
+        let visited = visit(alloc, types, aliases, &around, cell, &mut links)?;
         is_same = is_same && visited.is_same;
         done.push(visited.slot)?;
     }
-    Ok(is_same)
+    Ok(Swept {
+        slots: done,
+        links,
+        is_same,
+    })
 }
 
 /// The cells that have not gone.
-fn standing(alloc: Global, slots: Vec<Option<Cell>>) -> Result<Seq<Cell>, Memory>
+pub fn standing(alloc: Global, slots: Vec<Option<Cell>>) -> Result<Seq<Cell>, Memory>
     ensures value { IfOk result (λ cells. cells ≡ standing slots.items) }
 {
     let mut cells = Vec::with_capacity(alloc, slots.len())?;

@@ -3,7 +3,6 @@
 ghost use Rattle.std.specs.Prelude.{◌≡◌, ◌++◌, ◌∷◌, [], true, List, Some, None, IfOk, OnOk};
 ghost use Rattle.cell_types.specs.PinName.{pin_text};
 ghost use Rattle.cell_types.specs.declared.pin_name.PinName.TheVariants.{A, B, S};
-ghost use Rattle.rtl_ir.specs.Flat.Cell.{cell_kind, cell_shape};
 ghost use Rattle.rtl_ir.specs.Parameters.{signal_at};
 ghost use Rattle.rtl_ir.specs.Types as rtl;
 ghost use Rattle.rtl_ir.specs.declared.cell.Cell.{Cell};
@@ -12,14 +11,14 @@ ghost use Rattle.net_index.specs.Types.{AreTypes};
 ghost use Rattle.rtl_ir.specs.Attributes.{is_kept};
 ghost use Rattle.net_alias.specs.Aliases.{IsAliases};
 ghost use Rattle.opt_expr.specs.Places.{ArePlaces};
-ghost use Rattle.opt_expr.specs.Sweep.{change_by, changed, kind_change, operands_in, ruled_kind, visit_of};
+ghost use Rattle.opt_expr.specs.Sweep.{change_by, changed, operands_in, ruled_kind, visit_of};
 
 use crate::formed::formed;
 use crate::inputs::{Followed, followed_cell};
 use crate::inverters::{inverted, inverted_bit};
 use crate::places::{Places, combinational_kind};
 use cell_types::{CellKind, PinName, Shape};
-use expr_rules::{Change, Operands, first_fit};
+use expr_rules::{Change, Inverters, Operands, first_fit};
 use net_alias::Aliases;
 use net_index::Types;
 use rtl_bits::{Copied, Memory, Seq};
@@ -35,30 +34,45 @@ pub(crate) struct Visited {
     pub(crate) is_same: bool,
 }
 
+/// The cells of the module when one is visited: those that are done, each in its place unless it went, those that are
+/// not, and the places of all by their outputs.
+#[derive(Clone, Copy)]
+pub(crate) struct Around<'a> {
+    pub(crate) places: &'a Places,
+    pub(crate) done: &'a [Option<Cell>],
+    pub(crate) rest: &'a VecDeque<Cell>,
+}
+
 /// Visits a cell between those that are done and the rest. Connections that come of it go last. After an error its
 /// visit is not whole.
 pub(crate) fn visit(
     alloc: Global,
     types: &Types,
-    places: &Places,
     aliases: &mut Aliases,
-    done: &[Option<Cell>],
+    around: &Around<'_>,
     cell: Cell,
-    rest: &VecDeque<Cell>,
     links: &mut Seq<Link>,
 ) -> Result<Visited, Memory>
     ensures cell { IfOk result (λ visited. (ports : rtl.Ports) (cells : List Cell) → AreTypes types.now ports →
-        ArePlaces places.now cells → IsAliases aliases.old links.old →
-        visited.slot ≡ (visit_of ports cells done.now rest.now.items links.old cell).cell) }
+        ArePlaces around.now.places.now cells → IsAliases aliases.old links.old →
+        visited.slot ≡
+        (visit_of ports cells around.now.done.now around.now.rest.now.items links.old cell).cell) }
     ensures links { OnOk result ((ports : rtl.Ports) (cells : List Cell) → AreTypes types.now ports →
-        ArePlaces places.now cells → IsAliases aliases.old links.old →
-        links.new ≡ links.old ++ (visit_of ports cells done.now rest.now.items links.old cell).links) }
+        ArePlaces around.now.places.now cells → IsAliases aliases.old links.old →
+        links.new ≡ links.old ++
+        (visit_of ports cells around.now.done.now around.now.rest.now.items links.old cell).links) }
     ensures aliases { OnOk result (IsAliases aliases.old links.old → IsAliases aliases.new links.new) }
     ensures same { IfOk result (λ visited. visited.is_same ≡ true →
         (visited.slot ≡ Some cell) × (links.new ≡ links.old)) }
 {
     let followed = followed_cell(alloc, types, aliases, cell)?;
-    let change = change(alloc, places, done, rest, &followed.cell)?;
+    let change = change(
+        alloc,
+        around.places,
+        around.done,
+        around.rest,
+        &followed.cell,
+    )?;
     let visited = changed(alloc, change, followed, aliases, links)?;
     Ok(visited)
 }
@@ -161,15 +175,16 @@ fn operands(
     let a = signal_at(pins, PinName::A.text());
     let b = signal_at(pins, PinName::B.text());
     let s = signal_at(pins, PinName::S.text());
-    let bit = inverted_bit(alloc, places, done, rest, s)?;
-    let word = inverted(alloc, places, done, rest, a)?;
+    let inverters = Inverters {
+        inverted: inverted_bit(alloc, places, done, rest, s)?,
+        inner: inverted(alloc, places, done, rest, a)?,
+    };
     Operands::of(
         alloc,
         shape,
         SigSpec::from_slice(alloc, a)?,
         SigSpec::from_slice(alloc, b)?,
         SigSpec::from_slice(alloc, s)?,
-        bit,
-        word,
+        inverters,
     )
 }

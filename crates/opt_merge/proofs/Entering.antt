@@ -1,5 +1,5 @@
 -- Cells that are put into a table.
-use Rattle.std.proofs.Common.{◌≡◌, ℕ, suc, ◌<◌, ◌≤◌, Bool, true, false, cond, ltb, List, [], ◌∷◌, ◌++◌, length, Result, Ok, Err, OnOk, get_or, min, take, zero, ◌+◌, Option, Some, None, ◌⊎◌, inl, inr, ⊎_elim, refl, sym, ◌∙◌, ap, subst, arith}
+use Rattle.std.proofs.Common.{◌≡◌, ℕ, suc, ◌<◌, ◌≤◌, Bool, true, false, cond, ltb, List, [], ◌∷◌, ◌++◌, length, get_or, min, take, zero, ◌+◌, Option, Some, None, ◌⊎◌, inl, inr, ⊎_elim, refl, sym, ◌∙◌, ap, subst, arith}
 use Rattle.std.specs.Str.{bytes_eq}
 use Rattle.std.proofs.lemmas.Bool.{ltb-false, ltb-true}
 use Rattle.std.proofs.lemmas.Slice.Eq.{bytes_eq-Decides}
@@ -12,8 +12,9 @@ use Rattle.net_model.specs.Lists.{In}
 use Rattle.net_model.proofs.Members.{In-cases}
 use Rattle.opt_merge.specs.declared.table.Table.{Table}
 use Rattle.opt_merge.specs.declared.entries.Entries.{Entries}
-use Rattle.opt_merge.specs.Entries.{Enters, EntersPlaces, HasBefore, kind_traits, noted_at}
-use Rattle.opt_merge.specs.Among.{AreAmong}
+use Rattle.opt_merge.specs.declared.late.Late.{Late}
+use Rattle.opt_merge.specs.Entries.{Enters, EntersPlaces, HasBefore, KeepsNotes, Settles, kind_traits, noted_at}
+use Rattle.opt_merge.specs.Late.{late_at}
 use Rattle.opt_merge.specs.Rows.{row_of}
 use Rattle.opt_merge.specs.Table.{at_row, least}
 use Rattle.opt_merge.specs.Traits.{Traits, traits_of}
@@ -96,16 +97,22 @@ pub enters_next : (traits : ℕ → Option Traits) (a b c : Table) (places : Lis
 enters_next traits a b c places i d lt h k =
     subst (Enters traits a c) (sym (take_next places i d (get_or places i d) lt refl)) (enters_both traits a b c (take i places) (get_or places i d ∷ []) h k)
 
--- what follows where a call succeeds
-pub on_ok : {T E : Type 0} (r : Result T E) (A B : Type 0) → (A → B) → OnOk r A → OnOk r B
-on_ok (Ok x) A B f h = f h
-on_ok (Err e) A B f h = tt
-
--- places among others
-pub enters_among : (old new : Entries) (cells : List Cell) (places others : List ℕ) → EntersPlaces old new cells others → AreAmong places others → EntersPlaces old new cells places
-enters_among old new cells places others enters among wires links view =
-    let e = enters wires links view in
-    record { sound = e.sound; stays = e.stays; full = λ at i t h. e.full at (among at i) t h }
+-- what was late was put, or is late still
+pub settles : (old new : Entries) (taken : Late) (cells : List Cell) (row : ℕ) (mine : List ℕ) → late_at taken row ≡ []
+    → ((other at : ℕ) → In at (late_at old.late other) → In at (late_at taken other) ⊎ In at mine) → KeepsNotes (record old { late = taken }) new
+    → EntersPlaces (record old { late = taken }) new cells mine → Settles old new cells row
+settles old new taken cells row mine none others notes enters = record {
+  none = subst (λ l. late_at l row ≡ []) (sym notes.late) none;
+  kinds = notes.kinds;
+  lengths = notes.lengths;
+  enters = λ wires links view.
+      let e = enters wires links view in
+      record {
+        sound = e.sound;
+        stays = e.stays;
+        full = λ other at i t f. ⊎_elim (λ j. inr (subst (λ l. In at (late_at l other)) (sym notes.late) j)) (λ j. inl (e.full at j t f)) (others other at i);
+      };
+}
 
 -- the same where the kinds that are noted stay
 pub noted_next : (start : SigBit → Bit) (links : List Link) (cells : List Cell) (ks ls : List (Option CellKind)) → ls ≡ ks → (a b c : Table) (places : List ℕ) (i d : ℕ) → i < length places

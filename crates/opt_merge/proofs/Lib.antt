@@ -1,7 +1,9 @@
 pub mod Numbers
 pub mod SameTraits
+pub mod Lengths
 pub mod Following
 pub mod Entering
+pub mod Marking
 pub mod Finding
 pub mod Driving
 pub mod Changing
@@ -12,6 +14,7 @@ pub mod Updating
 pub mod Sofar
 pub mod Among
 pub mod Placing
+pub mod Waiting
 pub mod Stepping
 pub mod Refining
 pub mod Starting

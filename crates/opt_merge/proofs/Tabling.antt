@@ -21,7 +21,7 @@ use Rattle.opt_merge.specs.declared.table.Table.{Table}
 use Rattle.opt_merge.specs.Entries.{AreEnds, HasBefore, IsTable, kind_at, noted_at, traits_at}
 use Rattle.opt_merge.specs.Merge.{traits_by}
 use Rattle.opt_merge.specs.Rows.{row_of}
-use Rattle.opt_merge.specs.State.{AreNoted, IsRising}
+use Rattle.opt_merge.specs.State.{AreMeasured, AreNoted, IsRising}
 use Rattle.opt_merge.specs.Table.{at_row, least}
 use Rattle.opt_merge.specs.Traits.{Traits, input_pins, merging_kind, traits_of}
 use Rattle.opt_merge.proofs.Following.{follow_twice}
@@ -53,17 +53,17 @@ pub kept_more : (cells : List Cell) (places : List ℕ) (cs : List Cell) (at : �
 kept_more cells places cs at c is e =
     map-append (slice_get cells) places (at ∷ []) ∙ (λ i. e i ++ is i ∷ []) ∙ sym (map-append Some cs (c ∷ []))
 
-module _ (traits : ℕ → Option Traits) (links : List Link) (places : List ℕ) where
+module _ (traits : ℕ → Option Traits) (links : List Link) (places : List ℕ) (late : ℕ → List ℕ) where
   -- a cell that has no traits stays
-  pub table_stay : (table : Table) (at : ℕ) → IsTable traits links places table → traits at ≡ None → IsTable traits links (places ++ at ∷ []) table
+  pub table_stay : (table : Table) (at : ℕ) → IsTable traits links places late table → traits at ≡ None → IsTable traits links (places ++ at ∷ []) late table
   table_stay table at t none = record {
     sound = λ own ends p e. let q = t.sound own ends p e in (In-left p places (at ∷ []) q.0, q.1);
     full = λ own ends p i e. ⊎_elim (λ j. t.full own ends p j e) (λ j. absurd (⊎_elim (λ same. let f : traits at ≡ Some own = subst (λ z. traits z ≡ Some own) same e in let g : None ≡ Some own = sym none ∙ f in cc) (λ bot. bot) j)) (In-cases p places (at ∷ []) i);
   }
 
   -- a cell that is the first with its traits
-  pub table_first : (old new : Table) (at : ℕ) (own : Traits) → IsTable traits links places old → traits at ≡ Some own → at_row old (row_of own) ≡ None
-      → ((r : List ℕ) → at_row new r ≡ cond (bytes_eq (row_of own) r) (least at (at_row old r)) (at_row old r)) → IsTable traits links (places ++ at ∷ []) new
+  pub table_first : (old new : Table) (at : ℕ) (own : Traits) → IsTable traits links places late old → traits at ≡ Some own → at_row old (row_of own) ≡ None
+      → ((r : List ℕ) → at_row new r ≡ cond (bytes_eq (row_of own) r) (least at (at_row old r)) (at_row old r)) → IsTable traits links (places ++ at ∷ []) late new
   table_first old new at own t has none put = record {
     sound = λ u ends p e. sound u ends p (bytes_eq (row_of own) (row_of u)) refl (sym (put (row_of u)) ∙ e);
     full = λ u ends p i e. full u ends p e (bytes_eq (row_of own) (row_of u)) refl (put (row_of u)) (In-cases p places (at ∷ []) i);
@@ -83,21 +83,60 @@ module _ (traits : ℕ → Option Traits) (links : List Link) (places : List ℕ
           (In-right p places (at ∷ []) (inl (sym here)), subst (λ z. traits z ≡ Some u) here (has ∙ ap Some one))
 
       full : (u : Traits) → AreEnds links u → (p : ℕ) → traits p ≡ Some u → (b : Bool) → bytes_eq (row_of own) (row_of u) ≡ b
-          → at_row new (row_of u) ≡ cond b (least at (at_row old (row_of u))) (at_row old (row_of u)) → In p places ⊎ In p (at ∷ []) → HasBefore new (row_of u) p
+          → at_row new (row_of u) ≡ cond b (least at (at_row old (row_of u))) (at_row old (row_of u)) → In p places ⊎ In p (at ∷ []) → HasBefore new (row_of u) p ⊎ In p (late (length (row_of u)))
       full u ends p e b f g (inr (inr bot)) = absurd bot
-      full u ends p e false f g (inl i) = let q = t.full u ends p i e in (q.0, g ∙ q.1, q.2)
+      full u ends p e false f g (inl i) = ⊎_elim (λ q. inl (q.0, g ∙ q.1, q.2)) (λ j. inr j) (t.full u ends p i e)
       full u ends p e true f g (inl i) =
           let one = same_row u f in
-          let q = t.full u ends p i e in
-          absurd (let h : None ≡ Some q.0 = sym (subst (λ z. at_row old (row_of z) ≡ None) one none) ∙ q.1 in cc)
+          ⊎_elim (λ q. absurd (let h : None ≡ Some q.0 = sym (subst (λ z. at_row old (row_of z) ≡ None) one none) ∙ q.1 in cc)) (λ j. inr j) (t.full u ends p i e)
       full u ends p e true f g (inr (inl same)) =
           let one = same_row u f in
           let gone : at_row old (row_of u) ≡ None = subst (λ z. at_row old (row_of z) ≡ None) one none in
-          (at, g ∙ ap (least at) gone, omega (arith, same))
+          inl (at, g ∙ ap (least at) gone, omega (arith, same))
       full u ends p e false f g (inr (inl same)) =
           let h : Some own ≡ Some u = sym has ∙ subst (λ z. traits z ≡ Some u) same e in
           let one : own ≡ u = cc in
           absurd (let k : bytes_eq (row_of own) (row_of u) ≡ true = (bytes_eq-Decides (row_of own) (row_of u)).1 (ap row_of one) in cc)
+
+-- lengths of rows that are noted
+module _ (start : SigBit → Bit) (cells : List Cell) (places lengths : List ℕ) (measured : AreMeasured start cells places lengths) where
+  pub measured_stay : (at : ℕ) (c : Cell) → slice_get cells at ≡ Some c → merging_kind c ≡ None → AreMeasured start cells (places ++ at ∷ []) lengths
+  measured_stay at c here none = record {
+    count = measured.count;
+    each = λ p i d is kind own links. ⊎_elim (λ j. measured.each p j d is kind own links) (λ j. absurd (⊎_elim (λ same. clash p d is kind own same) (λ bot. bot) j)) (In-cases p places (at ∷ []) i);
+  }
+    where
+      clash : (p : ℕ) (d : Cell) → slice_get cells p ≡ Some d → (kind : CellKind) → merging_kind d ≡ Some kind → p ≡ at → ⊥
+      clash p d is kind own same =
+          let f : Some c ≡ Some d = sym here ∙ ap (slice_get cells) (sym same) ∙ is in
+          let one : c ≡ d = cc in
+          let g : None ≡ Some kind = sym none ∙ ap merging_kind one ∙ own in
+          cc
+
+  pub measured_first : (at : ℕ) (c : Cell) (kind : CellKind) (l : ℕ) → slice_get cells at ≡ Some c → merging_kind c ≡ Some kind → at < length cells
+      → ((links : List Link) → l ≡ length (row_of (traits_of start links kind c))) → AreMeasured start cells (places ++ at ∷ []) (set lengths at l)
+  measured_first at c kind l here own lt long = record {
+    count = length-set lengths at l ∙ measured.count;
+    each = λ p i d is k own_d links. by p d is k own_d links (eqb p at) refl (In-cases p places (at ∷ []) i);
+  }
+    where
+      inside : at < length lengths
+      inside = let n = measured.count in omega (arith, n, lt)
+
+      by : (p : ℕ) (d : Cell) → slice_get cells p ≡ Some d → (k : CellKind) → merging_kind d ≡ Some k → (links : List Link) (b : Bool) → eqb p at ≡ b → In p places ⊎ In p (at ∷ [])
+          → slice_index_or (set lengths at l) p 0 ≡ length (row_of (traits_of start links k d))
+      by p d is k own_d links true f i =
+          let same = eqb-true p at f in
+          let g : Some c ≡ Some d = sym here ∙ ap (slice_get cells) (sym same) ∙ is in
+          let one : c ≡ d = cc in
+          let h : Some kind ≡ Some k = sym own ∙ ap merging_kind one ∙ own_d in
+          let kinds : kind ≡ k = cc in
+          ap (λ z. get_or (set lengths at l) z 0) same ∙ get_or-set_same lengths at l 0 inside ∙ long links ∙ (λ j. length (row_of (traits_of start links (kinds j) (one j))))
+      by p d is k own_d links false f (inl i) =
+          let apart = eqb-false p at f in
+          get_or-set_other lengths at p l 0 apart ∙ measured.each p i d is k own_d links
+      by p d is k own_d links false f (inr (inl same)) = absurd (eqb-false p at f same)
+      by p d is k own_d links false f (inr (inr bot)) = absurd bot
 
 -- kinds that are noted
 module _ (cells : List Cell) (places : List ℕ) (kinds : List (Option CellKind)) (noted : AreNoted cells places kinds) where

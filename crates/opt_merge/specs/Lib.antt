@@ -5,6 +5,8 @@ pub mod View
 pub mod Table
 pub mod Among
 pub mod Readers
+pub mod Classes
+pub mod Late
 pub mod Reading
 pub mod Entries
 pub mod State

@@ -1,10 +1,9 @@
 -- Traits in a row of numbers.
-use Rattle.std.specs.Prelude.{ℕ, suc, List, [], ◌∷◌, ◌++◌, length, map, flat_map, Some}
+use Rattle.std.specs.Prelude.{ℕ, suc, List, [], ◌∷◌, ◌++◌, length, map, flat_map}
 use Rattle.rtl_bits.specs.declared.bit.Bit.{Bit}
 use Rattle.rtl_sig.specs.declared.sig.SigBit.{SigBit}
 use Rattle.rtl_sig.specs.declared.sig.SigBit.TheVariants.{Fixed, Wire as OnWire}
 use Rattle.rtl_ir.specs.declared.wire.Wire.{Wire}
-use Rattle.rtl_ir.specs.Flat.Start.{init_bits}
 use Rattle.opt_merge.specs.Traits.{Traits, bit_number}
 
 -- a list of numbers behind its length
@@ -35,7 +34,3 @@ signals_numbers signals = length signals ∷ flat_map signal_numbers signals
 -- traits, each list behind its length
 abbrev pub row_of : Traits → List ℕ
 row_of t = t.width ∷ ((sized t.type ++ lists_numbers t.params) ++ signals_numbers t.inputs) ++ bits_numbers t.starts
-
--- the bits of the attribute `\init` of each wire
-abbrev pub inits_of : List Wire → List (List Bit)
-inits_of wires = map (λ (w : Wire). init_bits (Some w)) wires

@@ -1,5 +1,6 @@
 -- Where a sweep over the cells of a module stands.
 use Rattle.std.specs.Prelude.{◌≡◌, ◌⊎◌, ◌+◌, ◌≤◌, ◌<◌, ℕ, List, [], ◌∷◌, Option, Some, None, length, map, flat_map, drop, suc, if◌then◌else◌, slice_get, slice_index_or}
+use Rattle.rtl_bits.specs.declared.bit.Bit.{Bit}
 use Rattle.rtl_sig.specs.declared.sig.SigBit.{SigBit}
 use Rattle.rtl_sig.specs.declared.sig.SigBit.TheVariants.{Wire as OnWire}
 use Rattle.rtl_sig.specs.declared.sig.WireBit.{WireBit}
@@ -15,7 +16,10 @@ use Rattle.net_model.specs.Lists.{In}
 use Rattle.opt_merge.specs.declared.merger.Merger.{Merger}
 use Rattle.opt_merge.specs.Entries.{IsTable, kind_at, traits_at}
 use Rattle.opt_merge.specs.Merge.{Merging, bits_by}
+use Rattle.opt_merge.specs.Late.{late_at}
 use Rattle.opt_merge.specs.Reading.{HasReaders}
+use Rattle.opt_merge.specs.Rows.{row_of}
+use Rattle.opt_merge.specs.Traits.{merging_kind, traits_of}
 use Rattle.opt_merge.specs.View.{IsView}
 
 -- how often a bit is among these
@@ -50,6 +54,13 @@ pub record AreNoted (cells : List Cell) (places : List ℕ) (kinds : List (Optio
   pub full :
       (at : ℕ) (kind : CellKind) → In at places → kind_at cells at ≡ Some kind → slice_index_or kinds at None ≡ Some kind
 
+-- the rows of the cells at these places are as long as is noted, over any connections
+pub record AreMeasured (start : SigBit → Bit) (cells : List Cell) (places lengths : List ℕ) : Type 0 where
+  pub count : length lengths ≡ length cells
+  pub each :
+      (at : ℕ) → In at places → (c : Cell) → slice_get cells at ≡ Some c → (kind : CellKind) → merging_kind c ≡ Some kind →
+      (links : List Link) → slice_index_or lengths at 0 ≡ length (row_of (traits_of start links kind c))
+
 -- each place is behind those before it
 abbrev pub IsRising : List ℕ → Type 0
 IsRising [] = Unit {0}
@@ -58,8 +69,9 @@ IsRising (at ∷ places) = ((later : ℕ) → In later places → at < later) ×
 -- the cells before a place were visited, from these wires, connections and cells on
 pub record IsState (m : Merger) (wires : List Wire) (before : List Link) (cells : List Cell) (at : ℕ) (s : Merging) : Type 0 where
   pub view : IsView m.entries.view wires s.links
-  pub table : IsTable (traits_at (start_of wires []) s.links cells) s.links m.kept.items m.entries.table
+  pub table : IsTable (traits_at (start_of wires []) s.links cells) s.links m.kept.items (late_at m.entries.late) m.entries.table
   pub noted : AreNoted cells m.kept.items m.entries.kinds.items
+  pub measured : AreMeasured (start_of wires []) cells m.kept.items m.entries.lengths.items
   pub kept : map (slice_get cells) m.kept.items ≡ map Some s.cells
   pub rising : IsRising m.kept.items
   pub below : (place : ℕ) → In place m.kept.items → place < at

@@ -4,7 +4,7 @@ use Rattle.rtl_ir.specs.declared.module.Link.{Link}
 use Rattle.rtl_ir.specs.declared.wire.Wire.{Wire}
 use Rattle.net_alias.specs.Aliases.{IsAliases}
 use Rattle.opt_merge.specs.declared.rows.View.{View}
-use Rattle.opt_merge.specs.Rows.{inits_of}
+use Rattle.rtl_ir.specs.Starts.{inits_of}
 
 -- the start values of these wires, and the ways along these connections
 pub record IsView (view : View) (wires : List Wire) (links : List Link) : Type 0 where

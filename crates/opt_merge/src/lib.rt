@@ -1,9 +1,9 @@
 //! The pass `opt_merge`: a cell goes where an earlier one gives the same.
 #![tactic(auto)]
 
-mod attributes;
 mod entries;
 mod kinds;
+mod late;
 mod merger;
 mod readers;
 mod reading;

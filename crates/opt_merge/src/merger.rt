@@ -11,9 +11,9 @@ ghost use Rattle.opt_merge.specs.State.{IsDrivenOnce, IsState};
 ghost use Rattle.opt_merge.specs.View.{IsView};
 ghost use Rattle.opt_merge.specs.Visits.{Visits, VisitsAll, VisitsAs, VisitsFirst, VisitsSame};
 
-use crate::attributes::inits;
 use crate::entries::Entries;
 use crate::kinds::merging_kind;
+use crate::late::Late;
 use crate::readers::Readers;
 use crate::reading::readers_of;
 use crate::rows::View;
@@ -22,7 +22,7 @@ use crate::table::Table;
 use cell_types::CellKind;
 use net_alias::Aliases;
 use rtl_bits::{Copied, Memory, Seq};
-use rtl_ir::{Cell, Link, Module};
+use rtl_ir::{Cell, Link, Module, inits};
 use rtl_sig::{SigBit, SigSpec};
 use std::alloc::Global;
 
@@ -56,6 +56,8 @@ impl Merger {
                 view,
                 table: Table::of(alloc),
                 kinds: vec![in alloc; None; module.cells.as_slice().len()]?,
+                lengths: vec![in alloc; 0; module.cells.as_slice().len()]?,
+                late: Late::of(alloc)?,
             },
             kept: Vec::new(alloc),
             links: module.links.copy()?,
@@ -103,6 +105,7 @@ impl Merger {
         ensures state { OnOk result (VisitsAs self.old self.new cells.now at (Some kind)) }
     {
         let row = self.entries.view.row(kind, &cells[at])?;
+        self.entries.settle(cells, row.len())?;
         match self.entries.table.get(row.as_slice()) {
             Some(first) => {
                 self.merge(cells, first, at, kind)?;
@@ -116,7 +119,7 @@ impl Merger {
     }
 
     /// The cell is the first with this row.
-    fn first(&mut self, at: usize, kind: CellKind, row: Vec<u64>) -> Result<(), Memory>
+    fn first(&mut self, at: usize, kind: CellKind, row: Vec<u32>) -> Result<(), Memory>
         ensures state { OnOk result ((cells : List Cell) → VisitsFirst self.old self.new cells at kind row.items) }
     {
         self.entries.note(row, at, kind)?;
@@ -138,25 +141,21 @@ impl Merger {
         if first >= cells.len() {
             return Ok(());
         }
-        self.join(
-            cells,
-            output_of(kind, &cells[at]),
-            output_of(kind, &cells[first]),
-        )?;
+        self.join(output_of(kind, &cells[at]), output_of(kind, &cells[first]))?;
         Ok(())
     }
 
-    /// The right drives the left, and the cells that read the left read the right.
-    fn join(&mut self, cells: &[Cell], left: &[SigBit], right: &[SigBit]) -> Result<(), Memory>
+    /// The right drives the left, and the cells that read the left are late.
+    fn join(&mut self, left: &[SigBit], right: &[SigBit]) -> Result<(), Memory>
         ensures links { OnOk result (self.new.links ≡ linked self.old.links left.now right.now) }
         ensures rest { OnOk result ((self.new.kept ≡ self.old.kept) × (self.new.readers ≡ self.old.readers)) }
         ensures entries { OnOk result ((wires : List Wire) (links : List Link) →
             IsView self.old.entries.view wires links →
-            JoinsEntries self.old.entries self.new.entries wires (linked links left.now right.now) cells.now
+            JoinsEntries self.old.entries self.new.entries wires (linked links left.now right.now)
             (readers_of_signal self.old.readers left.now)) }
     {
         self.entries.connect(left, right)?;
-        self.entries.enter_signal(cells, &self.readers, left)?;
+        self.entries.mark_signal(&self.readers, left)?;
         self.links.push(Link {
             left: SigSpec::from_slice(self.alloc, left)?,
             right: SigSpec::from_slice(self.alloc, right)?,

@@ -6,19 +6,19 @@ ghost use Rattle.rtl_ir.specs.declared.wire.Wire.{Wire};
 ghost use Rattle.rtl_ir.specs.Flat.Cell.{cell_shape};
 ghost use Rattle.rtl_ir.specs.Flat.Start.{start_of};
 ghost use Rattle.rtl_ir.specs.Follow.{follow};
+ghost use Rattle.rtl_ir.specs.Starts.{inits_of};
 ghost use Rattle.net_alias.specs.Aliases.{IsAliases};
 ghost use Rattle.opt_merge.specs.Traits.{bit_number, inputs_of, level_number, output_of, plain_numbers, shape_numbers};
 ghost use Rattle.opt_merge.specs.Traits.{starts_of, traits_of};
-ghost use Rattle.opt_merge.specs.Rows.{bits_numbers, inits_of, lists_numbers, place_numbers, row_of, signal_numbers};
+ghost use Rattle.opt_merge.specs.Rows.{bits_numbers, lists_numbers, place_numbers, row_of, signal_numbers};
 ghost use Rattle.opt_merge.specs.Rows.{signals_numbers, sized};
 ghost use Rattle.opt_merge.specs.View.{IsView, StaysView};
 
-use crate::attributes::start;
 use crate::signals::{input_pins, output_of};
 use cell_types::{CellKind, Level, PinName, Shape};
 use net_alias::Aliases;
 use rtl_bits::{Bit, Bits, Memory};
-use rtl_ir::{Cell, Pin, fitting_shape, signal_at};
+use rtl_ir::{Cell, Pin, fitting_shape, signal_at, start};
 use rtl_sig::SigBit;
 use std::alloc::Global;
 
@@ -35,7 +35,7 @@ pub(crate) struct View {
 
 impl View {
     /// What a cell of a kind is compared by. A cell that does not fit its kind is taken for want of memory.
-    pub(crate) fn row(&mut self, kind: CellKind, cell: &Cell) -> Result<Vec<u64>, Memory>
+    pub(crate) fn row(&mut self, kind: CellKind, cell: &Cell) -> Result<Vec<u32>, Memory>
         ensures value { IfOk result (λ row. (wires : List Wire) (links : List Link) → IsView self.old wires links →
             row.items ≡ row_of (traits_of (start_of wires []) links kind cell.now)) }
         ensures keeps { StaysView self.old self.new }
@@ -53,33 +53,42 @@ impl View {
 }
 
 /// The row of what the cell itself says: the width of its output, its type and its parameters.
-fn own_row(alloc: Global, kind: CellKind, cell: &Cell) -> Result<Vec<u64>, Memory>
+fn own_row(alloc: Global, kind: CellKind, cell: &Cell) -> Result<Vec<u32>, Memory>
     ensures value { IfOk result (λ row. row.items ≡ length (output_of kind cell.now) ∷
         (sized cell.now.kind_name ++ lists_numbers (shape_numbers (cell_shape kind cell.now.params)))) }
 {
     let mut row = Vec::with_capacity(alloc, GATE_ROW)?;
-    row.push(output_of(kind, cell).len() as u64)?;
+    push_count(&mut row, output_of(kind, cell).len())?;
     push_bytes(&mut row, cell.kind_name.as_slice())?;
     push_shape(&mut row, &fitting_shape(alloc, kind, cell)?)?;
     Ok(row)
 }
 
+/// A count. One of 2^32 or more is taken for want of memory.
+fn push_count(row: &mut Vec<u32>, count: usize) -> Result<(), Memory>
+    ensures ok { OnOk result (row.new.items ≡ row.old.items ++ count ∷ []) }
+{
+    let number = u32::try_from(count).ok().ok_or(Memory)?;
+    row.push(number)?;
+    Ok(())
+}
+
 /// The bytes behind their length.
-fn push_bytes(row: &mut Vec<u64>, bytes: &[u8]) -> Result<(), Memory>
+fn push_bytes(row: &mut Vec<u32>, bytes: &[u8]) -> Result<(), Memory>
     ensures ok { OnOk result (row.new.items ≡ row.old.items ++ sized bytes.now) }
 {
-    row.push(bytes.len() as u64)?;
+    push_count(row, bytes.len())?;
     for byte in bytes {
-        row.push(u64::from(*byte))?;
+        row.push(u32::from(*byte))?;
     }
     Ok(())
 }
 
 /// The bits as numbers, behind their length.
-fn push_bits(row: &mut Vec<u64>, bits: &[Bit]) -> Result<(), Memory>
+fn push_bits(row: &mut Vec<u32>, bits: &[Bit]) -> Result<(), Memory>
     ensures ok { OnOk result (row.new.items ≡ row.old.items ++ bits_numbers bits.now) }
 {
-    row.push(bits.len() as u64)?;
+    push_count(row, bits.len())?;
     for bit in bits {
         row.push(bit_number(*bit))?;
     }
@@ -87,7 +96,7 @@ fn push_bits(row: &mut Vec<u64>, bits: &[Bit]) -> Result<(), Memory>
 }
 
 /// What the parameters of a cell say.
-fn push_shape(row: &mut Vec<u64>, shape: &Shape) -> Result<(), Memory>
+fn push_shape(row: &mut Vec<u32>, shape: &Shape) -> Result<(), Memory>
     ensures ok { OnOk result (row.new.items ≡ row.old.items ++ lists_numbers (shape_numbers shape.now)) }
 {
     row.push(5)?;
@@ -100,21 +109,21 @@ fn push_shape(row: &mut Vec<u64>, shape: &Shape) -> Result<(), Memory>
 }
 
 /// The numbers among them.
-fn push_numbers(row: &mut Vec<u64>, shape: &Shape) -> Result<(), Memory>
+fn push_numbers(row: &mut Vec<u32>, shape: &Shape) -> Result<(), Memory>
     ensures ok { OnOk result (row.new.items ≡ row.old.items ++ sized (plain_numbers shape.now)) }
 {
     let widths = shape.widths;
     let levels = shape.levels;
     let numbers = [
         19,
-        u64::from(widths.a),
-        u64::from(widths.b),
-        u64::from(widths.s),
-        u64::from(widths.y),
-        u64::from(shape.signs.a),
-        u64::from(shape.signs.b),
-        u64::from(shape.offset),
-        u64::from(shape.width),
+        widths.a,
+        widths.b,
+        widths.s,
+        widths.y,
+        u32::from(shape.signs.a),
+        u32::from(shape.signs.b),
+        shape.offset,
+        shape.width,
         level_number(levels.clk),
         level_number(levels.en),
         level_number(levels.arst),
@@ -122,10 +131,10 @@ fn push_numbers(row: &mut Vec<u64>, shape: &Shape) -> Result<(), Memory>
         level_number(levels.aload),
         level_number(levels.set),
         level_number(levels.clr),
-        u64::from(shape.port.address),
-        u64::from(shape.port.clocked),
-        u64::from(shape.port.number),
-        u64::from(shape.port.words),
+        shape.port.address,
+        u32::from(shape.port.clocked),
+        shape.port.number,
+        shape.port.words,
     ];
     row.extend_from_slice(&numbers)?;
     Ok(())
@@ -133,7 +142,7 @@ fn push_numbers(row: &mut Vec<u64>, shape: &Shape) -> Result<(), Memory>
 
 /// The signals at these pins, followed, behind their number.
 fn push_inputs(
-    row: &mut Vec<u64>,
+    row: &mut Vec<u32>,
     aliases: &mut Aliases,
     names: &[PinName],
     pins: &[Pin],
@@ -142,7 +151,7 @@ fn push_inputs(
         row.new.items ≡ row.old.items ++ signals_numbers (inputs_of links names.now pins.now)) }
     ensures keeps { (links : List Link) → IsAliases aliases.old links → IsAliases aliases.new links }
 {
-    row.push(names.len() as u64)?;
+    push_count(row, names.len())?;
     for name in names {
         push_signal(row, aliases, signal_at(pins, name.text()))?;
     }
@@ -150,12 +159,12 @@ fn push_inputs(
 }
 
 /// The signal, followed, behind its length.
-fn push_signal(row: &mut Vec<u64>, aliases: &mut Aliases, signal: &[SigBit]) -> Result<(), Memory>
+fn push_signal(row: &mut Vec<u32>, aliases: &mut Aliases, signal: &[SigBit]) -> Result<(), Memory>
     ensures ok { OnOk result ((links : List Link) → IsAliases aliases.old links →
         row.new.items ≡ row.old.items ++ signal_numbers (map (follow links) signal.now)) }
     ensures keeps { (links : List Link) → IsAliases aliases.old links → IsAliases aliases.new links }
 {
-    row.push(signal.len() as u64)?;
+    push_count(row, signal.len())?;
     for bit in signal {
         let end = aliases.follow(*bit);
         push_place(row, end)?;
@@ -164,7 +173,7 @@ fn push_signal(row: &mut Vec<u64>, aliases: &mut Aliases, signal: &[SigBit]) -> 
 }
 
 /// A bit of a signal, as two numbers.
-fn push_place(row: &mut Vec<u64>, bit: SigBit) -> Result<(), Memory>
+fn push_place(row: &mut Vec<u32>, bit: SigBit) -> Result<(), Memory>
     ensures ok { OnOk result (row.new.items ≡ row.old.items ++ place_numbers bit) }
 {
     match bit {
@@ -173,8 +182,8 @@ fn push_place(row: &mut Vec<u64>, bit: SigBit) -> Result<(), Memory>
             row.push(bit_number(bit))?;
         }
         SigBit::Wire(bit) => {
-            row.push(u64::from(bit.wire) + 1)?;
-            row.push(u64::from(bit.at))?;
+            row.push(bit.wire.checked_add(1).ok_or(Memory)?)?;
+            row.push(bit.at)?;
         }
     }
     Ok(())
@@ -182,7 +191,7 @@ fn push_place(row: &mut Vec<u64>, bit: SigBit) -> Result<(), Memory>
 
 /// The start values of what the cell keeps, behind their number.
 fn push_starts(
-    row: &mut Vec<u64>,
+    row: &mut Vec<u32>,
     inits: &[Bits],
     kind: CellKind,
     cell: &Cell,
@@ -204,11 +213,11 @@ fn push_starts(
 }
 
 /// The start values of these bits, behind their number.
-fn push_start_bits(row: &mut Vec<u64>, inits: &[Bits], signal: &[SigBit]) -> Result<(), Memory>
+fn push_start_bits(row: &mut Vec<u32>, inits: &[Bits], signal: &[SigBit]) -> Result<(), Memory>
     ensures ok { OnOk result ((wires : List Wire) → inits.now ≡ inits_of wires →
         row.new.items ≡ row.old.items ++ bits_numbers (map (start_of wires []) signal.now)) }
 {
-    row.push(signal.len() as u64)?;
+    push_count(row, signal.len())?;
     for bit in signal {
         row.push(bit_number(start(inits, *bit)))?;
     }
@@ -216,7 +225,7 @@ fn push_start_bits(row: &mut Vec<u64>, inits: &[Bits], signal: &[SigBit]) -> Res
 }
 
 /// A bit as a number.
-fn bit_number(bit: Bit) -> u64
+fn bit_number(bit: Bit) -> u32
     ensures value { result ≡ bit_number bit }
 {
     match bit {
@@ -230,7 +239,7 @@ fn bit_number(bit: Bit) -> u64
 }
 
 /// A level as a number.
-fn level_number(level: Level) -> u64
+fn level_number(level: Level) -> u32
     ensures value { result ≡ level_number level }
 {
     match level {

@@ -10,7 +10,7 @@ use std::collections::HashMap;
 /// The place of a cell for some rows.
 #[derive(Drop)]
 pub(crate) struct Table {
-    places: HashMap<Vec<u64>, usize>,
+    places: HashMap<Vec<u32>, usize>,
 }
 
 impl Table {
@@ -24,14 +24,14 @@ impl Table {
     }
 
     /// The place that the row has. It takes no memory.
-    pub(crate) fn get(&self, row: &[u64]) -> Option<usize>
+    pub(crate) fn get(&self, row: &[u32]) -> Option<usize>
         ensures value { result ≡ at_row self.now row.now }
     {
         self.places.get(row).copied()
     }
 
     /// The row has this place, or the place before it that it has.
-    pub(crate) fn put(&mut self, row: Vec<u64>, at: usize) -> Result<(), Memory>
+    pub(crate) fn put(&mut self, row: Vec<u32>, at: usize) -> Result<(), Memory>
         ensures ok { OnOk result (PutsRow self.old self.new row.items at) }
     {
         let place = lesser(at, self.get(row.as_slice()));

@@ -6,7 +6,6 @@ pub mod Gather
 pub mod Muxtree
 pub mod Ends
 pub mod Ways
-pub mod Starts
 pub mod Dff
 pub mod Registers
 pub mod Visits

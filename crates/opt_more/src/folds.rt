@@ -25,12 +25,11 @@ ghost use Rattle.opt_more.specs.Reduce.{
 
 use crate::changed::with_inputs;
 use crate::gather::{Gathered, MOST};
-use crate::inputs::followed_cell;
 use crate::others::other_of;
-use crate::places::Places;
 use cell_types::{CellKind, FoldKind, PinName, WordKind, kind_of};
 use net_alias::Aliases;
 use net_index::Types;
+use opt_expr::{Places, followed_cell};
 use rtl_bits::{Bit, Memory};
 use rtl_ir::{Cell, is_kept, same_value, signal_at};
 use rtl_sig::{SigBit, SigSpec, WireBit};
@@ -57,7 +56,7 @@ pub(crate) fn reduced(
         return Ok(cell);
     };
     let followed = followed_cell(alloc, types, aliases, cell)?;
-    let after = reduced_fold(alloc, places, aliases, done, rest, neutral, followed)?;
+    let after = reduced_fold(alloc, places, aliases, done, rest, neutral, followed.cell)?;
     Ok(after)
 }
 

@@ -5,13 +5,10 @@ mod changed;
 mod ends;
 mod folds;
 mod gather;
-mod inputs;
 mod kinds;
 mod muxes;
 mod others;
-mod places;
 mod registers;
-mod starts;
 mod sweep;
 mod trees;
 

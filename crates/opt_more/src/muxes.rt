@@ -14,12 +14,11 @@ ghost use Rattle.opt_more.specs.Ways.{IsWay, IsWithin};
 
 use crate::changed::with_signal;
 use crate::ends::{Arm, Arms, End};
-use crate::inputs::{followed_cell, followed_signal};
 use crate::others::now_at;
-use crate::places::{Places, place_of};
 use cell_types::{CellKind, GateKind, PinName, WordKind, kind_of};
 use net_alias::Aliases;
 use net_index::Types;
+use opt_expr::{Places, followed_cell, followed_signal, place_of};
 use rtl_bits::{Copied, Memory};
 use rtl_ir::{Cell, is_kept, pin_signal, same_signal};
 use rtl_sig::{SigBit, SigSpec};
@@ -64,7 +63,15 @@ pub(crate) fn muxed(
         return Ok(cell);
     }
     let followed = followed_cell(alloc, types, aliases, cell)?;
-    let first = with_arm(alloc, &mut arms.a, places, aliases, done, rest, followed)?;
+    let first = with_arm(
+        alloc,
+        &mut arms.a,
+        places,
+        aliases,
+        done,
+        rest,
+        followed.cell,
+    )?;
     let after = with_arm(alloc, &mut arms.b, places, aliases, done, rest, first)?;
     Ok(after)
 }

@@ -6,7 +6,7 @@ ghost use Rattle.opt_expr.specs.Places.{ArePlaces, other_at};
 ghost use Rattle.opt_more.specs.Muxtree.{now_at, standing_now};
 ghost use Rattle.opt_more.specs.Others.{other_of};
 
-use crate::places::Places;
+use opt_expr::Places;
 use rtl_ir::Cell;
 use rtl_sig::WireBit;
 use std::collections::VecDeque;

@@ -31,19 +31,18 @@ ghost use Rattle.opt_more.specs.Dff.{
   without_enable,
 };
 ghost use Rattle.opt_more.specs.Registers.{visit_of};
-ghost use Rattle.opt_more.specs.Starts.{inits_of};
+ghost use Rattle.rtl_ir.specs.Starts.{inits_of};
 
-use crate::inputs::followed_cell;
 use crate::kinds::{has_reset, register_of};
-use crate::starts::start;
 use cell_gate::{active, reset_at, storage_kind};
 use cell_types::{CellKind, Level, ParamName, PinName, Shape, StorageGate, StorageKind};
 use net_alias::Aliases;
 use net_index::Types;
+use opt_expr::followed_cell;
 use rtl_bits::{Bit, Bits, Memory, Seq};
 use rtl_ir::{
     Cell, CellParam, Link, Pin, constant_of, fitting_shape, integer_param, pin_of, pin_signal,
-    same_place,
+    same_place, start,
 };
 use rtl_sig::{SigBit, SigSpec};
 use std::alloc::Global;
@@ -75,7 +74,7 @@ pub(crate) fn registered(
         return Ok(Visited::Stays(cell));
     };
     let followed = followed_cell(alloc, types, aliases, cell)?;
-    let visited = register_visit(alloc, inits, kind, followed)?;
+    let visited = register_visit(alloc, inits, kind, followed.cell)?;
     Ok(visited)
 }
 

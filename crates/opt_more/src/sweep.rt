@@ -8,20 +8,18 @@ ghost use Rattle.rtl_ir.specs.declared.wire.Wire.{Wire};
 ghost use Rattle.net_index.specs.Types.{AreTypes};
 ghost use Rattle.net_alias.specs.Aliases.{IsAliases};
 ghost use Rattle.opt_expr.specs.Places.{ArePlaces};
-ghost use Rattle.opt_expr.specs.Sweep.{standing};
 ghost use Rattle.opt_more.specs.Sweep.{swept_by, swept_of};
 ghost use Rattle.opt_more.specs.Registers.{visit_of};
-ghost use Rattle.opt_more.specs.Starts.{inits_of};
+ghost use Rattle.rtl_ir.specs.Starts.{inits_of};
 ghost use Rattle.opt_more.specs.Visits.{visit_by};
 
 use crate::folds::reduced;
-use crate::places::{Places, places_of};
 use crate::registers::{Visited, registered};
-use crate::starts::inits;
 use net_alias::Aliases;
 use net_index::Types;
+use opt_expr::{Places, places_of, standing};
 use rtl_bits::{Bits, Memory, Seq};
-use rtl_ir::{Cell, Link, Module, PortTable};
+use rtl_ir::{Cell, Link, Module, PortTable, inits};
 use std::alloc::Global;
 use std::collections::VecDeque;
 
@@ -196,17 +194,4 @@ fn leave(
             Ok(None)
         }
     }
-}
-
-/// The cells that have not gone.
-pub(crate) fn standing(alloc: Global, slots: Vec<Option<Cell>>) -> Result<Seq<Cell>, Memory>
-    ensures value { IfOk result (λ cells. cells ≡ standing slots.items) }
-{
-    let mut cells = Vec::with_capacity(alloc, slots.len())?;
-    for slot in slots {
-        if let Some(cell) = slot {
-            cells.push(cell)?;
-        }
-    }
-    Ok(Seq::from_vec(cells))
 }

@@ -9,10 +9,9 @@ ghost use Rattle.opt_more.specs.Sweep.{swept_by};
 
 use crate::ends::Arms;
 use crate::muxes::muxed;
-use crate::places::places_of;
-use crate::sweep::standing;
 use net_alias::Aliases;
 use net_index::Types;
+use opt_expr::{places_of, standing};
 use rtl_bits::Memory;
 use rtl_ir::{Cell, Module, PortTable};
 use std::alloc::Global;

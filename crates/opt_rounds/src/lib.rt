@@ -7,7 +7,6 @@ ghost use Rattle.std.specs.Prelude.{◌≡◌, ◌&&◌, true, IfOk};
 ghost use Rattle.rtl_ir.specs.Types.{table_ports};
 ghost use Rattle.pass_laws.specs.Pass.{IsPass};
 ghost use Rattle.pass_laws.specs.Ready.{IsReady};
-ghost use Rattle.opt_expr.specs.Sweep.{expr_of};
 ghost use Rattle.opt_merge.specs.Merge.{merge_of};
 ghost use Rattle.opt_clean.specs.Clean.{clean_of};
 ghost use Rattle.opt_rounds.specs.Rounds.{opt_of, round_of};
@@ -53,7 +52,7 @@ fn round(alloc: Global, module: Module, ports: &PortTable) -> Result<Turn, Memor
     ensures exact { IfOk result (λ turn. turn.after ≡ round_of (table_ports ports.now.modules) «module») }
     ensures same { IfOk result (λ turn. turn.is_same ≡ true → turn.after ≡ «module») }
 {
-    let folded = folded(alloc, module, ports)?;
+    let folded = opt_expr::apply_owned(alloc, module, ports)?;
     let merged = merged(alloc, folded.after, ports)?;
     let cleaned = cleaned(alloc, merged.after, ports)?;
     Ok(Turn {
@@ -67,16 +66,6 @@ fn are_all(one: bool, two: bool, three: bool) -> bool
     ensures value { result ≡ (one && two && three) }
 {
     one && two && three
-}
-
-/// `opt_expr`.
-fn folded(alloc: Global, module: Module, ports: &PortTable) -> Result<Turn, Memory>
-    requires ready { IsReady (table_ports ports.now.modules) «module» }
-    ensures exact { IfOk result (λ turn. turn.after ≡ expr_of (table_ports ports.now.modules) «module») }
-    ensures ready { IfOk result (λ turn. IsReady (table_ports ports.now.modules) turn.after) }
-    ensures same { IfOk result (λ turn. turn.is_same ≡ true → turn.after ≡ «module») }
-{
-    opt_expr::apply_owned(alloc, module, ports)
 }
 
 /// `opt_merge`, which takes cells away wherever it changes something.

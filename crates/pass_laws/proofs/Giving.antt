@@ -28,7 +28,7 @@ use Rattle.rtl_ir.specs.Outputs.{output_pin}
 use Rattle.rtl_ir.specs.Parameters.{signal_at}
 use Rattle.rtl_ir.specs.Signals.{wire_bits}
 use Rattle.rtl_ir.specs.Types as types
-use Rattle.rtl_ir.specs.Types.{Library, cell_type}
+use Rattle.rtl_ir.specs.Types.{cell_type}
 use Rattle.rtl_ir.specs.declared.cell.Cell.{Cell}
 use Rattle.rtl_ir.specs.declared.cell.Pin.{Pin}
 use Rattle.rtl_ir.specs.declared.module.Link.{Link}

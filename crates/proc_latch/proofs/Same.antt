@@ -8,7 +8,7 @@ use Rattle.rtl_ir.specs.declared.module.Link.{Link}
 use Rattle.rtl_ir.specs.Assigns.{assigned, cases_assigns}
 use Rattle.rtl_ir.specs.Signals.{has_bit, same_bit}
 use Rattle.rtl_ir.specs.Tree.{CaseView, Switches, NoSwitch, OneSwitch, Cases, NoCase, OneCase}
-use Rattle.net_model.specs.Proc.Latch.{Chain, Chains, Leaves, Side, made_chain, missing_leaf, other_leaf, own_leaf}
+use Rattle.net_model.specs.Proc.Latch.{Chains, Leaves, Side, made_chain, missing_leaf, other_leaf, own_leaf}
 use Rattle.net_model.specs.Proc.Latch as by_places
 use Rattle.net_model.specs.Proc.Mux.{assigns_run, lowest}
 use Rattle.match_cells.specs.Numbers.{behind_case, behind_switch}

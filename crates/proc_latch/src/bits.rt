@@ -4,7 +4,7 @@ ghost use Rattle.std.specs.Prelude.{◌≡◌, IfOk};
 ghost use Rattle.std.specs.HashSet.{contains};
 ghost use Rattle.rtl_sig.specs.declared.sig.WireBit.{WireBit};
 ghost use Rattle.rtl_ir.specs.Assigns.{each_once, tree_bits};
-ghost use Rattle.rtl_ir.specs.Signals.{has_bit, same_bit};
+ghost use Rattle.rtl_ir.specs.Signals.{has_bit};
 ghost use Rattle.proc_latch.specs.Bits.{AreListed};
 
 use net_index::assigned_bits;

@@ -1,6 +1,6 @@
 //! The chains of tree bits that stand for the data or for the enable of a latch.
 
-ghost use Rattle.std.specs.Prelude.{◌≡◌, ◌∷◌, [], Err, IfOk, OnOk};
+ghost use Rattle.std.specs.Prelude.{◌≡◌, [], Err, IfOk, OnOk};
 ghost use Rattle.net_index.specs.Builder.{IsInLimits, PassesLimit};
 ghost use Rattle.net_model.specs.Proc.Mux.{lowest};
 ghost use Rattle.proc_latch.specs.Chains.{chain_at, put_chain, seen, with_case_bit};

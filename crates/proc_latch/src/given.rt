@@ -21,7 +21,7 @@ pub(crate) fn value_at(given: &[Given], node: usize) -> Option<SigBit>
     first_value(&given[first..], node)
 }
 
-/// The same where no node stands before this one.
+/// The last that the assigns of the case at this node give, where no node stands before it.
 fn first_value(given: &[Given], node: usize) -> Option<SigBit>
     requires in_order { AreInOrder given.now }
     requires from { AllFrom node given.now }

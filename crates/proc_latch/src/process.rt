@@ -1,10 +1,10 @@
 //! Processes, one after another.
 
-ghost use Rattle.std.specs.Prelude.{◌≡◌, ◌&&◌, Err, IfOk, Some, None, false, filter, if◌then◌else◌, map, not, true};
+ghost use Rattle.std.specs.Prelude.{◌≡◌, ◌&&◌, Err, IfOk, Some, None, false, filter, if◌then◌else◌, map, true};
 ghost use Rattle.std.specs.List.{list_any};
 ghost use Rattle.std.specs.Option.{option_map_or};
 ghost use Rattle.rtl_ir.specs.declared.process.SyncRule.{SyncRule};
-ghost use Rattle.rtl_ir.specs.Rules.{acting_rules, has_line, is_init};
+ghost use Rattle.rtl_ir.specs.Rules.{acting_rules, has_line};
 ghost use Rattle.net_index.specs.Builder.{IsInLimits, PassesLimit};
 ghost use Rattle.net_model.specs.Proc.Latch.{is_always, latch_process, latches_step, without_always};
 ghost use Rattle.proc_latch.specs.Steps.{acts, always_process, lone};

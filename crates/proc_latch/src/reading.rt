@@ -1,6 +1,6 @@
 //! What leaves are read by.
 
-ghost use Rattle.std.specs.Prelude.{◌≡◌, IfOk};
+ghost use Rattle.std.specs.Prelude.{IfOk};
 ghost use Rattle.proc_latch.specs.Chains.{AreTables};
 
 use crate::bits::{TreeBits, tree_bits};

@@ -1,7 +1,6 @@
 //! The way through a tree for the chain of a bit, and from its leaves to other chains.
 
 ghost use Rattle.std.specs.Prelude.{◌≡◌, ◌+◌, Err, IfOk, OnOk, Option, Some, slice_get};
-ghost use Rattle.rtl_sig.specs.declared.sig.SigBit.TheVariants.{Wire as OnWire};
 ghost use Rattle.rtl_ir.specs.Tree.{cases_of, switches_of};
 ghost use Rattle.net_index.specs.Builder.{IsInLimits, PassesLimit};
 ghost use Rattle.match_cells.specs.Numbers.{HasCases, HasSwitches, behind_case, behind_switch};

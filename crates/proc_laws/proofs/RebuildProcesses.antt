@@ -3,7 +3,7 @@ use Rattle.std.proofs.Common.{◌≡◌, Bool, true, false, List, [], ◌∷◌,
 use Rattle.std.specs.Prelude.{flat_map, not, ◌||◌}
 use Rattle.std.proofs.lemmas.Bool.{or_parts}
 use Rattle.rtl_ir.specs.Assigns.{tree_bits}
-use Rattle.rtl_ir.specs.Fault.{BadMemory, BadPort, BadProcess, Fault, Spot, TooWide, UnsupportedCell, fault_if, spot}
+use Rattle.rtl_ir.specs.Fault.{BadMemory, BadPort, BadProcess, Fault, Spot, TooWide, fault_if, spot}
 use Rattle.rtl_ir.specs.Fault as fault
 use Rattle.rtl_ir.specs.Faults.ProcessLimits.{gives_to_constant, has_uneven, is_too_wide}
 use Rattle.rtl_ir.specs.Faults.Processes.{faults_of_process, has_bad_line, is_bad_process, process_faults, starts_stand}

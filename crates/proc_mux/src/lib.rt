@@ -12,7 +12,7 @@ mod walk;
 ghost use Rattle.std.specs.Prelude.{◌≡◌, Err, IfOk, OnOk};
 ghost use Rattle.rtl_ir.specs.Scope.{with_processes, without_processes};
 ghost use Rattle.rtl_ir.specs.Types.{table_ports};
-ghost use Rattle.net_index.specs.Builder.{IsInLimits, PassesLimit};
+ghost use Rattle.net_index.specs.Builder.{IsInLimits};
 ghost use Rattle.net_model.specs.Proc.Mux.{proc_mux_of};
 ghost use Rattle.proc_laws.specs.Ready.{AreRuled, HaveNoLines, IsReady};
 ghost use Rattle.proc_laws.specs.Step.{IsStep};

@@ -1,5 +1,5 @@
 -- The rules that act are two, or others.
-use Rattle.std.proofs.Common.{◌≡◌, List, [], ◌∷◌, ◌++◌, Bor, ◌⊎◌, inl, inr, sym, ap, subst}
+use Rattle.std.proofs.Common.{◌≡◌, List, [], ◌∷◌, Bor, ◌⊎◌, inl, inr, sym, ap, subst}
 use Rattle.rtl_ir.specs.declared.process.SyncRule.{SyncRule}
 use Rattle.rtl_ir.specs.declared.module.Module.{Module}
 use Rattle.rtl_ir.specs.declared.process.Process.{Process}
@@ -7,7 +7,7 @@ use Rattle.rtl_ir.specs.Types.{Ports}
 use Rattle.net_model.specs.Proc.Reset.{reset_process}
 use Rattle.process_trees.specs.Acting.{Acts}
 use Rattle.process_trees.specs.declared.acting.Acting.{Acting}
-use Rattle.process_trees.specs.declared.acting.Acting.TheVariants.{Idle, Single, Pair, Several}
+use Rattle.process_trees.specs.declared.acting.Acting.TheVariants.{Idle, Single, Several}
 
 -- where the rules that act are not two, a process stays
 pub other_stays : (ports : Ports) (m : Module) (others : List Process) (p : Process) (acting : Acting) (rules : List SyncRule) → Acts acting rules

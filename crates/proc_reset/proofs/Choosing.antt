@@ -1,5 +1,5 @@
 -- What is answered on either side of a choice.
-use Rattle.std.proofs.Common.{◌≡◌, Bool, true, false, cond, ◌&&◌, not, Result, IfOk, Option, Some, None, option_map, refl, sym, ◌∙◌, ap, subst}
+use Rattle.std.proofs.Common.{◌≡◌, Bool, true, false, cond, ◌&&◌, not, Result, IfOk, sym, ◌∙◌, ap, subst}
 use Rattle.rtl_bits.specs.declared.memory.Memory.{Memory}
 
 module _ {A : Type 0} (r : Result A Memory) (t : Bool) (x y : A) where

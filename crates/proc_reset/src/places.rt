@@ -159,7 +159,7 @@ pub(crate) fn lines_hold(leaves: &Leaves, lines: &[Link]) -> bool
     false
 }
 
-/// The same of one line with these sides.
+/// Whether a bit on the left side of a line keeps its value.
 fn line_holds(leaves: &Leaves, left: &[SigBit], right: &[SigBit]) -> bool
     ensures value { (root : CaseView) (bits : List WireBit) → AreLeaves leaves.now root bits →
         result ≡ list_any (is_held root bits) (joins left.now right.now) }
@@ -172,7 +172,7 @@ fn line_holds(leaves: &Leaves, left: &[SigBit], right: &[SigBit]) -> bool
     false
 }
 
-/// The same of a place of a line.
+/// Whether the bit on the left of a place of a line keeps its value.
 fn place_holds(leaves: &Leaves, left: SigBit, source: SigBit) -> bool
     ensures value { (root : CaseView) (bits : List WireBit) → AreLeaves leaves.now root bits →
         result ≡ list_any (is_held root bits) (joins (left ∷ []) (source ∷ [])) }
@@ -183,7 +183,7 @@ fn place_holds(leaves: &Leaves, left: SigBit, source: SigBit) -> bool
     }
 }
 
-/// The same of a bit that is given this source.
+/// Whether a bit that is given this source keeps its value.
 fn is_held(leaves: &Leaves, bit: WireBit, source: SigBit) -> bool
     ensures value { (root : CaseView) (bits : List WireBit) → AreLeaves leaves.now root bits →
         result ≡ is_held root bits (record { bit = bit; source = source }) }

@@ -196,8 +196,8 @@ fn by_leaves(
     bits: &[WireBit],
     leaves: &Leaves,
 ) -> Result<Process, Memory>
+    requires bits { bits.now ≡ tree_bits setting.now.process.now.root }
     ensures value { (ports : Ports) (active : CaseView) → IsOuter setting.now.outer.now ports →
-        bits.now ≡ tree_bits setting.now.process.now.root →
         active ≡ open_case (switch_test ports setting.now.outer.now.«module».now reset.bit) reset.level
         setting.now.process.now.root → AreLeaves leaves.now active bits.now →
         IfOk result (λ made. made ≡ step.with_level ports setting.now.outer.now.«module».now

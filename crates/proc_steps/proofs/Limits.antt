@@ -1,7 +1,6 @@
 -- The limits as a test, and what the steps answer by them.
-use Rattle.std.proofs.Common.{◌≡◌, Bool, true, false, cond, Option, Some, None, Result, Ok, Err, refl, sym, ◌∙◌, ap, arith}
+use Rattle.std.proofs.Common.{◌≡◌, Bool, true, false, refl, arith}
 use Rattle.std.proofs.lemmas.Bool.Decides.{nat_tests}
-use Rattle.std.specs.Prelude.{◌&&◌, IfOk, OnOk}
 use Rattle.rtl_ir.specs.Build.{Building}
 use Rattle.net_index.specs.Builder.{IsInLimits, PassesLimit}
 use Rattle.proc_steps.specs.Limits.{is_within}

@@ -17,8 +17,8 @@ use Rattle.rtl_ir.specs.declared.follow.Join.{Join}
 use Rattle.rtl_ir.specs.Rules.{acting_rules}
 use Rattle.rtl_ir.specs.Signals.{has_bit, same_bit}
 use Rattle.rtl_ir.specs.Tree.{Switches, NoSwitch, OneSwitch, Cases, NoCase, OneCase, CaseView}
-use Rattle.net_model.specs.Proc.Latch.{Chain, Chains, Leaves, Side, always_step, always_steps, assigned_leaf, cases_chain, chain_of, is_always, latch_cell, latch_process, latch_step, latches_step, leaf_within, made_chain, missing_leaf, other_leaf, own_leaf, proc_latch_of, side_value, switches_chain, with_case_bit, without_always}
-use Rattle.net_model.specs.Proc.Mux.{Trees, assigns_run, lowest, with_case}
+use Rattle.net_model.specs.Proc.Latch.{Chains, Leaves, Side, always_step, always_steps, assigned_leaf, cases_chain, chain_of, is_always, latch_cell, latch_process, latch_step, latches_step, leaf_within, made_chain, missing_leaf, other_leaf, own_leaf, proc_latch_of, side_value, switches_chain, with_case_bit, without_always}
+use Rattle.net_model.specs.Proc.Mux.{Trees, assigns_run, lowest}
 use Rattle.proc_steps.proofs.RenamingMux.{beside_trees, case_renamed, renamed, renamed_trees, under}
 
 module _ (id : List ℕ) where

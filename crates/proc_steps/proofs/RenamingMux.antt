@@ -1,5 +1,5 @@
 -- Making multiplexers does not look at the name of a module.
-use Rattle.std.proofs.Common.{◌≡◌, ℕ, ◌+◌, List, [], ◌∷◌, ◌++◌, Bool, true, false, Option, Some, None, if◌then◌else◌, length, refl, ap, ◌∙◌}
+use Rattle.std.proofs.Common.{◌≡◌, ℕ, ◌+◌, List, [], ◌∷◌, ◌++◌, Bool, true, false, Option, Some, None, if◌then◌else◌, refl, ap, ◌∙◌}
 use Rattle.std.specs.Prelude.{map}
 use Rattle.std.specs.Option.{option_map_or}
 use Rattle.rtl_bits.specs.declared.bit.Bit.TheVariants.{S0, S1, X, Z, M, Dash}
@@ -9,10 +9,10 @@ use Rattle.rtl_sig.specs.declared.sig.WireBit.{WireBit}
 use Rattle.rtl_ir.specs.declared.module.Module.{Module}
 use Rattle.rtl_ir.specs.declared.process.Process.{Process}
 use Rattle.rtl_ir.specs.Assigns.{cases_assigns}
-use Rattle.rtl_ir.specs.Build.{Build, Building, building_of, new_link}
+use Rattle.rtl_ir.specs.Build.{Building, building_of, new_link}
 use Rattle.rtl_ir.specs.Tree.{Switches, NoSwitch, OneSwitch, Cases, NoCase, OneCase, CaseView}
 use Rattle.rtl_ir.specs.Signals.{same_signal}
-use Rattle.net_model.specs.Proc.Mux.{Made, Trees, asked_places, assigns_run, cases_value, is_default, joined_bits, made_match, match_bit, mux_cell, pattern_bit, pattern_bits, process_step, processes_step, proc_mux_of, run_step, run_value, runs_step, switches_value, tree_runs, with_case}
+use Rattle.net_model.specs.Proc.Mux.{Trees, asked_places, assigns_run, cases_value, is_default, joined_bits, made_match, match_bit, mux_cell, pattern_bit, pattern_bits, process_step, processes_step, proc_mux_of, run_step, run_value, runs_step, switches_value, tree_runs, with_case}
 use Rattle.net_model.specs.Proc.Start.{proc_tree_of}
 
 module _ (id : List ℕ) where

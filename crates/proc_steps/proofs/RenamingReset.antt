@@ -1,6 +1,6 @@
 -- Resets do not look at the name of a module.
-use Rattle.std.proofs.Common.{◌≡◌, ℕ, zero, suc, List, [], ◌∷◌, ◌++◌, Bool, true, false, not, Option, Some, None, if◌then◌else◌, refl, ap, ◌∙◌}
-use Rattle.std.specs.Prelude.{◌&&◌, map, option_map, option_and_then}
+use Rattle.std.proofs.Common.{◌≡◌, ℕ, zero, suc, List, [], ◌∷◌, ◌++◌, false, not, Option, Some, None, if◌then◌else◌, refl, ap, ◌∙◌}
+use Rattle.std.specs.Prelude.{◌&&◌, option_map, option_and_then}
 use Rattle.std.specs.List.{list_all, list_any}
 use Rattle.rtl_sig.specs.declared.sig.SigBit.{SigBit}
 use Rattle.rtl_sig.specs.declared.sig.SigBit.TheVariants.{Fixed, Wire as OnWire}
@@ -12,7 +12,7 @@ use Rattle.rtl_ir.specs.declared.process.SyncRule.{SyncRule}
 use Rattle.rtl_ir.specs.Assigns.{tree_bits}
 use Rattle.rtl_ir.specs.Decisions.{expanded, leaves_of}
 use Rattle.rtl_ir.specs.EventTests.{Step, differs, meets, step_at, switch_test, test_within}
-use Rattle.rtl_ir.specs.Faults.TwoEdges.{EdgeBit, SwitchTest, are_all, decided, edge_bit, is_tested, switches_test}
+use Rattle.rtl_ir.specs.Faults.TwoEdges.{EdgeBit, SwitchTest, are_all, decided, edge_bit, switches_test}
 use Rattle.rtl_ir.specs.Follow.{all_joins, follow_joins}
 use Rattle.rtl_ir.specs.declared.follow.Join.{Join}
 use Rattle.rtl_ir.specs.Rules.{acting_rules}

@@ -1,5 +1,5 @@
 -- Making flip-flops and write ports does not look at the name of a module.
-use Rattle.std.proofs.Common.{◌≡◌, ℕ, List, [], ◌∷◌, ◌++◌, Bool, true, false, not, Option, Some, None, if◌then◌else◌, refl, ap, ◌∙◌}
+use Rattle.std.proofs.Common.{◌≡◌, ℕ, List, [], ◌∷◌, ◌++◌, Bool, true, not, Option, Some, None, if◌then◌else◌, refl, ap, ◌∙◌}
 use Rattle.std.specs.Prelude.{map, flat_map}
 use Rattle.std.specs.Option.{is_some}
 use Rattle.rtl_sig.specs.declared.sig.SigBit.{SigBit}

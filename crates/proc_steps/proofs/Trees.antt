@@ -1,5 +1,5 @@
 -- Reading switches by the rules adds no assign, so that each bit that assigns name is still one that its wire has.
-use Rattle.std.proofs.Common.{◌≡◌, Bool, true, false, cond, if◌then◌else◌, List, [], ◌∷◌, ◌++◌, map, filter, inl, inr, ⊎_elim, refl, sym, ap, subst}
+use Rattle.std.proofs.Common.{Bool, true, false, if◌then◌else◌, List, [], ◌∷◌, ◌++◌, filter, ⊎_elim, sym, subst}
 use Rattle.rtl_sig.specs.declared.sig.SigBit.{SigBit}
 use Rattle.rtl_ir.specs.declared.module.Link.{Link}
 use Rattle.rtl_ir.specs.declared.module.Module.{Module}

@@ -1,5 +1,5 @@
 -- Numbers of write ports, cell by cell and line by line.
-use Rattle.std.proofs.Common.{◌≡◌, ℕ, zero, suc, ◌+◌, ◌-◌, ◌<◌, ◌≤◌, max, Bool, true, false, cond, List, [], ◌∷◌, ◌++◌, length, drop, get_or, Some, Bor, if◌then◌else◌, refl, sym, ◌∙◌, ap, arith}
+use Rattle.std.proofs.Common.{◌≡◌, ℕ, ◌+◌, ◌-◌, ◌<◌, ◌≤◌, max, Bool, true, false, cond, List, [], ◌∷◌, ◌++◌, length, drop, get_or, Some, Bor, if◌then◌else◌, refl, sym, ◌∙◌, ap, arith}
 use Rattle.std.specs.Prelude.{◌&&◌, count_by, filter, map, nat_eq, nat_le, unwrap_or}
 use Rattle.std.specs.Option.{option_map_or}
 use Rattle.std.specs.Str.{bytes_eq}
@@ -124,9 +124,3 @@ line_put old new key value m done p are made name =
         let same : line_number m done key.now ≡ line_number m done name = ap (line_number m done) (name_is key.now name e) in
         omega (arith, made, same, f)
     by false e f = omega (arith, are name, f)
-
--- an item whatever stands for none
-pub get_any : {A : Type 0} (xs : List A) (i : ℕ) (d e : A) → i < length xs → get_or xs i d ≡ get_or xs i e
-get_any [] i d e h = absurd (omega arith)
-get_any (x ∷ xs) zero d e h = refl
-get_any (x ∷ xs) (suc i) d e h = get_any xs i d e (omega arith)

@@ -15,20 +15,20 @@ use Rattle.rtl_ir.specs.declared.process.Process.{Process}
 use Rattle.rtl_ir.specs.declared.process.SyncRule.{SyncRule}
 use Rattle.net_model.specs.Proc.Sync.{Class, Plain, Resets, Loads, Run, class_of, classed, edge_and_level, edge_cell, edge_lines, global_cell, in_turn, level_cell, level_side, loaded_cell, one_rule, plain_lines, rules_step, runs_of, same_class, two_rules}
 use Rattle.net_index.specs.Builder.{PassesLimit}
-use Rattle.proc_sync.specs.Control.{trigger_of}
+use Rattle.rtl_ir.specs.Triggers.{trigger_of}
 use Rattle.proc_sync.specs.Events.{both_of, form_step}
 use Rattle.proc_sync.specs.Rules.{beside_cell, line_step, lines_step, run_cell}
 use Rattle.proc_sync.specs.Runs.{class_by, class_in}
-use Rattle.proc_sync.specs.declared.control.Control.{Control}
+use Rattle.rtl_ir.specs.declared.trigger.Trigger.{Trigger as RuleTrigger}
 use Rattle.proc_sync.specs.declared.rules.Form.TheVariants.{AtSteps, AtLevel, AtEdge, Beside}
 use Rattle.proc_sync.proofs.Growing.{lines_grow}
 use Rattle.proc_sync.proofs.Turning.{Grows, cell_grows, grows_more, grows_none, over_later, turn_filter, turn_grows, turn_same}
 
 -- an edge rule
-pub edge_is : (e : Control) (lines : List Link) (b : Building) → lines_step (AtEdge e) [] lines b ≡ edge_lines (trigger_of e) None [] lines b
+pub edge_is : (e : RuleTrigger) (lines : List Link) (b : Building) → lines_step (AtEdge e) [] lines b ≡ edge_lines (trigger_of e) None [] lines b
 edge_is e lines b = refl
 
-beside_run : (e l : Control) (levels : List Join) (run : Run) (b : Building) → run_cell (Beside e l) levels run b ≡ edge_cell (trigger_of e) (Some (trigger_of l)) levels run b
+beside_run : (e l : RuleTrigger) (levels : List Join) (run : Run) (b : Building) → run_cell (Beside e l) levels run b ≡ edge_cell (trigger_of e) (Some (trigger_of l)) levels run b
 beside_run e l levels run b = by run.class
   where
     by : (class : Class) → beside_cell e l class levels run.places b ≡ loaded_cell (trigger_of e) (trigger_of l) class (level_side levels run.places) run.places b
@@ -37,7 +37,7 @@ beside_run e l levels run b = by run.class
     by Loads = refl
 
 -- beside a level rule
-pub beside_is : (e l : Control) (levels : List Join) (lines : List Link) (b : Building) → lines_step (Beside e l) levels lines b ≡ edge_lines (trigger_of e) (Some (trigger_of l)) levels lines b
+pub beside_is : (e l : RuleTrigger) (levels : List Join) (lines : List Link) (b : Building) → lines_step (Beside e l) levels lines b ≡ edge_lines (trigger_of e) (Some (trigger_of l)) levels lines b
 beside_is e l levels lines b =
     turn_same (line_step (Beside e l) levels)
     (λ (line : Link). in_turn (edge_cell (trigger_of e) (Some (trigger_of l)) levels) (classed (λ (j : Join). class_of (source_at levels j.bit)) (joins line.left line.right)))
@@ -65,7 +65,7 @@ plains_are cell edges lines b =
     ∙ ap (λ f. in_turn cell (runs_of Plain (classed f (joins line.left line.right))) c) (classes_same edges))
     lines b
 
-pub level_is : (l : Control) (edges : List Join) (lines : List Link) (b : Building) → lines_step (AtLevel l) edges lines b ≡ plain_lines (level_cell (trigger_of l)) (λ (j : Join). not (is_some (source_at edges j.bit))) lines b
+pub level_is : (l : RuleTrigger) (edges : List Join) (lines : List Link) (b : Building) → lines_step (AtLevel l) edges lines b ≡ plain_lines (level_cell (trigger_of l)) (λ (j : Join). not (is_some (source_at edges j.bit))) lines b
 level_is l edges lines b = plains_are (level_cell (trigger_of l)) edges lines b
 
 pub steps_is : (lines : List Link) (b : Building) → lines_step AtSteps [] lines b ≡ plain_lines global_cell (λ (j : Join). true) lines b
@@ -73,10 +73,10 @@ steps_is lines b = plains_are global_cell [] lines b
 
 -- a rule that stands alone, by what its event is
 module _ (event : Event) (lines : List Link) (b : Building) where
-  pub one_edge : (e : Control) → Some (trigger_of e) ≡ edge_trigger event → form_step (Some (AtEdge e)) [] lines b ≡ one_rule (edge_trigger event) (level_trigger event) event lines b
+  pub one_edge : (e : RuleTrigger) → Some (trigger_of e) ≡ edge_trigger event → form_step (Some (AtEdge e)) [] lines b ≡ one_rule (edge_trigger event) (level_trigger event) event lines b
   one_edge e is = ap (λ o. one_rule o (level_trigger event) event lines b) is
 
-  pub one_level : (l : Control) → None ≡ edge_trigger event → Some (trigger_of l) ≡ level_trigger event → form_step (Some (AtLevel l)) [] lines b ≡ one_rule (edge_trigger event) (level_trigger event) event lines b
+  pub one_level : (l : RuleTrigger) → None ≡ edge_trigger event → Some (trigger_of l) ≡ level_trigger event → form_step (Some (AtLevel l)) [] lines b ≡ one_rule (edge_trigger event) (level_trigger event) event lines b
   one_level l none is = level_is l [] lines b ∙ (λ i. one_rule (none i) (is i) event lines b)
 
   pub one_steps : None ≡ edge_trigger event → None ≡ level_trigger event → event ≡ Global → form_step (Some AtSteps) [] lines b ≡ one_rule (edge_trigger event) (level_trigger event) event lines b
@@ -97,7 +97,7 @@ pub one_none : (event : Event) (lines : List Link) (b : Building) → None ≡ e
 one_none event lines b none nor h = nothing event lines b h ∙ (λ i. one_rule (none i) (nor i) event lines b)
 
 -- an edge rule beside a level rule
-pub both_is : (e l : Control) (edges levels : List Link) (b c : Building) → c ≡ lines_step (Beside e l) (all_joins levels) edges b → lines_step (AtLevel l) (all_joins edges) levels c ≡ edge_and_level (trigger_of e) edges (trigger_of l) levels b
+pub both_is : (e l : RuleTrigger) (edges levels : List Link) (b c : Building) → c ≡ lines_step (Beside e l) (all_joins levels) edges b → lines_step (AtLevel l) (all_joins edges) levels c ≡ edge_and_level (trigger_of e) edges (trigger_of l) levels b
 both_is e l edges levels b c is =
     level_is l (all_joins edges) levels c
     ∙ ap (plain_lines (level_cell (trigger_of l)) (λ (j : Join). not (is_some (source_at (all_joins edges) j.bit))) levels) (is ∙ beside_is e l (all_joins levels) edges b)
@@ -176,7 +176,7 @@ pub processes_grow : (ps : List Process) (b : Building) → Grows b (in_turn (λ
 processes_grow ps b = turn_grows (λ (p : Process). rules_step (acting_rules p.syncs)) process_grows ps b
 
 -- where the edge rule passes a limit, so do both
-pub both_over : (e l : Control) (edges levels : List Link) (b : Building) (js : List Join) → js ≡ all_joins levels → PassesLimit (lines_step (Beside e l) js edges b) → PassesLimit (edge_and_level (trigger_of e) edges (trigger_of l) levels b)
+pub both_over : (e l : RuleTrigger) (edges levels : List Link) (b : Building) (js : List Join) → js ≡ all_joins levels → PassesLimit (lines_step (Beside e l) js edges b) → PassesLimit (edge_and_level (trigger_of e) edges (trigger_of l) levels b)
 both_over e l edges levels b js is over =
     let first : Building = lines_step (Beside e l) (all_joins levels) edges b in
     subst PassesLimit (both_is e l edges levels b first refl)

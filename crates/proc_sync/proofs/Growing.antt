@@ -10,11 +10,11 @@ use Rattle.rtl_ir.specs.declared.follow.Join.{Join}
 use Rattle.rtl_ir.specs.declared.module.Link.{Link}
 use Rattle.net_model.specs.Proc.Sync.{Class, Plain, Resets, Loads, Run, classed, left_side, level_side, right_side, same_class}
 use Rattle.proc_sync.specs.Cells.{clocked_params, clocked_pins, data_pins, enabled_params, enabled_pins, load_params, load_pins, reset_params, reset_pins, width_params}
-use Rattle.proc_sync.specs.Control.{trigger_of}
+use Rattle.rtl_ir.specs.Triggers.{trigger_of}
 use Rattle.proc_sync.specs.Forms.{dff_cell, dlatch_cell, ff_cell}
 use Rattle.proc_sync.specs.Rules.{beside_cell, is_beside, line_step, lines_step, run_cell}
 use Rattle.proc_sync.specs.Runs.{class_in}
-use Rattle.proc_sync.specs.declared.control.Control.{Control}
+use Rattle.rtl_ir.specs.declared.trigger.Trigger.{Trigger as RuleTrigger}
 use Rattle.proc_sync.specs.declared.rules.Form.{Form}
 use Rattle.proc_sync.specs.declared.rules.Form.TheVariants.{AtSteps, AtLevel, AtEdge, Beside}
 use Rattle.proc_sync.proofs.Turning.{Grows, cell_grows, grows_none, turn_grows}
@@ -30,7 +30,7 @@ dff_grows : (e : Trigger) (js : List Join) (b : Building) → Grows b (dff_cell 
 dff_grows e js b =
     cell_grows (codes "$dff") (Storage Dff) refl (clocked_params (length js) e.level) (clocked_pins e.signal (right_side js) (left_side js)) b
 
-beside_grows : (e l : Control) (class : Class) (levels js : List Join) (b : Building) → Grows b (beside_cell e l class levels js b)
+beside_grows : (e l : RuleTrigger) (class : Class) (levels js : List Join) (b : Building) → Grows b (beside_cell e l class levels js b)
 beside_grows e l Plain levels js b = dff_grows (trigger_of e) js b
 beside_grows e l Resets levels js b =
     cell_grows (codes "$adff") (Storage Adff) refl (reset_params (length js) e.level l.level (level_side levels js)) (reset_pins e.signal.now l.signal.now (right_side js) (left_side js)) b

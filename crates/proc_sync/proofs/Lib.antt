@@ -1,7 +1,7 @@
 mod Turning
 mod Growing
 mod Exact
-mod Marking
 mod Counting
 mod Following
 mod Stepping
+mod Porting

@@ -1,7 +1,5 @@
-pub mod Joins
 pub mod Sources
 pub mod Runs
-pub mod Control
 pub mod Cells
 pub mod Forms
 pub mod Rules

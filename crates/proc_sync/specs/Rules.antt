@@ -5,10 +5,10 @@ use Rattle.rtl_ir.specs.Follow.{joins}
 use Rattle.rtl_ir.specs.declared.follow.Join.{Join}
 use Rattle.rtl_ir.specs.declared.module.Link.{Link}
 use Rattle.net_model.specs.Proc.Sync.{Class, Plain, Resets, Loads, Run, classed, in_turn, level_side, same_class}
-use Rattle.proc_sync.specs.Control.{trigger_of}
+use Rattle.rtl_ir.specs.Triggers.{trigger_of}
 use Rattle.proc_sync.specs.Forms.{adff_cell, aldff_cell, dff_cell, dlatch_cell, ff_cell}
 use Rattle.proc_sync.specs.Runs.{class_in}
-use Rattle.proc_sync.specs.declared.control.Control.{Control}
+use Rattle.rtl_ir.specs.declared.trigger.Trigger.{Trigger}
 use Rattle.proc_sync.specs.declared.rules.Form.{Form}
 use Rattle.proc_sync.specs.declared.rules.Form.TheVariants.{AtSteps, AtLevel, AtEdge, Beside}
 
@@ -20,7 +20,7 @@ is_beside (AtEdge e) = true
 is_beside (Beside e l) = true
 
 -- a run of an edge rule beside a level rule
-abbrev pub beside_cell : Control → Control → Class → List Join → List Join → Building → Building
+abbrev pub beside_cell : Trigger → Trigger → Class → List Join → List Join → Building → Building
 beside_cell e l Plain levels js = dff_cell (trigger_of e) js
 beside_cell e l Resets levels js = adff_cell (trigger_of e) (trigger_of l) (level_side levels js) js
 beside_cell e l Loads levels js = aldff_cell (trigger_of e) (trigger_of l) (level_side levels js) js

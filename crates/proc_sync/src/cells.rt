@@ -2,10 +2,9 @@
 
 ghost use Rattle.std.specs.Prelude.{◌≡◌, Err, OnOk};
 ghost use Rattle.net_index.specs.Builder.{IsInLimits, PassesLimit};
-ghost use Rattle.proc_sync.specs.Control.{trigger_of};
+ghost use Rattle.rtl_ir.specs.Triggers.{trigger_of};
 ghost use Rattle.proc_sync.specs.Forms.{adff_cell, aldff_cell, dff_cell, dlatch_cell, ff_cell};
 
-use crate::control::Control;
 use crate::joins::{left_side, right_side};
 use crate::parts::{
     clocked_params, clocked_pins, data_pins, enabled_params, enabled_pins, load_params, load_pins,
@@ -13,7 +12,7 @@ use crate::parts::{
 };
 use cell_types::{CellKind, ParamName, StorageKind};
 use net_index::{Builder, PassFault, length_param};
-use rtl_ir::Join;
+use rtl_ir::{Join, Trigger};
 use rtl_sig::SigBit;
 use std::alloc::Global;
 
@@ -38,7 +37,7 @@ pub(crate) fn ff_cell(
 /// A `$dlatch` of the places, open at the level.
 pub(crate) fn dlatch_cell(
     alloc: Global,
-    level: &Control<'_>,
+    level: &Trigger<'_>,
     places: &[Join],
     builder: &mut Builder,
 ) -> Result<(), PassFault>
@@ -59,7 +58,7 @@ pub(crate) fn dlatch_cell(
 /// A `$dff` of the places.
 pub(crate) fn dff_cell(
     alloc: Global,
-    edge: &Control<'_>,
+    edge: &Trigger<'_>,
     places: &[Join],
     builder: &mut Builder,
 ) -> Result<(), PassFault>
@@ -79,8 +78,8 @@ pub(crate) fn dff_cell(
 /// An `$adff` of the places, which gives these constants while the level is there.
 pub(crate) fn adff_cell(
     alloc: Global,
-    edge: &Control<'_>,
-    level: &Control<'_>,
+    edge: &Trigger<'_>,
+    level: &Trigger<'_>,
     given: &[SigBit],
     places: &[Join],
     builder: &mut Builder,
@@ -103,8 +102,8 @@ pub(crate) fn adff_cell(
 /// An `$aldff` of the places, which loads this while the level is there.
 pub(crate) fn aldff_cell(
     alloc: Global,
-    edge: &Control<'_>,
-    level: &Control<'_>,
+    edge: &Trigger<'_>,
+    level: &Trigger<'_>,
     given: &[SigBit],
     places: &[Join],
     builder: &mut Builder,

@@ -1,6 +1,6 @@
 //! How many numbers of write ports of each memory are taken.
 
-ghost use Rattle.std.specs.Prelude.{◌≡◌, ◌+◌, ◌&&◌, ◌<◌, ◌^◌, ℕ, List, IfOk, OnOk, if◌then◌else◌, max};
+ghost use Rattle.std.specs.Prelude.{◌≡◌, ◌+◌, ◌&&◌, ℕ, List, IfOk, OnOk, if◌then◌else◌, max};
 ghost use Rattle.cell_types.specs.Given.{number_in};
 ghost use Rattle.cell_types.specs.declared.param_name.ParamName.TheVariants as param;
 ghost use Rattle.rtl_ir.specs.Flat.Access.{cell_accesses, next_number};
@@ -8,9 +8,8 @@ ghost use Rattle.rtl_ir.specs.Parameters.{given_params, memory_name};
 ghost use Rattle.rtl_ir.specs.WritePorts.{is_of_memory, is_write_cell};
 ghost use Rattle.proc_sync.specs.Counts.{count_at};
 
-use cell_types::ParamName;
 use rtl_bits::Memory;
-use rtl_ir::{Cell, CellParam, is_write_cell, memory_name, number_in};
+use rtl_ir::{Cell, is_write_cell, memory_name, port_number};
 use std::alloc::Global;
 use std::collections::HashMap;
 
@@ -54,17 +53,5 @@ fn put_cell<'a>(alloc: Global, counts: &mut Counts<'a>, cell: &'a Cell) -> Resul
             counts.insert(memory, next)?;
             Ok(())
         }
-    }
-}
-
-/// The number of a write port. A module has no port of a number above 65,535, so memory alone can be missing; a number
-/// of 2^31 or more is answered with `Memory` too.
-fn port_number(alloc: Global, params: &[CellParam]) -> Result<u32, Memory>
-    ensures value { IfOk result (λ number. number ≡ number_in (given_params params.now) param.Portid) }
-    ensures small { IfOk result (λ number. number < 2 ^ 31) }
-{
-    match number_in(alloc, params, ParamName::Portid)? {
-        Some(number) if number < 1 << 31 => Ok(number as u32),
-        _ => Err(Memory),
     }
 }

@@ -2,7 +2,6 @@
 #![tactic(auto)]
 
 mod cells;
-mod control;
 mod counts;
 mod joins;
 mod masks;

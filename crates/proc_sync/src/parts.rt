@@ -1,10 +1,7 @@
 //! The parameters and pins of new cells.
 
-ghost use Rattle.std.specs.Prelude.{◌≡◌, ◌<◌, IfOk, true};
-ghost use Rattle.rtl_ir.specs.Build.{integer_param, pin_of};
-ghost use Rattle.cell_types.specs.ParamName.{param_text};
-ghost use Rattle.net_index.specs.Builder.{is_number_param, new_param, new_params};
-ghost use Rattle.net_model.specs.Proc.Sync.{polarity_of};
+ghost use Rattle.std.specs.Prelude.{◌≡◌, IfOk};
+ghost use Rattle.net_index.specs.Builder.{new_params};
 ghost use Rattle.proc_sync.specs.Cells.{
   clocked_params,
   clocked_pins,
@@ -25,14 +22,6 @@ use rtl_ir::{Pin, constants_of, pin_of};
 use rtl_sig::SigBit;
 use std::alloc::Global;
 
-/// The parameter of a level.
-pub(crate) fn level_param(alloc: Global, name: ParamName, level: Level) -> Result<Param, Memory>
-    requires number { is_number_param name ≡ true }
-    ensures value { IfOk result (λ param. new_param param ≡ integer_param (param_text name) (polarity_of level)) }
-{
-    number_param(alloc, name, polarity_of(level))
-}
-
 /// The width, and the level of an enable.
 pub(crate) fn enabled_params(
     alloc: Global,
@@ -43,7 +32,7 @@ pub(crate) fn enabled_params(
 {
     let mut params = Vec::new(alloc);
     params.push(length_param(alloc, ParamName::Width, width)?)?;
-    params.push(level_param(alloc, ParamName::EnPolarity, level)?)?;
+    params.push(number_param(alloc, ParamName::EnPolarity, polarity_of(level))?)?;
     Ok(params)
 }
 
@@ -57,7 +46,7 @@ pub(crate) fn clocked_params(
 {
     let mut params = Vec::new(alloc);
     params.push(length_param(alloc, ParamName::Width, width)?)?;
-    params.push(level_param(alloc, ParamName::ClkPolarity, level)?)?;
+    params.push(number_param(alloc, ParamName::ClkPolarity, polarity_of(level))?)?;
     Ok(params)
 }
 
@@ -73,7 +62,7 @@ pub(crate) fn reset_params(
 {
     let bits = constants_of(alloc, given)?;
     let mut params = clocked_params(alloc, width, clock)?;
-    params.push(level_param(alloc, ParamName::ArstPolarity, level)?)?;
+    params.push(number_param(alloc, ParamName::ArstPolarity, polarity_of(level))?)?;
     params.push(value_param(alloc, ParamName::ArstValue, bits.as_slice())?)?;
     Ok(params)
 }
@@ -88,7 +77,7 @@ pub(crate) fn load_params(
     ensures value { IfOk result (λ params. new_params params.items ≡ load_params width clock level) }
 {
     let mut params = clocked_params(alloc, width, clock)?;
-    params.push(level_param(alloc, ParamName::AloadPolarity, level)?)?;
+    params.push(number_param(alloc, ParamName::AloadPolarity, polarity_of(level))?)?;
     Ok(params)
 }
 

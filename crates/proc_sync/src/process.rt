@@ -8,14 +8,13 @@ ghost use Rattle.rtl_ir.specs.declared.module.Link.{Link};
 ghost use Rattle.rtl_ir.specs.declared.process.Process.{Process};
 ghost use Rattle.net_index.specs.Builder.{IsInLimits, PassesLimit};
 ghost use Rattle.net_model.specs.Proc.Sync.{edge_and_level, in_turn, one_rule, rules_step, two_rules};
-ghost use Rattle.proc_sync.specs.Control.{trigger_of};
+ghost use Rattle.rtl_ir.specs.Triggers.{trigger_of};
 ghost use Rattle.proc_sync.specs.Events.{both_of, form_step};
 
-use crate::control::{Control, edge_of, level_of};
 use crate::rules::{Form, lines_step};
 use crate::sources::Sources;
 use net_index::{Builder, PassFault};
-use rtl_ir::{Event, Link, Process, SyncRule, acts};
+use rtl_ir::{Event, Link, Process, SyncRule, Trigger, acts, edge_trigger, level_trigger};
 use std::alloc::Global;
 
 /// The first rule that acts, and the rules behind it.
@@ -36,10 +35,10 @@ fn one_form(event: &Event) -> Option<Form<'_>>
     ensures value { (lines : List Link) (b : Building) →
         form_step result [] lines b ≡ one_rule (edge_trigger event.now) (level_trigger event.now) event.now lines b }
 {
-    if let Some(edge) = edge_of(event) {
+    if let Some(edge) = edge_trigger(event) {
         return Some(Form::AtEdge(edge));
     }
-    if let Some(level) = level_of(event) {
+    if let Some(level) = level_trigger(event) {
         return Some(Form::AtLevel(level));
     }
     match event {
@@ -69,9 +68,9 @@ fn one_rule(alloc: Global, rule: &SyncRule, builder: &mut Builder) -> Result<(),
 
 /// Two controls, where both are there.
 fn both_of<'a>(
-    edge: Option<Control<'a>>,
-    level: Option<Control<'a>>,
-) -> Option<(Control<'a>, Control<'a>)>
+    edge: Option<Trigger<'a>>,
+    level: Option<Trigger<'a>>,
+) -> Option<(Trigger<'a>, Trigger<'a>)>
     ensures value { result ≡ both_of edge.entry level.entry }
 {
     match (edge, level) {
@@ -83,9 +82,9 @@ fn both_of<'a>(
 /// The cells of an edge rule, and then those of the bits of a level rule that it does not have.
 fn edge_and_level(
     alloc: Global,
-    edge: &Control<'_>,
+    edge: &Trigger<'_>,
     edges: &[Link],
-    level: &Control<'_>,
+    level: &Trigger<'_>,
     levels: &[Link],
     builder: &mut Builder,
 ) -> Result<(), PassFault>
@@ -118,10 +117,10 @@ fn two_rules(
 {
     let first = a.updates.as_slice();
     let second = b.updates.as_slice();
-    if let Some((edge, level)) = both_of(edge_of(&a.event), level_of(&b.event)) {
+    if let Some((edge, level)) = both_of(edge_trigger(&a.event), level_trigger(&b.event)) {
         return edge_and_level(alloc, &edge, first, &level, second, builder);
     }
-    if let Some((edge, level)) = both_of(edge_of(&b.event), level_of(&a.event)) {
+    if let Some((edge, level)) = both_of(edge_trigger(&b.event), level_trigger(&a.event)) {
         return edge_and_level(alloc, &edge, second, &level, first, builder);
     }
     Ok(())

@@ -7,20 +7,19 @@ ghost use Rattle.proc_sync.specs.Runs.{class_code, run_of};
 ghost use Rattle.proc_sync.specs.Sources.{joins_in};
 
 use crate::cells::{adff_cell, aldff_cell, dff_cell, dlatch_cell, ff_cell};
-use crate::control::Control;
 use crate::runs::{Class, Run, runs_of};
 use crate::sources::Sources;
 use net_index::{Builder, PassFault};
-use rtl_ir::{Link, joins};
+use rtl_ir::{Link, Trigger, joins};
 use std::alloc::Global;
 
 /// How rules stand: one at each step, one at a level, one at an edge, or one at an edge beside one at a level.
 #[derive(Clone, Copy)]
 pub(crate) enum Form<'a> {
     AtSteps,
-    AtLevel(Control<'a>),
-    AtEdge(Control<'a>),
-    Beside(Control<'a>, Control<'a>),
+    AtLevel(Trigger<'a>),
+    AtEdge(Trigger<'a>),
+    Beside(Trigger<'a>, Trigger<'a>),
 }
 
 /// Whether the class of a bit tells constants from bits of wires.
@@ -33,8 +32,8 @@ fn is_beside(form: &Form<'_>) -> bool
 /// The cell of a run of an edge rule beside a level rule.
 fn beside_cell(
     alloc: Global,
-    edge: &Control<'_>,
-    level: &Control<'_>,
+    edge: &Trigger<'_>,
+    level: &Trigger<'_>,
     sources: &Sources,
     run: &Run,
     builder: &mut Builder,

@@ -1,10 +1,9 @@
 //! What the lines of a rule give to bits.
 
-ghost use Rattle.std.specs.Prelude.{◌≡◌, IfOk};
-ghost use Rattle.proc_sync.specs.Joins.{AreSources};
+ghost use Rattle.rtl_ir.specs.Sources.{AreSources};
 
 use rtl_bits::Memory;
-use rtl_ir::{Join, Link, all_joins};
+use rtl_ir::{Join, Link, Sources as Table, all_joins, source_of, sources_of};
 use rtl_sig::{SigBit, WireBit};
 use std::alloc::Global;
 use std::collections::HashMap;
@@ -13,19 +12,19 @@ use std::collections::HashMap;
 #[derive(Drop)]
 pub(crate) struct Sources {
     places: Vec<Join>,
-    table: HashMap<WireBit, SigBit>,
+    table: Table,
     ghost agree: { AreSources table places.items },
 }
 
 impl Sources {
     ghost use Rattle.std.specs.Prelude.{◌≡◌, [], IfOk};
-    ghost use Rattle.rtl_ir.specs.Follow.{all_joins, source_at};
+    ghost use Rattle.rtl_ir.specs.Follow.{all_joins};
     ghost use Rattle.net_model.specs.Proc.Sync.{level_side};
-    ghost use Rattle.proc_sync.specs.Sources.{joins_in};
+    ghost use Rattle.proc_sync.specs.Sources.{Gives, given_at, joins_in};
 
     /// No line.
     pub(crate) fn none(alloc: Global) -> Sources
-        ensures none { joins_in result ≡ [] }
+        ensures none { Gives result [] }
     {
         Sources {
             places: Vec::new(alloc),
@@ -35,18 +34,18 @@ impl Sources {
 
     /// These lines.
     pub(crate) fn of(alloc: Global, lines: &[Link]) -> Result<Sources, Memory>
-        ensures value { IfOk result (λ sources. joins_in sources ≡ all_joins lines.now) }
+        ensures value { IfOk result (λ sources. Gives sources (all_joins lines.now)) }
     {
         let places = all_joins(alloc, lines)?;
-        let table = table_of(alloc, places.as_slice())?;
+        let table = sources_of(alloc, places.as_slice())?;
         Ok(Sources { places, table })
     }
 
     /// What the first place of the bit gives it. It takes no memory.
     pub(crate) fn get(&self, bit: WireBit) -> Option<SigBit>
-        ensures value { result ≡ source_at (joins_in self.now) bit }
+        ensures value { result ≡ given_at self.now bit }
     {
-        self.table.get(&bit).copied()
+        source_of(&self.table, bit)
     }
 
     /// What the lines give these places, where they give something.
@@ -61,15 +60,4 @@ impl Sources {
         }
         Ok(bits)
     }
-}
-
-/// What these places give to bits. Of several places of a bit the first counts.
-fn table_of(alloc: Global, places: &[Join]) -> Result<HashMap<WireBit, SigBit>, Memory>
-    ensures sources { IfOk result (λ table. AreSources table places.now) }
-{
-    let mut table = HashMap::new(alloc);
-    for at in (0..places.len()).rev() {
-        table.insert(places[at].bit, places[at].source)?;
-    }
-    Ok(table)
 }

@@ -1,39 +1,24 @@
 //! Lines that write become write ports.
 
-ghost use Rattle.std.specs.Prelude.{◌≡◌, ◌≤◌, [], Err, IfOk, OnOk, drop, flat_map, length};
-ghost use Rattle.rtl_ir.specs.Constants.{value_bits};
-ghost use Rattle.rtl_ir.specs.Flat.Access.{line_mask, write_trigger};
+ghost use Rattle.std.specs.Prelude.{◌≡◌, ◌≤◌, [], Err, IfOk, OnOk, flat_map, length};
 ghost use Rattle.rtl_ir.specs.declared.process.Process.{Process};
 ghost use Rattle.net_index.specs.Builder.{IsInLimits, PassesLimit, new_params};
-ghost use Rattle.net_model.specs.Proc.Sync.{lines_step, ports_in, write_cell, writes_step};
-ghost use Rattle.proc_sync.specs.Control.{trigger_of};
-ghost use Rattle.proc_sync.specs.Lines.{numbers_of};
+ghost use Rattle.net_model.specs.Proc.Sync.{lines_step, write_cell, writes_step};
+ghost use Rattle.proc_sync.specs.Lines.{mask_of, numbers_of};
 ghost use Rattle.proc_sync.specs.Writer.{body_of, done_of, writing_of};
 ghost use Rattle.proc_sync.specs.Writes.{line_step, write_params, write_pins};
 
-use crate::control::{Control, edge_of};
-use crate::masks::{Numbered, line_mask};
-use crate::parts::level_param;
+use crate::masks::{Numbered, ports_in};
 use crate::writer::Writer;
 use cell_types::{CellKind, Level, MemoryKind, Param, ParamName, PinName};
+use match_cells::polarity_of;
 use net_index::{Builder, PassFault, length_param, memory_param, number_param, value_param};
-use rtl_bits::{Bit, Memory};
-use rtl_ir::{Event, Pin, Process, SyncRule, WriteLine, pin_of, value_bits};
+use rtl_bits::{Bit, Bits, Memory};
+use rtl_ir::{
+    Event, Pin, Process, SyncRule, WriteLine, line_mask, pin_of, value_bits, write_trigger,
+};
 use rtl_sig::SigBit;
 use std::alloc::Global;
-
-/// The edge at which a line writes. The rule of one has an edge; of any other there is no signal.
-fn write_control(event: &Event) -> Control<'_>
-    ensures value { trigger_of result ≡ write_trigger event.now }
-{
-    match edge_of(event) {
-        Some(edge) => edge,
-        None => Control {
-            signal: &[],
-            level: Level::Low,
-        },
-    }
-}
 
 /// The parameters of a write port. A number of 2^31 or more is taken for want of memory.
 fn write_params(
@@ -53,7 +38,7 @@ fn write_params(
     let width = line.value.as_slice().len();
     params.push(length_param(alloc, ParamName::Width, width)?)?;
     params.push(number_param(alloc, ParamName::ClkEnable, 1)?)?;
-    params.push(level_param(alloc, ParamName::ClkPolarity, level)?)?;
+    params.push(number_param(alloc, ParamName::ClkPolarity, polarity_of(level))?)?;
     params.push(length_param(alloc, ParamName::Portid, number as usize)?)?;
     params.push(value_param(alloc, ParamName::PriorityMask, mask)?)?;
     Ok(params)
@@ -78,12 +63,12 @@ fn mask_of(
     line: &WriteLine,
     number: u32,
     rule: &[Numbered<'_>],
-) -> Result<Vec<Bit>, Memory>
-    ensures value { IfOk result (λ bits. bits.items ≡
-        line_mask number (ports_in line.now.memory (numbers_of rule.now)) (value_bits line.now.mask)) }
+) -> Result<Bits, Memory>
+    ensures value { IfOk result (λ bits. bits ≡ mask_of number (numbers_of rule.now) line.now) }
 {
-    let bits = value_bits(alloc, &line.mask)?;
-    line_mask(alloc, number, rule, line.memory.as_slice(), bits.as_slice())
+    let mask = value_bits(alloc, &line.mask)?;
+    let ports = ports_in(alloc, line.memory.as_slice(), rule)?;
+    line_mask(alloc, number, ports.as_slice(), mask.as_slice())
 }
 
 /// A line that writes as a cell of this number, behind these lines of its rule.
@@ -100,7 +85,7 @@ fn write_cell(
         PassesLimit (write_cell event.now line.now number (numbers_of rule.now) builder.old) }
     ensures within { OnOk result (IsInLimits builder.new) }
 {
-    let control = write_control(event);
+    let control = write_trigger(event);
     let mask = mask_of(alloc, line, number, rule)?;
     let params = write_params(alloc, line, control.level, number, mask.as_slice())?;
     let pins = write_pins(alloc, control.signal, line)?;

@@ -23,7 +23,7 @@ use Rattle.rtl_ir.specs.Flat.Driver.{Joined, Stored, Decided, Held, Raced}
 use Rattle.rtl_ir.specs.Flat.Pick.{pick_of, no_test}
 use Rattle.rtl_ir.specs.Flat.Place.{Path}
 use Rattle.rtl_ir.specs.Flat.Point.{At as AtPlace, bit_place, point_at}
-use Rattle.rtl_ir.specs.Flat.Process.{no_modules, rule_shape, no_pins, level_after, Trigger, edge_trigger, level_trigger, may_hold, event_point, edge_row, level_row, loaded_row, loaded_rows, always_row, raced_row, raced_rows, one_rule_rows, two_rules_rows, rules_rows, process_rows, processes_rows}
+use Rattle.rtl_ir.specs.Flat.Process.{no_modules, rule_shape, no_pins, level_after, Trigger, edge_trigger, level_trigger, may_hold, event_point, edge_row, level_row, loaded_row, loaded_rows, always_row, raced_row, raced_rows, one_rule_rows, two_rules_rows, rules_rows, process_rows, processes_rows, pair_by}
 use Rattle.rtl_ir.specs.Follow.{joins, all_joins, source_at}
 use Rattle.rtl_ir.specs.declared.follow.Join.{Join}
 use Rattle.rtl_ir.specs.Rules.{acting_rules}
@@ -128,7 +128,7 @@ module _ (p : Path) (vs ws : List Wire) (same : SamePlaces p vs ws) (new old : S
     one_named root bits updates (Edge signal) g = refl
     one_named root bits updates Init g = refl
 
-    two_named : (root : CaseView) (bits : List WireBit) (a b : SyncRule) (e e' l l' : Option Trigger) → RuleAlike a → RuleAlike b → two_rules_rows new p vs m' root bits a b e e' l l' ≡ two_rules_rows old p ws m root bits a b e e' l l'
+    two_named : (root : CaseView) (bits : List WireBit) (a b : SyncRule) (e e' l l' : Option Trigger) → RuleAlike a → RuleAlike b → two_rules_rows new p vs m' root bits (pair_by a b e e' l l') ≡ two_rules_rows old p ws m root bits (pair_by a b e e' l l')
     two_named root bits a b (Some e) edge level (Some l) f g =
         loaded_rows_named e (all_joins a.updates) l (all_joins b.updates) (updates_alike a f) (updates_alike b g)
     two_named root bits a b edge (Some e) (Some l) level f g =

@@ -19,7 +19,6 @@ ghost use Rattle.rtl_ir.specs.Flat.Start.{Begun, last_start};
 ghost use Rattle.rtl_ir.specs.Follow.{all_joins};
 ghost use Rattle.rtl_ir.specs.Rules.{init_lines};
 ghost use Rattle.rtl_ir.specs.Tree.{CaseView};
-ghost use Rattle.net_index.specs.IndexTable.{at_bit};
 ghost use Rattle.proc_tree.specs.Leaves.{AreLeaves};
 ghost use Rattle.proc_tree.specs.Starts.{Adds, AreStarts, starts_by, wire_is_begun};
 

@@ -1,60 +1,21 @@
 -- Which rules may stand together.
 use Rattle.std.proofs.Math.Seq.{take-suc}
-use Rattle.std.proofs.Common.{◌≡◌, ℕ, ◌+◌, ◌<◌, Bool, true, false, cond, not, ◌&&◌, ◌||◌, List, [], ◌∷◌, ◌++◌, length, get_or, take, add-one, Bor, ◌⊎◌, inl, inr, refl, sym, ◌∙◌, ap, subst}
+use Rattle.std.proofs.Common.{◌≡◌, ℕ, ◌+◌, ◌<◌, Bool, true, false, cond, not, ◌&&◌, ◌||◌, List, [], ◌∷◌, ◌++◌, length, get_or, take, add-one, refl, sym, ◌∙◌, ap, subst}
 use Rattle.std.proofs.lemmas.List.Elements.{filter-append}
 use Rattle.std.specs.List.{list_any, list_all}
 use Rattle.std.specs.Bool.{Decides}
 use Rattle.std.specs.Cmp.Lexicographic.{pointwise, pointwise_decides}
-use Rattle.std.proofs.lemmas.Bool.{false≢true}
-use Rattle.rtl_bits.specs.declared.bit.Bit.{Bit}
-use Rattle.rtl_bits.specs.declared.bit.Bit.TheVariants.{S0, S1, X, Z, M, Dash}
-use Rattle.rtl_sig.specs.declared.sig.SigBit.{SigBit}
-use Rattle.rtl_sig.specs.declared.sig.SigBit.TheVariants as sig
 use Rattle.rtl_ir.specs.declared.module.Link.{Link}
 use Rattle.rtl_ir.specs.declared.process.SyncRule.{SyncRule}
 use Rattle.rtl_ir.specs.Faults.RuleKinds.{RuleKind, AtLevel, AtEdge, edges_agree, has_one_bit, is_edge, is_one_edge, kind_of_event, kinds_of, may_stand, rules_stand, same_line, writes}
+use Rattle.rtl_ir.proofs.SamePlaces.{signal-decides}
 use Rattle.rtl_ir.specs.Rules.{acting_rules, is_init}
-use Rattle.rtl_ir.specs.Signals.{same_place, same_signal, same_value}
-use Rattle.process_trees.specs.Acting.{Acts, acts}
+use Rattle.rtl_ir.specs.Signals.{same_signal}
+use Rattle.process_trees.specs.Acting.{acts}
 use Rattle.process_check.specs.Acting.{acting_stand, is_level}
-use Rattle.process_trees.specs.declared.acting.Acting.{Acting}
-use Rattle.process_trees.specs.declared.acting.Acting.TheVariants.{Pair, Several}
-use Rattle.process_check.proofs.Among.{both, same_bit-refl, same_bit-true}
+use Rattle.process_check.proofs.Among.{both}
 
--- equal constants, places, signals and lines are the same
-value_same : (a b : Bit) → same_value a b ≡ true → a ≡ b
-value_same S0 S0 e = refl
-value_same S1 S1 e = refl
-value_same X X e = refl
-value_same Z Z e = refl
-value_same M M e = refl
-value_same Dash Dash e = refl
-value_same a b e = absurd (false≢true e)
-
-value_own : (a : Bit) → same_value a a ≡ true
-value_own S0 = refl
-value_own S1 = refl
-value_own X = refl
-value_own Z = refl
-value_own M = refl
-value_own Dash = refl
-
-place_same : (a b : SigBit) → same_place a b ≡ true → a ≡ b
-place_same (sig.Fixed a) (sig.Fixed b) e = ap sig.Fixed (value_same a b e)
-place_same (sig.Wire a) (sig.Wire b) e = ap sig.Wire (same_bit-true a b e)
-place_same (sig.Fixed a) (sig.Wire b) e = absurd (false≢true e)
-place_same (sig.Wire a) (sig.Fixed b) e = absurd (false≢true e)
-
-place_own : (a : SigBit) → same_place a a ≡ true
-place_own (sig.Fixed a) = value_own a
-place_own (sig.Wire a) = same_bit-refl a
-
-pub place-decides : (a b : SigBit) → Decides (same_place a b) (a ≡ b)
-place-decides a b = (place_same a b, λ e. subst (λ c. same_place a c ≡ true) e (place_own a))
-
-signal-decides : (a b : List SigBit) → Decides (same_signal a b) (a ≡ b)
-signal-decides = pointwise_decides place-decides
-
+-- equal lines are the same
 line_own : (a : Link) → same_line a a ≡ true
 line_own a = λ i. both_own i && (signal-decides a.right a.right).1 refl i
   where

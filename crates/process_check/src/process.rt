@@ -45,9 +45,10 @@ pub fn is_bad_process(
         return Ok(true);
     }
     let tree = Tree {
+        module,
         root: &root,
         bits: bits.as_slice(),
     };
     let acting = acting_rules(process.syncs.as_slice());
-    Ok(!two_edges_stand(alloc, types, tests, module, &tree, acting)?)
+    Ok(!two_edges_stand(alloc, types, tests, &tree, acting)?)
 }

@@ -2,7 +2,7 @@
 
 ghost use Rattle.std.specs.Prelude.{◌≡◌, List, IfOk, OnOk};
 ghost use Rattle.rtl_ir.specs.declared.process.SyncRule.{SyncRule};
-ghost use Rattle.rtl_ir.specs.Faults.TwoEdges as edges;
+ghost use Rattle.rtl_ir.specs.Faults.TwoEdges as two;
 ghost use Rattle.rtl_ir.specs.Follow.{all_joins};
 ghost use Rattle.rtl_ir.specs.Types.{Ports};
 ghost use Rattle.net_index.specs.Types.{AreTypes};
@@ -20,9 +20,10 @@ use rtl_ir::{Case, Link, Module, SyncRule};
 use rtl_sig::WireBit;
 use std::alloc::Global;
 
-/// The tree of a process by the rules, with the bits that it drives.
+/// The tree of a process of a module by the rules, with the bits that it drives.
 #[derive(Clone, Copy)]
 pub(crate) struct Tree<'a> {
+    pub(crate) module: &'a Module,
     pub(crate) root: &'a Case,
     pub(crate) bits: &'a [WireBit],
 }
@@ -33,48 +34,42 @@ pub(crate) fn two_edges_stand(
     alloc: Global,
     types: &Types,
     tests: &mut Option<EventTests>,
-    module: &Module,
     tree: &Tree,
     acting: Acting,
 ) -> Result<bool, Memory>
-    ensures asked { OnOk result ((ports : Ports) → AreTypes types.now ports → WereAsked tests.old ports «module».now →
-        WereAsked tests.new ports «module».now) }
+    ensures asked { OnOk result ((ports : Ports) → AreTypes types.now ports →
+        WereAsked tests.old ports tree.now.«module».now → WereAsked tests.new ports tree.now.«module».now) }
     ensures value { IfOk result (λ stand. (ports : Ports) → AreTypes types.now ports →
-        WereAsked tests.old ports «module».now → DoCellsFit ports «module».now →
+        WereAsked tests.old ports tree.now.«module».now → DoCellsFit ports tree.now.«module».now →
         (rules : List SyncRule) → Acts acting.entry rules →
-        stand ≡ edges.two_edges_stand ports «module».now tree.now.root.now tree.now.bits.now rules) }
+        stand ≡ two.two_edges_stand ports tree.now.«module».now tree.now.root.now tree.now.bits.now rules) }
 {
     match acting {
-        Acting::Pair(first, second) => {
-            edges_stand(alloc, types, tests, module, tree, first, second)
-        }
+        Acting::Pair(first, second) => { edges_stand(alloc, types, tests, tree, first, second) }
         Acting::Idle | Acting::Single(_) | Acting::Several => Ok(true),
     }
 }
 
-/// The same of two rules.
+/// Whether one of the edges of two rules is a reset.
 fn edges_stand(
     alloc: Global,
     types: &Types,
     tests: &mut Option<EventTests>,
-    module: &Module,
     tree: &Tree,
     first: &SyncRule,
     second: &SyncRule,
 ) -> Result<bool, Memory>
-    ensures asked { OnOk result ((ports : Ports) → AreTypes types.now ports → WereAsked tests.old ports «module».now →
-        WereAsked tests.new ports «module».now) }
+    ensures asked { OnOk result ((ports : Ports) → AreTypes types.now ports →
+        WereAsked tests.old ports tree.now.«module».now → WereAsked tests.new ports tree.now.«module».now) }
     ensures value { IfOk result (λ stand. (ports : Ports) → AreTypes types.now ports →
-        WereAsked tests.old ports «module».now → DoCellsFit ports «module».now →
+        WereAsked tests.old ports tree.now.«module».now → DoCellsFit ports tree.now.«module».now →
         stand ≡
-        edges.events_reset ports «module».now tree.now.root.now tree.now.bits.now (all_joins first.now.updates)
-        (edges.edge_bit first.now.event) (edges.edge_bit second.now.event)) }
+        two.events_reset ports tree.now.«module».now tree.now.root.now tree.now.bits.now (all_joins first.now.updates)
+        (two.edge_bit first.now.event) (two.edge_bit second.now.event)) }
 {
     let lines = first.updates.as_slice();
     match (edge_bit(&first.event), edge_bit(&second.event)) {
-        (Some(one), Some(other)) => asked_resets(
-            alloc, types, tests, module, tree, lines, one, other,
-        ),
+        (Some(one), Some(other)) => { asked_resets(alloc, types, tests, tree, lines, (one, other)) }
         _ => Ok(true),
     }
 }
@@ -84,25 +79,24 @@ fn asked_resets(
     alloc: Global,
     types: &Types,
     tests: &mut Option<EventTests>,
-    module: &Module,
     tree: &Tree,
     lines: &[Link],
-    one: EdgeBit,
-    other: EdgeBit,
+    edges: (EdgeBit, EdgeBit),
 ) -> Result<bool, Memory>
-    ensures asked { OnOk result ((ports : Ports) → AreTypes types.now ports → WereAsked tests.old ports «module».now →
-        WereAsked tests.new ports «module».now) }
+    ensures asked { OnOk result ((ports : Ports) → AreTypes types.now ports →
+        WereAsked tests.old ports tree.now.«module».now → WereAsked tests.new ports tree.now.«module».now) }
     ensures value { IfOk result (λ stand. (ports : Ports) → AreTypes types.now ports →
-        WereAsked tests.old ports «module».now → DoCellsFit ports «module».now →
+        WereAsked tests.old ports tree.now.«module».now → DoCellsFit ports tree.now.«module».now →
         stand ≡
-        edges.one_resets ports «module».now tree.now.root.now tree.now.bits.now (all_joins lines.now) (edge_as one)
-        (edge_as other)) }
+        two.one_resets ports tree.now.«module».now tree.now.root.now tree.now.bits.now (all_joins lines.now)
+        (edge_as edges.0) (edge_as edges.1)) }
 {
+    let (one, other) = edges;
     if let Some(tests) = tests {
-        return one_resets(alloc, tests, module, tree, lines, one, other);
+        return one_resets(alloc, tests, tree, lines, one, other);
     }
-    let made = EventTests::of(alloc, module, types)?;
-    let stand = one_resets(alloc, &made, module, tree, lines, one, other)?;
+    let made = EventTests::of(alloc, tree.module, types)?;
+    let stand = one_resets(alloc, &made, tree, lines, one, other)?;
     *tests = Some(made);
     Ok(stand)
 }
@@ -111,27 +105,26 @@ fn asked_resets(
 fn one_resets(
     alloc: Global,
     tests: &EventTests,
-    module: &Module,
     tree: &Tree,
     lines: &[Link],
     one: EdgeBit,
     other: EdgeBit,
 ) -> Result<bool, Memory>
-    ensures value { IfOk result (λ stand. (ports : Ports) → AreTests tests.now ports «module».now →
-        DoCellsFit ports «module».now →
+    ensures value { IfOk result (λ stand. (ports : Ports) → AreTests tests.now ports tree.now.«module».now →
+        DoCellsFit ports tree.now.«module».now →
         stand ≡
-        edges.one_resets ports «module».now tree.now.root.now tree.now.bits.now (all_joins lines.now) (edge_as one)
-        (edge_as other)) }
+        two.one_resets ports tree.now.«module».now tree.now.root.now tree.now.bits.now (all_joins lines.now)
+        (edge_as one) (edge_as other)) }
 {
-    let tested = tests.is_tested(alloc, module, one.bit, tree.root)?;
-    let other_tested = tests.is_tested(alloc, module, other.bit, tree.root)?;
+    let tested = tests.is_tested(alloc, tree.module, one.bit, tree.root)?;
+    let other_tested = tests.is_tested(alloc, tree.module, other.bit, tree.root)?;
     if tested == other_tested {
         return Ok(false);
     }
     if tested {
-        resets_well(alloc, tests, module, tree, lines, one)
+        resets_well(alloc, tests, tree, lines, one)
     } else {
-        resets_well(alloc, tests, module, tree, lines, other)
+        resets_well(alloc, tests, tree, lines, other)
     }
 }
 
@@ -139,20 +132,19 @@ fn one_resets(
 fn resets_well(
     alloc: Global,
     tests: &EventTests,
-    module: &Module,
     tree: &Tree,
     lines: &[Link],
     reset: EdgeBit,
 ) -> Result<bool, Memory>
-    ensures value { IfOk result (λ well. (ports : Ports) → AreTests tests.now ports «module».now →
-        DoCellsFit ports «module».now →
+    ensures value { IfOk result (λ well. (ports : Ports) → AreTests tests.now ports tree.now.«module».now →
+        DoCellsFit ports tree.now.«module».now →
         well ≡
-        edges.resets_well ports «module».now tree.now.root.now tree.now.bits.now (all_joins lines.now)
+        two.resets_well ports tree.now.«module».now tree.now.root.now tree.now.bits.now (all_joins lines.now)
         (edge_as reset)) }
 {
     let by = Level {
         tests,
-        module,
+        module: tree.module,
         event: reset.bit,
         level: reset.level,
     };

@@ -33,7 +33,7 @@ pub(crate) fn are_settled(
     Ok(settle_lines(&leaves, itself, lines))
 }
 
-/// The same by the leaves of the tree bits.
+/// Whether each place of the lines is settled, by the leaves of the tree bits.
 fn settle_lines(leaves: &Leaves, itself: bool, lines: &[Link]) -> bool
     ensures value { (root : CaseView) (bits : List WireBit) → AreLeaves leaves.now root bits →
         result ≡ list_all (is_settled root bits itself) (all_joins lines.now) }
@@ -46,7 +46,7 @@ fn settle_lines(leaves: &Leaves, itself: bool, lines: &[Link]) -> bool
     true
 }
 
-/// The same of one line with these sides.
+/// Whether each place of a line with these sides is settled.
 fn settle_line(leaves: &Leaves, itself: bool, left: &[SigBit], right: &[SigBit]) -> bool
     ensures value { (root : CaseView) (bits : List WireBit) → AreLeaves leaves.now root bits →
         result ≡ list_all (is_settled root bits itself) (joins left.now right.now) }
@@ -59,7 +59,7 @@ fn settle_line(leaves: &Leaves, itself: bool, left: &[SigBit], right: &[SigBit])
     true
 }
 
-/// The same of a place of a line.
+/// Whether a place of a line is settled.
 fn settle_place(leaves: &Leaves, itself: bool, left: SigBit, source: SigBit) -> bool
     ensures value { (root : CaseView) (bits : List WireBit) → AreLeaves leaves.now root bits →
         result ≡ list_all (is_settled root bits itself) (joins (left ∷ []) (source ∷ [])) }
@@ -70,7 +70,7 @@ fn settle_place(leaves: &Leaves, itself: bool, left: SigBit, source: SigBit) -> 
     }
 }
 
-/// The same of a bit that is given this source.
+/// Whether a bit that is given this source is settled.
 fn is_settled(leaves: &Leaves, itself: bool, bit: WireBit, source: SigBit) -> bool
     ensures value { (root : CaseView) (bits : List WireBit) → AreLeaves leaves.now root bits →
         result ≡ is_settled root bits itself (record { bit = bit; source = source }) }

@@ -1,14 +1,13 @@
 -- Assigns, places and switches are walked from the last one on.
-use Rattle.std.proofs.Common.{◌≡◌, ℕ, suc, ◌+◌, ◌<◌, ◌≤◌, List, [], ◌∷◌, ◌++◌, length, drop, get_or, min, Option, Some, None, if◌then◌else◌, add-one, refl, sym, ap, subst, ◌∙◌}
+use Rattle.std.proofs.Common.{◌≡◌, ℕ, suc, ◌+◌, ◌<◌, ◌≤◌, List, [], ◌∷◌, length, drop, get_or, min, Option, Some, None, if◌then◌else◌, add-one, refl, sym, ap, ◌∙◌}
 use Rattle.std.proofs.Math.Seq.{drop-cons}
 use Rattle.std.proofs.lemmas.List.{drop_all}
-use Rattle.std.specs.Option.{option_or}
 use Rattle.rtl_sig.specs.declared.sig.SigBit.{SigBit}
 use Rattle.rtl_sig.specs.declared.sig.WireBit.{WireBit}
 use Rattle.rtl_ir.specs.declared.module.Link.{Link}
 use Rattle.rtl_ir.specs.Assigns.{assigned, last_source}
 use Rattle.rtl_ir.specs.Follow.{all_joins, joins}
-use Rattle.rtl_ir.specs.Tree.{CaseView, Switches, SwitchView, switches_of}
+use Rattle.rtl_ir.specs.Tree.{CaseView, SwitchView, switches_of}
 use Rattle.rtl_ir.proofs.JoinPlaces.{places_all}
 use Rattle.process_trees.specs.declared.walk.Walk.{Walk}
 use Rattle.process_trees.specs.Lines.{is_bit}

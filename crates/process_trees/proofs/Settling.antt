@@ -1,5 +1,5 @@
 -- The tree bits after so many rounds are expanded so many times.
-use Rattle.std.proofs.Common.{◌≡◌, ℕ, zero, suc, ◌+◌, ◌<◌, Bool, true, false, List, [], ◌∷◌, ◌++◌, length, map, Option, Some, None, if◌then◌else◌, Vec, Global, refl, sym, ap, subst, ◌∙◌, arith}
+use Rattle.std.proofs.Common.{◌≡◌, ℕ, zero, suc, ◌+◌, ◌<◌, true, false, List, [], ◌∷◌, length, map, Option, Some, None, if◌then◌else◌, Vec, Global, refl, sym, ap, subst, ◌∙◌, arith}
 use Rattle.std.specs.Prelude.{flat_map, slice_index_or}
 use Rattle.std.specs.Option.{option_map_or}
 use Rattle.rtl_sig.specs.declared.sig.SigBit.{SigBit}

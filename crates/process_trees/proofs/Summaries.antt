@@ -9,6 +9,7 @@ use Rattle.rtl_sig.specs.declared.sig.SigBit.TheVariants.{Fixed, Wire as OnWire}
 use Rattle.rtl_sig.specs.declared.sig.WireBit.{WireBit}
 use Rattle.rtl_ir.specs.EventTests.{is_bit}
 use Rattle.rtl_ir.specs.Signals.{same_place, same_value}
+use Rattle.rtl_ir.proofs.SamePlaces.{place_is}
 use Rattle.process_trees.specs.declared.summary.Summary.{Summary}
 use Rattle.process_trees.specs.Leaves.{both, is_asked, joined, joined_over, one_leaf, sources_summary, summary_of}
 
@@ -20,51 +21,6 @@ AreAlike xs ys = (f : SigBit → Bool) → list_any f xs ≡ list_any f ys
 abbrev pub HasItem : {A : Type 0} → List A → Type 0
 HasItem [] = ⊥
 HasItem (x ∷ xs) = Unit {0}
-
--- places that are the same by their test are equal
-equal_values : (a b : Bit) → same_value a b ≡ true → a ≡ b
-equal_values S0 S0 e = refl
-equal_values S1 S1 e = refl
-equal_values X X e = refl
-equal_values Z Z e = refl
-equal_values M M e = refl
-equal_values Dash Dash e = refl
-equal_values S0 S1 e = absurd cc
-equal_values S0 X e = absurd cc
-equal_values S0 Z e = absurd cc
-equal_values S0 M e = absurd cc
-equal_values S0 Dash e = absurd cc
-equal_values S1 S0 e = absurd cc
-equal_values S1 X e = absurd cc
-equal_values S1 Z e = absurd cc
-equal_values S1 M e = absurd cc
-equal_values S1 Dash e = absurd cc
-equal_values X S0 e = absurd cc
-equal_values X S1 e = absurd cc
-equal_values X Z e = absurd cc
-equal_values X M e = absurd cc
-equal_values X Dash e = absurd cc
-equal_values Z S0 e = absurd cc
-equal_values Z S1 e = absurd cc
-equal_values Z X e = absurd cc
-equal_values Z M e = absurd cc
-equal_values Z Dash e = absurd cc
-equal_values M S0 e = absurd cc
-equal_values M S1 e = absurd cc
-equal_values M X e = absurd cc
-equal_values M Z e = absurd cc
-equal_values M Dash e = absurd cc
-equal_values Dash S0 e = absurd cc
-equal_values Dash S1 e = absurd cc
-equal_values Dash X e = absurd cc
-equal_values Dash Z e = absurd cc
-equal_values Dash M e = absurd cc
-
-pub equal_places : (s t : SigBit) → same_place s t ≡ true → s ≡ t
-equal_places (Fixed a) (Fixed b) e = ap Fixed (equal_values a b e)
-equal_places (Fixed a) (OnWire b) e = absurd cc
-equal_places (OnWire a) (Fixed b) e = absurd cc
-equal_places (OnWire a) (OnWire b) e = let same : a ≡ b = search (rules, e) in ap OnWire same
 
 all_append : (f : SigBit → Bool) (xs ys : List SigBit) → list_all f (xs ++ ys) ≡ (list_all f xs && list_all f ys)
 all_append f [] ys = refl
@@ -90,7 +46,7 @@ one_append (x ∷ xs) (y ∷ ys) h k =
   where
     same : (t : Bool) → same_place x y ≡ t
         → (if t && list_all (same_place x) ys then Some x else None) ≡ both (Some x) (if list_all (same_place y) ys then Some y else None)
-    same true e = at (list_all (same_place y) ys) (ap (λ (s : SigBit). list_all (same_place s) ys) (equal_places x y e))
+    same true e = at (list_all (same_place y) ys) (ap (λ (s : SigBit). list_all (same_place s) ys) (place_is x y e))
       where
         at : (u : Bool) → list_all (same_place x) ys ≡ u → (if list_all (same_place x) ys then Some x else None) ≡ both (Some x) (if u then Some y else None)
         at true f = ap (λ v. if v then Some x else None) f ∙ sym (ap (λ v. if v then Some x else None) e)
@@ -144,7 +100,7 @@ some_all q (s ∷ leaves) t e = by (list_all (same_place s) leaves) refl e
   where
     rest : list_all (same_place s) leaves ≡ true → (a : Bool) → is_bit q s ≡ a → a ≡ (a && list_all (is_bit q) leaves)
     rest all false k = refl
-    rest all true k = sym (all_more (same_place s) (is_bit q) (λ u m. ap (is_bit q) (sym (equal_places s u m)) ∙ k) leaves all)
+    rest all true k = sym (all_more (same_place s) (is_bit q) (λ u m. ap (is_bit q) (sym (place_is s u m)) ∙ k) leaves all)
 
     by : (a : Bool) → list_all (same_place s) leaves ≡ a → (if a then Some s else None) ≡ Some t → is_bit q t ≡ (is_bit q s && list_all (is_bit q) leaves)
     by true all f = let same : s ≡ t = cc in ap (is_bit q) (sym same) ∙ rest all (is_bit q s) refl
@@ -185,13 +141,13 @@ one_alike x xs y ys h = by (list_all (same_place x) xs) (list_all (same_place y)
   where
     left : list_all (same_place x) xs ≡ true → x ≡ y
     left e =
-        equal_places x y
+        place_is x y
         (first_met (same_place x y) (list_all (same_place x) ys)
         (sym (all_alike (x ∷ xs) (y ∷ ys) h (same_place x)) ∙ (λ i. place_itself x i && e i)))
 
     right : list_all (same_place y) ys ≡ true → y ≡ x
     right e =
-        equal_places y x
+        place_is y x
         (first_met (same_place y x) (list_all (same_place y) xs)
         (all_alike (x ∷ xs) (y ∷ ys) h (same_place y) ∙ (λ i. place_itself y i && e i)))
 

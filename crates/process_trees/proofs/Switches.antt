@@ -1,10 +1,10 @@
 -- The cases of a switch are walked one after another, each behind what was there before the switch.
-use Rattle.std.proofs.Common.{◌≡◌, ℕ, suc, ◌+◌, ◌<◌, ◌≤◌, ◌||◌, ◌&&◌, not, Bool, true, false, List, [], ◌∷◌, ◌++◌, if◌then◌else◌, length, drop, get_or, filter, nat_eq, Option, Some, None, Vec, Global, append_assoc, append-nil, refl, sym, ap, subst, ◌∙◌}
-use Rattle.std.proofs.lemmas.Bool.{eqb-true, false≢true}
+use Rattle.std.proofs.Common.{◌≡◌, ℕ, ◌+◌, ◌<◌, ◌≤◌, ◌||◌, ◌&&◌, not, Bool, true, false, List, [], ◌∷◌, ◌++◌, if◌then◌else◌, length, drop, get_or, filter, nat_eq, Option, Some, None, Vec, Global, append_assoc, append-nil, refl, sym, ap, subst, ◌∙◌}
+use Rattle.std.proofs.lemmas.Bool.{eqb-true}
 use Rattle.std.proofs.lemmas.List.{drop_all}
 use Rattle.rtl_sig.specs.declared.sig.SigBit.{SigBit}
 use Rattle.rtl_sig.specs.declared.sig.WireBit.{WireBit}
-use Rattle.rtl_ir.specs.Tree.{CaseView, cases_of, NoCase, OneCase}
+use Rattle.rtl_ir.specs.Tree.{CaseView, cases_of, OneCase}
 use Rattle.process_trees.specs.declared.walk.Walk.{Walk}
 use Rattle.process_trees.specs.Numbers.{AreNumbers, ByBit, number_in}
 use Rattle.process_trees.specs.Reach.{Reach, either, if_kept, reach_case, reach_cases, untouched}

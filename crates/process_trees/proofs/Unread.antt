@@ -1,6 +1,6 @@
 -- A bit that no tree bit may be given is no leaf of another source.
-use Rattle.std.proofs.Common.{◌≡◌, ℕ, zero, suc, ◌+◌, ◌<◌, ◌||◌, Bool, true, false, List, [], ◌∷◌, length, Option, Some, None, if◌then◌else◌, refl, sym, ap, ◌∙◌, arith}
-use Rattle.std.specs.Prelude.{flat_map, slice_index_or}
+use Rattle.std.proofs.Common.{◌≡◌, ℕ, zero, suc, ◌||◌, Bool, true, false, List, [], ◌∷◌, length, if◌then◌else◌, refl, sym, ap, ◌∙◌}
+use Rattle.std.specs.Prelude.{slice_index_or}
 use Rattle.std.specs.HashSet.{contains}
 use Rattle.std.specs.List.{list_any}
 use Rattle.rtl_sig.specs.declared.sig.SigBit.{SigBit}
@@ -11,10 +11,9 @@ use Rattle.rtl_ir.specs.EventTests.{is_bit}
 use Rattle.rtl_ir.specs.Signals.{has_bit, same_bit}
 use Rattle.rtl_ir.specs.Tree.{CaseView}
 use Rattle.process_trees.specs.declared.reaching.Reaching.{Reaching}
-use Rattle.process_trees.specs.Numbers.{number_in}
 use Rattle.process_trees.specs.Reach.{reaching}
 use Rattle.process_trees.specs.Reaching.{AreReaching}
-use Rattle.process_trees.specs.Walk.{rows_of, sources_at}
+use Rattle.process_trees.specs.Walk.{rows_of}
 use Rattle.process_trees.proofs.Alike.{any_flat, reaching_alike}
 use Rattle.process_trees.proofs.Numbering.{numbered}
 use Rattle.process_trees.proofs.Replaced.{leaves_replaced}

@@ -1,15 +1,13 @@
 -- Parts of a tree are walked one after another.
-use Rattle.std.proofs.Common.{◌≡◌, ℕ, zero, suc, ◌+◌, ◌<◌, ◌≤◌, ◌||◌, ◌&&◌, not, Bool, true, false, List, [], ◌∷◌, ◌++◌, length, drop, get_or, set, nat_eq, Option, Some, None, if◌then◌else◌, Vec, Global, append_assoc, append-nil, add-one, refl, sym, ap, subst, ◌∙◌, arith}
+use Rattle.std.proofs.Common.{◌≡◌, ℕ, ◌+◌, ◌<◌, ◌&&◌, Bool, true, false, List, [], ◌∷◌, ◌++◌, length, get_or, set, Option, Some, None, if◌then◌else◌, append_assoc, append-nil, refl, sym, ap, subst, ◌∙◌}
 use Rattle.std.proofs.lemmas.Bool.{false≢true}
 use Rattle.std.proofs.lemmas.List.{length-set, get_or-set_same, get_or-set_other}
 use Rattle.std.specs.HashMap.{get_by}
 use Rattle.std.specs.Option.{option_or}
 use Rattle.rtl_sig.specs.declared.sig.SigBit.{SigBit}
-use Rattle.rtl_sig.specs.declared.sig.SigBit.TheVariants.{Fixed, Wire as OnWire}
 use Rattle.rtl_sig.specs.declared.sig.WireBit.{WireBit}
 use Rattle.rtl_ir.specs.Signals.{same_bit}
 use Rattle.process_trees.specs.declared.walk.Walk.{Walk}
-use Rattle.process_trees.specs.Lines.{is_bit}
 use Rattle.process_trees.specs.Numbers.{AreNumbers, ByBit, number_in}
 use Rattle.process_trees.specs.Reach.{Reach, after, given_last, if_kept, untouched}
 use Rattle.process_trees.specs.Walk.{Gains, Gives, HasRoom, Walked, rows_of, sources_at, unset_at}

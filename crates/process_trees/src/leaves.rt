@@ -27,8 +27,8 @@ pub struct Leaves {
 }
 
 impl Leaves {
-    /// Those below a root whose switches are read by the rules, which assigns these bits. One bit may be asked for,
-    /// whether it is among the leaves.
+    /// The leaves below a root whose switches are read by the rules, which assigns these bits. One bit may be asked
+    /// for, whether it is among the leaves.
     pub fn of(
         alloc: Global,
         root: &Case,

@@ -5,7 +5,6 @@
 mod acting;
 mod assigned;
 mod by_rules;
-mod cells;
 mod edge;
 mod inputs;
 mod leaves;

@@ -30,7 +30,7 @@ pub struct Reaching {
 }
 
 impl Reaching {
-    /// Those below a root whose switches are read by the rules, which assigns these bits.
+    /// The sources of these bits below a root whose switches are read by the rules, and which assigns them.
     pub fn of(alloc: Global, root: &Case, bits: &[WireBit]) -> Result<Reaching, Memory>
         ensures value { IfOk result (λ table. AreReaching table root.now bits.now) }
     {

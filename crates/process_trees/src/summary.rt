@@ -6,7 +6,6 @@ ghost use Rattle.rtl_sig.specs.declared.sig.SigBit.{SigBit};
 ghost use Rattle.rtl_ir.specs.EventTests as tests;
 ghost use Rattle.rtl_ir.specs.Decisions.{Decision, leaves_of};
 ghost use Rattle.rtl_ir.specs.Faults.TwoEdges.{are_all, are_one_constant};
-ghost use Rattle.rtl_ir.specs.WritePorts as ports;
 ghost use Rattle.process_trees.specs.Leaves.{both, is_asked, joined, summary_of};
 
 use rtl_sig::{SigBit, WireBit};

@@ -10,8 +10,7 @@ ghost use Rattle.net_index.specs.Drivers.{AreDrivers};
 ghost use Rattle.net_index.specs.Types.{AreTypes};
 ghost use Rattle.process_trees.specs.Tables.{AreLinks, AreTests, linked, links_alone};
 
-use crate::cells::cells_of;
-use net_index::{BitTable, Driver, Drivers, Types};
+use net_index::{BitTable, Driver, Drivers, Types, cell_drivers};
 use rtl_bits::{Copied, Memory, Seq};
 use rtl_ir::{Link, Module, PortTable};
 use rtl_sig::{SigBit, WireBit};
@@ -33,7 +32,7 @@ impl EventTests {
             AreTests tests ports «module».now) }
     {
         Ok(EventTests {
-            cells: cells_of(alloc, module, types)?,
+            cells: cell_drivers(alloc, module, types)?,
             links: links_of(alloc, &module.links)?,
             steps: count_places(module.links.as_slice())?,
         })

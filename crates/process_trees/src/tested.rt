@@ -4,7 +4,7 @@ ghost use Rattle.std.specs.Prelude.{◌≡◌, [], ◌∷◌, IfOk};
 ghost use Rattle.std.specs.List.{list_all};
 ghost use Rattle.rtl_sig.specs.declared.sig.SigBit.{SigBit};
 ghost use Rattle.rtl_ir.specs.EventTests.{differs, switch_test, test_of};
-ghost use Rattle.rtl_ir.specs.Faults.TwoEdges.{cases_patterns, cases_test, switches_test};
+ghost use Rattle.rtl_ir.specs.Faults.TwoEdges.{cases_patterns, switches_test};
 ghost use Rattle.rtl_ir.specs.Signals.{is_all_constant};
 ghost use Rattle.rtl_ir.specs.Tree.{cases_of};
 ghost use Rattle.rtl_ir.specs.Types.{Ports};
@@ -64,7 +64,7 @@ impl EventTests {
         }
     }
 
-    /// The same of a switch on one place with these cases.
+    /// What a switch on one place with these cases tests of the event bit, where it tests it.
     fn place_test(
         &self,
         alloc: Global,

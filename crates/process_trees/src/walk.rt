@@ -96,7 +96,7 @@ fn set_by_all(
     }
 }
 
-/// Those numbers of which no value of before is left.
+/// The numbers of which no value of before is left.
 fn set_now(alloc: Global, unset: &[bool], numbers: &[usize]) -> Result<Vec<usize>, Memory>
     ensures value { IfOk result (λ set. set.items ≡ filter (λ n. not (unset_at unset.now n)) numbers.now) }
 {

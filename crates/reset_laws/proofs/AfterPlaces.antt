@@ -17,7 +17,7 @@ use Rattle.net_model.specs.Lists.{Apart, Distinct, In}
 use Rattle.net_model.specs.Proc.Reset.{reset_places}
 use Rattle.follow_laws.proofs.Following.{same_bit-same}
 use Rattle.pass_laws.proofs.Once.{same_bit-refl}
-use Rattle.pass_laws.proofs.SamePlaces.{value_is}
+use Rattle.rtl_ir.proofs.SamePlaces.{value_is}
 
 pub all_in : {A : Type 0} (test : A → Bool) (xs : List A) → list_all test xs ≡ true → (x : A) → In x xs → test x ≡ true
 all_in test [] e x i = absurd i

@@ -14,7 +14,7 @@ use Rattle.rtl_ir.specs.EventTests.{differs, switch_test}
 use Rattle.rtl_ir.specs.Faults.RuleKinds.{AtEdge, AtLevel, RuleKind, edges_agree, has_one_bit, is_edge, kind_of_event, kinds_of, may_stand, same_updates, writes_stand}
 use Rattle.rtl_ir.specs.Faults.TwoEdges.{EdgeBit, edge_bit, events_reset, is_tested, one_resets, resets_well, switches_test, two_edges_stand}
 use Rattle.rtl_ir.specs.Flat.Place.{Path}
-use Rattle.rtl_ir.specs.Flat.Process.{edge_trigger, no_modules, raced_row, raced_rows, rules_rows, two_rules_rows}
+use Rattle.rtl_ir.specs.Flat.Process.{edge_trigger, no_modules, raced_row, raced_rows, rules_rows, two_rules_rows, pair_by}
 use Rattle.rtl_ir.specs.Follow.{all_joins}
 use Rattle.rtl_ir.specs.declared.follow.Join.{Join}
 use Rattle.rtl_ir.specs.Rules.{acting_rules, has_line}
@@ -152,7 +152,7 @@ module _ (ports : Ports) (m : Module) (others : List Process) (q : Process) (bef
         let ta = at_edge a.event ea at_a in
         let tb = at_edge b.event eb at_b in
         (λ i. rules_rows start p wires m q.root bits (acting i))
-        ∙ (λ i. two_rules_rows start p wires m q.root bits a b (ta.edge i) (tb.edge i) (ta.level i) (tb.level i))
+        ∙ (λ i. two_rules_rows start p wires m q.root bits (pair_by a b (ta.edge i) (tb.edge i) (ta.level i) (tb.level i)))
         ∙ (λ i. raced_rows start p wires m q.root bits (all_joins a.updates) (at_a i) (at_b i))
 
     chosen : (start : SigBit → Bit) (p : Path) (wires : List Wire) (t : Bool) → a_tested ≡ t → rules_rows start p wires m q.root bits (acting_rules q.syncs) ≡ (if t then map (raced_row start p wires m q.root bits eb ea) (all_joins a.updates) else map (raced_row start p wires m q.root bits ea eb) (all_joins a.updates))

@@ -12,7 +12,7 @@ use Rattle.rtl_ir.specs.Faults.RuleKinds.{same_line, same_updates}
 use Rattle.rtl_ir.specs.Faults.TwoEdges.{EdgeBit, edge_bit}
 use Rattle.rtl_ir.specs.Flat.Driver.{Driven}
 use Rattle.rtl_ir.specs.Flat.Place.{Path}
-use Rattle.rtl_ir.specs.Flat.Process.{edge_row, edge_trigger, level_after, level_row, level_trigger, loaded_row, loaded_rows, one_rule_rows, rules_rows, two_rules_rows}
+use Rattle.rtl_ir.specs.Flat.Process.{edge_row, edge_trigger, level_after, level_row, level_trigger, loaded_row, loaded_rows, one_rule_rows, rules_rows, two_rules_rows, pair_by}
 use Rattle.rtl_ir.specs.Follow.{all_joins, source_at}
 use Rattle.rtl_ir.specs.declared.follow.Join.{Join}
 use Rattle.rtl_ir.specs.Rules.{acting_rules, has_item, has_line}
@@ -30,7 +30,7 @@ use Rattle.net_model.specs.Proc.Reset.{is_edge_of, reset_rule, with_reset}
 use Rattle.pass_laws.proofs.Once.{same_bit-refl}
 use Rattle.reset_laws.proofs.AfterRules.{acting_after, kept, reset_plain}
 use Rattle.reset_laws.proofs.RaceRows.{trigger}
-use Rattle.pass_laws.proofs.SamePlaces.{signal_is}
+use Rattle.rtl_ir.proofs.SamePlaces.{signal_is}
 
 lines_are : (a b : List Link) → pointwise same_line a b ≡ true → a ≡ b
 lines_are [] [] e = refl
@@ -120,14 +120,14 @@ module _ (start : SigBit → Bit) (p : Path) (wires : List Wire) (m : Module) (r
   first_row : (clock : EdgeBit) (r : SyncRule) → edge_bit r.event ≡ Some clock → (j : Join) → In j (all_joins r.updates) → In (register clock j) (rules_rows start p wires m root bits (rule ∷ r ∷ []))
   first_row clock r at j i =
       let is = at_edge r.event clock at in
-      subst (In (register clock j)) (λ k. two_rules_rows start p wires m root bits rule r (sym rule_no_edge k) (sym is.edge k) (sym rule_level k) (sym is.level k))
+      subst (In (register clock j)) (λ k. two_rules_rows start p wires m root bits (pair_by rule r (sym rule_no_edge k) (sym is.edge k) (sym rule_level k) (sym is.level k)))
       (in_loaded clock (all_joins r.updates) j i)
 
   -- or last
   last_row : (clock : EdgeBit) (r : SyncRule) → edge_bit r.event ≡ Some clock → (j : Join) → In j (all_joins r.updates) → In (register clock j) (rules_rows start p wires m root bits (r ∷ rule ∷ []))
   last_row clock r at j i =
       let is = at_edge r.event clock at in
-      subst (In (register clock j)) (λ k. two_rules_rows start p wires m root bits r rule (sym is.edge k) (sym rule_no_edge k) (sym is.level k) (sym rule_level k))
+      subst (In (register clock j)) (λ k. two_rules_rows start p wires m root bits (pair_by r rule (sym is.edge k) (sym rule_no_edge k) (sym is.level k) (sym rule_level k)))
       (in_loaded clock (all_joins r.updates) j i)
 
   abbrev rows_after : List SyncRule → List Driven

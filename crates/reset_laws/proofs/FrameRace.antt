@@ -17,7 +17,6 @@ use Rattle.rtl_ir.specs.Faults.TwoEdges.{EdgeBit, are_all, are_one_constant, dec
 use Rattle.rtl_ir.specs.Flat.Cell as flat
 use Rattle.rtl_ir.specs.Flat.Driver.{Driven}
 use Rattle.rtl_ir.specs.Flat.Link.{link_rows}
-use Rattle.rtl_ir.specs.Flat.Cell.{cells_rows}
 use Rattle.rtl_ir.specs.Flat.Place.{Path, Place}
 use Rattle.rtl_ir.specs.Flat.Point.{bit_place}
 use Rattle.rtl_ir.specs.Flat.Process.{edge_row, level_after, loaded_row, no_modules, raced_row, rules_rows, tree_bit_rows}

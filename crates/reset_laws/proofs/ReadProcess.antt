@@ -20,7 +20,7 @@ use Rattle.cell_types.specs.declared.level.Level.TheVariants as Levels
 use Rattle.cell_types.specs.declared.storage.StorageKind.TheVariants.{Ff}
 use Rattle.reset_laws.proofs.AfterRows.{at_edge}
 use Rattle.reset_laws.proofs.RaceRows.{trigger}
-use Rattle.rtl_ir.specs.Flat.Process.{Trigger, always_row, edge_row, edge_trigger, event_point, level_row, level_trigger, loaded_row, loaded_rows, may_hold, no_modules, no_pins, one_rule_rows, process_rows, raced_row, raced_rows, rule_row, rules_rows, tree_bit_rows, two_rules_rows}
+use Rattle.rtl_ir.specs.Flat.Process.{Trigger, always_row, edge_row, edge_trigger, event_point, level_row, level_trigger, loaded_row, loaded_rows, may_hold, no_modules, no_pins, one_rule_rows, process_rows, raced_row, raced_rows, rule_row, rules_rows, tree_bit_rows, two_rules_rows, pair_by}
 use Rattle.rtl_ir.specs.Flat.Reads.{read_points, store_list}
 use Rattle.rtl_ir.specs.Follow.{all_joins, source_at}
 use Rattle.rtl_ir.specs.declared.follow.Join.{Join}
@@ -216,7 +216,7 @@ module _ (F : Point → Type 0) (constant : (c : Bit) → F (Constant c)) (start
           raced : In y (raced_rows start p wires m root bits (all_joins a.updates) (edge_bit a.event) (edge_bit b.event)) → IsFree y
           raced j = raced_all (all_joins a.updates) a.event b.event (edge_bit a.event) (edge_bit b.event) refl refl ha hb (k a (inl refl)) y j own
 
-          by : (e : Option Trigger) → edge_trigger a.event ≡ e → (f : Option Trigger) → edge_trigger b.event ≡ f → (l : Option Trigger) → level_trigger a.event ≡ l → (n : Option Trigger) → level_trigger b.event ≡ n → In y (two_rules_rows start p wires m root bits a b e f l n) → IsFree y
+          by : (e : Option Trigger) → edge_trigger a.event ≡ e → (f : Option Trigger) → edge_trigger b.event ≡ f → (l : Option Trigger) → level_trigger a.event ≡ l → (n : Option Trigger) → level_trigger b.event ≡ n → In y (two_rules_rows start p wires m root bits (pair_by a b e f l n)) → IsFree y
           by (Some e) g f q l r (Some n) o j = loaded_all e (all_joins a.updates) n (all_joins b.updates) (edge_signal a.event e g ha) (level_signal b.event n o hb) (k a (inl refl)) (k b (inr (inl refl))) y j own
           by None g (Some f) q (Some l) r n o j = loaded_all f (all_joins b.updates) l (all_joins a.updates) (edge_signal b.event f q hb) (level_signal a.event l r ha) (k b (inr (inl refl))) (k a (inl refl)) y j own
           by (Some e) g (Some f) q (Some l) r None o j = loaded_all f (all_joins b.updates) l (all_joins a.updates) (edge_signal b.event f q hb) (level_signal a.event l r ha) (k b (inr (inl refl))) (k a (inl refl)) y j own

@@ -14,7 +14,6 @@ use Rattle.reset_laws.proofs.AfterBits.{place_from}
 use Rattle.rtl_ir.specs.Faults.RuleKinds.{edges_agree, has_one_bit, kinds_of, may_stand, writes_stand}
 use Rattle.rtl_ir.specs.Faults.TwoEdges.{EdgeBit, edge_bit}
 use Rattle.rtl_ir.specs.Flat.Cell as flat
-use Rattle.rtl_ir.specs.Flat.Cell.{cell_kind, instances}
 use Rattle.rtl_ir.specs.Follow.{all_joins, joins}
 use Rattle.rtl_ir.specs.declared.follow.Join.{Join}
 use Rattle.rtl_ir.specs.Rules.{acting_rules, is_init}

@@ -1,7 +1,6 @@
 //! A reset that is a level refines one that is an edge. Each law is the contract of a function that does
 //! nothing.
 
-ghost use Rattle.std.specs.Prelude.{◌≡◌};
 ghost use Rattle.rtl_ir.specs.Flat.Cell as flat;
 ghost use Rattle.rtl_ir.specs.Scope.{with_processes};
 ghost use Rattle.rtl_ir.specs.Types.{Ports, table_ports};

@@ -51,7 +51,8 @@ impl<V: Keyed> Model for Shard<V> {
 
     ghost view = { λ s. record { history = calls_of s.keys s.entries.items; keys = s.keys; kept = s.kept.items } };
 
-    ghost invariant = { λ s. IsSound V V.stands_for s.keys s.kept.items s.entries.items s.out (vec_capacity s.entries) };
+    ghost invariant = { λ s.
+        IsSound V V.stands_for s.keys s.kept.items s.entries.items s.out (vec_capacity s.entries) };
 }
 
 impl<V: Keyed> Shard<V> {

@@ -4,3 +4,6 @@ pub mod ByNames
 pub mod Chars
 pub mod Shapes
 pub mod JoinPlaces
+pub mod LineMarks
+pub mod SamePlaces
+pub mod Asking

@@ -1,5 +1,5 @@
 -- What a map of keys holds is what the definitions put in order.
-use Rattle.std.proofs.Common.{◌≡◌, ℕ, suc, ℤ, ◌+◌, ◌-◌, ◌<◌, ◌≤◌, true, false, List, [], ◌∷◌, Bor, Vec, Global, Result, Ok, Err, IfOk, map, filter, drop, length, get_or, refl, sym, ◌∙◌, ap, subst, arith, le_refl, ◌||◌, add-one}
+use Rattle.std.proofs.Common.{◌≡◌, ℕ, suc, ℤ, ◌-◌, ◌<◌, ◌≤◌, true, false, List, [], ◌∷◌, Bor, Vec, Global, Result, Ok, Err, IfOk, map, filter, drop, length, get_or, refl, sym, ◌∙◌, ap, subst, arith, le_refl}
 use Rattle.std.proofs.Math.Seq.{drop-cons}
 use Rattle.std.proofs.lemmas.Map.Text.{is_eq-slice_cmp}
 use Rattle.std.proofs.lemmas.Slice.Eq.{bytes_eq-Decides}
@@ -10,14 +10,8 @@ use Rattle.std.specs.Ordering.{nat_cmp, int_cmp, ordering_then, match_ordering, 
 use Rattle.std.specs.declared.cmp.Ordering.{Ordering}
 use Rattle.std.specs.declared.cmp.Ordering.TheVariants.{Less, Equal, Greater}
 use Rattle.rtl_ir.specs.declared.wire.Wire.{Wire}
-use Rattle.std.proofs.Math.Bool.{or_assoc}
-use Rattle.std.specs.List.{list_any}
-use Rattle.std.specs.Str.{bytes_eq}
-use Rattle.rtl_sig.specs.Names.{has_name, with_name}
-use Rattle.rtl_sig.proofs.NamesLemmas.{list_any-with_name}
-use Rattle.rtl_ir.specs.declared.cell.Cell.{Cell}
 use Rattle.rtl_ir.specs.declared.module.Module.{Module}
-use Rattle.rtl_ir.specs.Ports.{is_port, place_wire, in_number_order, place_module, instantiates, instances_of}
+use Rattle.rtl_ir.specs.Ports.{is_port, place_wire, in_number_order, place_module}
 
 -- what is left from one place down
 pub drop-before : {A : Type 0} (xs : List A) (at : ℕ) (x : A) → 0 < at → at ≤ length xs → x ≡ get_or xs (at - 1) x → drop (at - 1) xs ≡ x ∷ drop at xs

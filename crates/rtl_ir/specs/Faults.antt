@@ -11,7 +11,7 @@ pub mod TwoEdges
 pub mod Processes
 pub mod Bits
 pub mod Recursion
-use Rattle.std.specs.Prelude.{ℕ, List, [], ◌∷◌, ◌++◌, Option, Some, None, flat_map, slice_get}
+use Rattle.std.specs.Prelude.{List, [], ◌∷◌, ◌++◌, Option, Some, None, flat_map}
 use Rattle.rtl_ir.specs.declared.module.Module.{Module}
 use Rattle.rtl_ir.specs.Drivers.{drives_of}
 use Rattle.rtl_ir.specs.Fault.{Fault}

@@ -22,3 +22,6 @@ pub mod Fault
 pub mod Scope
 pub mod Faults
 pub mod Flat
+pub mod Triggers
+pub mod Sources
+pub mod Starts

@@ -2,7 +2,10 @@
 use Rattle.std.specs.Prelude.{ℕ, List, [], Option, Some, None, map, find}
 use Rattle.std.specs.Option.{option_map_or}
 use Rattle.std.specs.Str.{bytes_eq}
+use Rattle.rtl_bits.specs.declared.bit.Bit.{Bit}
+use Rattle.cell_types.specs.Given.{value_in}
 use Rattle.cell_types.specs.declared.given.Param.{Param}
+use Rattle.cell_types.specs.declared.param_name.ParamName.{ParamName}
 use Rattle.cell_types.specs.declared.param_name.ParamName.TheVariants.{Memid}
 use Rattle.cell_types.specs.ParamName.{param_text}
 use Rattle.rtl_sig.specs.declared.sig.SigBit.{SigBit}
@@ -15,6 +18,10 @@ use Rattle.rtl_ir.specs.Constants.{value_bits}
 -- the parameters with the bits of their values
 abbrev pub given_params : List CellParam → List Param
 given_params params = map (λ (p : CellParam). record { name = p.name; value = value_bits p.value }) params
+
+-- the bits of a parameter, none where it is not given
+abbrev pub param_bits : List CellParam → ParamName → List Bit
+param_bits params name = value_in (given_params params) name
 
 -- the characters of a string, where the constant is one
 abbrev pub chars_in : Value → Option (List ℕ)

@@ -1,10 +1,7 @@
 -- Which parts of a design are taken. What is not taken is an unsupported cell, memory or process, before any other
 -- fault of that item.
-use Rattle.std.specs.Prelude.{Bool, true, false, not}
-use Rattle.std.specs.List.{list_any}
+use Rattle.std.specs.Prelude.{Bool, true, false}
 use Rattle.rtl_ir.specs.declared.process.Process.{Process}
-use Rattle.rtl_ir.specs.declared.process.SyncRule.{SyncRule}
-use Rattle.rtl_ir.specs.Rules.{has_item}
 
 -- whether memories and their cells are taken, which processes are, and whether the clocks of the write ports of a memory are
 -- compared
@@ -28,7 +25,3 @@ without_processes = record { memories = true; processes = λ p. false; clocks = 
 -- everything is taken, and clocks are not compared
 abbrev pub with_processes : Scope
 with_processes = record { memories = true; processes = λ p. true; clocks = false }
-
--- cells, instances and the processes in which no rule writes a memory are taken
-abbrev pub no_memories : Scope
-no_memories = record { memories = false; processes = λ p. not (list_any (λ (r : SyncRule). has_item r.writes) p.syncs); clocks = true }

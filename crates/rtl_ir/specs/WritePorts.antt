@@ -10,11 +10,13 @@ use Rattle.cell_types.specs.declared.param_name.ParamName.TheVariants.{ClkPolari
 use Rattle.cell_types.specs.declared.pin_name.PinName.TheVariants.{Clk}
 use Rattle.cell_types.specs.Given.{number_in}
 use Rattle.cell_types.specs.Kind.{kind_of}
+use Rattle.cell_types.specs.Levels.{level_in}
+use Rattle.cell_types.specs.declared.level.Level.{Level}
 use Rattle.cell_types.specs.PinName.{pin_text}
 use Rattle.cell_types.specs.Shape.{is_set}
 use Rattle.rtl_sig.specs.declared.sig.SigBit.{SigBit}
-use Rattle.rtl_sig.specs.declared.sig.SigBit.TheVariants as sig
 use Rattle.rtl_ir.specs.declared.cell.Cell.{Cell}
+use Rattle.rtl_ir.specs.declared.cell.CellParam.{CellParam}
 use Rattle.rtl_ir.specs.declared.module.Link.{Link}
 use Rattle.rtl_ir.specs.declared.process.Event.{Event}
 use Rattle.rtl_ir.specs.declared.process.Event.TheVariants.{Posedge, Negedge}
@@ -55,6 +57,18 @@ is_write_cell type = is_write_kind (kind_of type)
 -- a cell belongs to the memory of this name
 abbrev pub is_of_memory : List ℕ → Cell → Bool
 is_of_memory name c = option_map_or (bytes_eq name) (memory_name c.params) false
+
+-- a cell is a write port of the memory of this name
+abbrev pub is_write_port : List ℕ → Cell → Bool
+is_write_port name c = is_write_cell c.kind_name && is_of_memory name c
+
+-- the number of a write port
+abbrev pub port_number : List CellParam → ℕ
+port_number params = number_in (given_params params) Portid
+
+-- the level after a clock's edge
+abbrev pub clock_level : List CellParam → Level
+clock_level params = level_in (given_params params) ClkPolarity
 
 -- when a write cell acts
 abbrev pub cell_clocking : List Link → Cell → Clocking

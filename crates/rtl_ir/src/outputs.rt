@@ -1,7 +1,7 @@
 //! Which pins a cell drives.
 
 ghost use Rattle.std.specs.Prelude.{◌≡◌};
-ghost use Rattle.rtl_ir.specs.Outputs.{is_output, memory_output, output_pin};
+ghost use Rattle.rtl_ir.specs.Outputs.{is_output, output_pin};
 
 use crate::wire::Role;
 use cell_types::{CellKind, MemoryKind, PinName};

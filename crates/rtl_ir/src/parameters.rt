@@ -1,9 +1,9 @@
 //! What the parameters and pins of a cell say.
 
 ghost use Rattle.std.specs.Prelude.{◌≡◌, ◌<◌, ◌^◌, IfOk, SomeIff, option_map};
-ghost use Rattle.cell_types.specs.Given.{number_in, value_in};
+ghost use Rattle.cell_types.specs.Given.{number_in};
 ghost use Rattle.cell_types.specs.PinName.{pin_text};
-ghost use Rattle.rtl_ir.specs.Parameters.{chars_in, given_params, memory_name, signal_at};
+ghost use Rattle.rtl_ir.specs.Parameters.{chars_in, given_params, memory_name, param_bits, signal_at};
 
 use crate::cell::{CellParam, Pin};
 use crate::constants::value_bits;
@@ -29,7 +29,7 @@ pub fn given_params(alloc: Global, params: &[CellParam]) -> Result<Vec<Param>, M
 
 /// The bits of the parameter of this name, none where it is not given.
 pub fn value_in(alloc: Global, params: &[CellParam], name: ParamName) -> Result<Bits, Memory>
-    ensures value { IfOk result (λ bits. bits ≡ value_in (given_params params.now) name) }
+    ensures value { IfOk result (λ bits. bits ≡ param_bits params.now name) }
 {
     for param in params {
         if param.name.as_slice() == name.text() {

@@ -1,10 +1,10 @@
 -- Laws of places.
-use Rattle.std.proofs.Common.{◌≡◌, ℕ, ◌+◌, ◌<◌, ◌≤◌, true, false, List, [], ◌∷◌, ◌++◌, length, take, drop, get_or, length-drop, refl, sym, ap, ◌∙◌, arith}
-use Rattle.std.specs.Prelude.{◌==◌, if◌then◌else◌}
+use Rattle.std.proofs.Common.{◌≡◌, ℕ, suc, ◌+◌, ◌<◌, ◌≤◌, Bool, true, false, not, List, [], ◌∷◌, ◌++◌, length, take, drop, get_or, length-drop, refl, sym, ap, ◌∙◌, arith}
+use Rattle.std.specs.Prelude.{◌&&◌, ◌==◌, if◌then◌else◌}
 use Rattle.std.proofs.Math.Seq.{take-add}
 use Rattle.std.proofs.lemmas.List.{length-take, take_more}
 use Rattle.rtl_lex.specs.declared.place.Place.{Place}
-use Rattle.rtl_lex.specs.Place.{behind, moved, start, IsPlaceIn}
+use Rattle.rtl_lex.specs.Place.{behind, is_flat, moved, start, IsPlaceIn}
 
 pub record IsNear (p q : Place) (n : ℕ) : Type 0 where
   pub at : q.at ≡ p.at + n
@@ -59,3 +59,25 @@ low_places text p here =
       line = omega (arith, near.line, ap (λ (s : Place). s.line) here.is, count);
       column = omega (arith, near.column, ap (λ (s : Place). s.column) here.is, count);
     }
+
+-- behind bytes of which none ends a line
+abbrev pub along : Place → ℕ → Place
+along p n = record { at = p.at + n; line = p.line; column = p.column + n }
+
+along_more : (p : Place) (n : ℕ) → along (along p 1) n ≡ along p (suc n)
+along_more p n = let at : p.at + 1 + n ≡ p.at + suc n = omega arith in let column : p.column + 1 + n ≡ p.column + suc n = omega arith in (λ i. record { at = at i; line = p.line; column = column i })
+
+pub moved_flat : (p : Place) (bs : List ℕ) → is_flat bs ≡ true → moved p bs ≡ along p (length bs)
+moved_flat p [] e = let at : p.at ≡ p.at + 0 = omega arith in let column : p.column ≡ p.column + 0 = omega arith in (λ i. record { at = at i; line = p.line; column = column i })
+moved_flat p (b ∷ bs) e = by (b == 10) (moved_flat (along p 1) bs) e
+  where
+    by : (t : Bool) → (is_flat bs ≡ true → moved (along p 1) bs ≡ along (along p 1) (length bs)) → (not t && is_flat bs) ≡ true
+        → moved (if t then record { at = p.at + 1; line = p.line + 1; column = 1 } else record { at = p.at + 1; line = p.line; column = p.column + 1 }) bs ≡ along p (length (b ∷ bs))
+    by true so f = absurd (cc)
+    by false so f = so f ∙ along_more p (length bs)
+
+-- so many bytes further on in a line
+pub flat_forward : (text : List ℕ) (p q : Place) (n : ℕ) → p.at + n ≤ length text → is_flat (take n (drop p.at text)) ≡ true → q ≡ along p n → q ≡ moved p (take n (drop p.at text))
+flat_forward text p q n le flat is =
+    let count : length (take n (drop p.at text)) ≡ n = omega (arith, length-take n (drop p.at text), length-drop p.at text) in
+    is ∙ sym (moved_flat p (take n (drop p.at text)) flat ∙ ap (along p) count)

@@ -1,5 +1,6 @@
 -- Places in a text.
-use Rattle.std.specs.Prelude.{◌≡◌, ℕ, ◌+◌, ◌≤◌, List, [], ◌∷◌, length, take, ◌==◌, if◌then◌else◌, ◌++◌, codes}
+use Rattle.std.specs.Prelude.{◌≡◌, ℕ, ◌+◌, ◌≤◌, Bool, not, List, [], ◌∷◌, length, take, ◌==◌, if◌then◌else◌, ◌++◌, codes}
+use Rattle.std.specs.List.{list_all}
 use Rattle.std.specs.Fmt.{decimal}
 use Rattle.rtl_lex.specs.declared.place.Place.{Place}
 
@@ -11,6 +12,10 @@ behind p b = if b == 10 then record { at = p.at + 1; line = p.line + 1; column =
 abbrev pub moved : Place → List ℕ → Place
 moved p [] = p
 moved p (b ∷ bs) = moved (behind p b) bs
+
+-- no end of line is among these bytes
+abbrev pub is_flat : List ℕ → Bool
+is_flat bytes = list_all (λ b. not (b == 10)) bytes
 
 -- the place where a text begins
 abbrev pub start : Place

@@ -1,5 +1,5 @@
 -- Strings in double quotes.
-use Rattle.std.specs.Prelude.{ℕ, ◌+◌, ◌-◌, List, [], ◌∷◌, length, take, drop, map, sum_by, Option, Some, None, ◌==◌, ◌&&◌, nat_lt, if◌then◌else◌, slice_index, zero, suc}
+use Rattle.std.specs.Prelude.{ℕ, ◌+◌, ◌-◌, Bool, not, List, [], ◌∷◌, length, take, drop, map, sum_by, Option, Some, None, ◌==◌, ◌&&◌, nat_lt, if◌then◌else◌, slice_index, zero, suc}
 use Rattle.std.specs.List.{take_while}
 use Rattle.std.specs.Option.{option_map_or}
 use Rattle.rtl_lex.specs.Bytes.{is_octal}
@@ -26,6 +26,10 @@ escape (b ∷ bs) =
 abbrev pub char_front : List ℕ → Option (ℕ × ℕ)
 char_front [] = None
 char_front (b ∷ bs) = if b == 34 then None else (if b == 92 then escape bs else char_by b 1)
+
+-- a byte that writes itself: no quote, no backslash and no NUL
+abbrev pub is_own : ℕ → Bool
+is_own b = nat_lt 0 b && (nat_lt b 256 && (not (b == 34) && not (b == 92)))
 
 -- the characters at the front, up to a quote or to where there is none; skip: so many bytes belong to the one before
 abbrev pub spelt : ℕ → List ℕ → List (ℕ × ℕ)

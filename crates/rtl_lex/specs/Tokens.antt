@@ -49,6 +49,14 @@ front (b ∷ bs) =
     else (if is_digit b then Some (number_front (b ∷ bs))
     else None))))))
 
+-- a token of this kind has no end of line in it
+abbrev pub is_plain : TokenKind → Bool
+is_plain Word = true
+is_plain Mark = true
+is_plain Id = true
+is_plain Int = true
+is_plain kind = false
+
 -- a token without where it lies in memory
 pub record Piece : Type 0 where
   pub kind : TokenKind

@@ -1,7 +1,7 @@
 //! Places in a text.
 
-ghost use Rattle.std.specs.Prelude.{◌≡◌, ℕ, List, ◌+◌, ◌<◌, ◌≤◌, ◌^◌, length, take, drop};
-ghost use Rattle.rtl_lex.specs.Place.{moved, start, IsPlaceIn};
+ghost use Rattle.std.specs.Prelude.{◌≡◌, ℕ, List, ◌+◌, ◌<◌, ◌≤◌, ◌^◌, length, take, drop, true};
+ghost use Rattle.rtl_lex.specs.Place.{is_flat, moved, start, IsPlaceIn};
 
 use std::fmt::{self, Formatter, Write};
 
@@ -75,4 +75,23 @@ pub fn forward(text: &[u8], from: Place, count: usize) -> Place
 {
     let start = from.at as usize;
     moved(from, &text[start..start + count])
+}
+
+/// The place so many bytes further on, none of which ends a line.
+#[tactic(auto, using(crate::proofs::Places::low_places))]
+pub fn along(text: &[u8], from: Place, count: usize) -> Place
+    requires place { IsPlaceIn text.now from }
+    requires within { from.at + count ≤ length text.now }
+    requires flat { is_flat (take count (drop from.at text.now)) ≡ true }
+    ensures moved { result ≡ moved from (take count (drop from.at text.now)) }
+    ensures place { IsPlaceIn text.now result }
+    ensures at { result.at ≡ from.at + count }
+{
+    // A text has fewer than 2^63 bytes, so the sums fit.
+    let _bytes = text.len();
+    Place {
+        at: from.at + count as u64,
+        line: from.line,
+        column: from.column + count as u64,
+    }
 }

@@ -1,6 +1,6 @@
 //! The sorts of tokens that the grammar tells apart.
 
-ghost use Rattle.std.specs.Prelude.{◌≡◌};
+ghost use Rattle.std.specs.Prelude.{◌≡◌, IfSome};
 ghost use Rattle.std.specs.Str.{bytes_eq};
 ghost use Rattle.rtl_lex.specs.Sorts.{
   module_word,
@@ -185,10 +185,37 @@ fn event_word(text: &[u8]) -> Option<Sort>
     }
 }
 
+/// The words that most lines of a text begin with.
+#[tactic(auto, using(crate::proofs::CommonWords::common_words))]
+fn common_word(text: &[u8]) -> Option<Sort>
+    ensures { IfSome result (λ sort. sort ≡ word_sort text.now) }
+{
+    if same(text, b"connect") {
+        Some(Sort::Connect)
+    } else if same(text, b"parameter") {
+        Some(Sort::Parameter)
+    } else if same(text, b"end") {
+        Some(Sort::End)
+    } else if same(text, b"cell") {
+        Some(Sort::Cell)
+    } else if same(text, b"wire") {
+        Some(Sort::Wire)
+    } else if same(text, b"width") {
+        Some(Sort::Width)
+    } else if same(text, b"assign") {
+        Some(Sort::Assign)
+    } else {
+        None
+    }
+}
+
 #[tactic(auto, unfolding(crate::specs::Sorts::word_sort))]
 fn word_sort(text: &[u8]) -> Sort
     ensures { result ≡ word_sort text.now }
 {
+    if let Some(sort) = common_word(text) {
+        return sort;
+    }
     if let Some(sort) = module_word(text) {
         sort
     } else if let Some(sort) = option_word(text) {

@@ -3,7 +3,7 @@
 ghost use Rattle.std.specs.Prelude.{◌≡◌, ◌+◌, ◌<◌, ◌≤◌, length, take, drop, IfOk, IfSome};
 ghost use Rattle.std.specs.List.{prefix_len};
 ghost use Rattle.rtl_lex.specs.Bytes.{is_octal};
-ghost use Rattle.rtl_lex.specs.Strings.{escape, char_front, string_len, chars_of};
+ghost use Rattle.rtl_lex.specs.Strings.{escape, char_front, is_own, string_len, chars_of};
 
 use crate::number::octal;
 use rtl_bits::{Memory, Text};
@@ -63,13 +63,28 @@ fn char_front(bytes: &[u8]) -> Option<(u8, usize)>
     }
 }
 
+/// Whether the byte writes itself.
+fn is_own(byte: u8) -> bool
+    ensures { result ≡ is_own byte }
+{
+    byte != 0 && byte != b'"' && byte != b'\\'
+}
+
+/// How many bytes stand first that write themselves.
+fn owns(bytes: &[u8]) -> usize
+    ensures run { result ≡ prefix_len is_own bytes.now }
+    ensures within { result ≤ length bytes.now }
+{
+    bytes.iter().take_while(|b| is_own(**b)).count()
+}
+
 /// How many bytes the rest of a string has behind its opening quote, the closing quote among them.
 /// None where no string goes on so.
 pub fn string_len(bytes: &[u8]) -> Option<usize>
     ensures value { result ≡ string_len bytes.now }
     ensures some { IfSome result (λ n. (0 < n) × (n ≤ length bytes.now)) }
 {
-    let mut at = 0;
+    let mut at = owns(bytes);
     while let Some((_, count)) = char_front(&bytes[at..]) {
         at += count;
     }
@@ -95,8 +110,8 @@ pub fn chars_of(alloc: Global, text: &[u8]) -> Result<Text, Memory>
     ensures value { IfOk result (λ chars. chars ≡ chars_of text.now) }
 {
     let body = body_of(text);
-    let mut chars = Text::make(alloc);
-    let mut at = 0;
+    let mut at = owns(body);
+    let mut chars = Text::from_slice(alloc, &body[..at])?;
     while let Some((char, count)) = char_front(&body[at..]) {
         chars.push(char)?;
         at += count;

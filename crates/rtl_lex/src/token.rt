@@ -1,11 +1,20 @@
 //! Tokens.
 
-ghost use Rattle.std.specs.Prelude.{◌≡◌, ◌+◌, length, drop, Some, None, IfSome, IfOk, ◌≤◌, ◌<◌};
-ghost use Rattle.rtl_lex.specs.Place.{IsPlaceIn};
-ghost use Rattle.rtl_lex.specs.Tokens.{token_at, seen, front, minus_front, name_front, string_front, number_front};
+ghost use Rattle.std.specs.Prelude.{◌≡◌, ◌+◌, length, take, drop, Some, None, IfSome, IfOk, ◌≤◌, ◌<◌};
+ghost use Rattle.rtl_lex.specs.Place.{IsPlaceIn, moved};
+ghost use Rattle.rtl_lex.specs.Tokens.{
+  token_at,
+  seen,
+  front,
+  is_plain,
+  minus_front,
+  name_front,
+  string_front,
+  number_front,
+};
 
 use crate::number::int_of;
-use crate::place::{Place, forward};
+use crate::place::{Place, along, forward};
 use crate::scan::{bits, digits, gap, letters, name_bytes};
 use crate::string::string_len;
 use crate::value::sign_len;
@@ -123,6 +132,32 @@ fn front(bytes: &[u8]) -> Option<(TokenKind, usize)>
     }
 }
 
+/// Whether no token of this kind has an end of line in it.
+fn is_plain(kind: TokenKind) -> bool
+    ensures value { result ≡ is_plain kind }
+{
+    match kind {
+        TokenKind::Word | TokenKind::Mark | TokenKind::Id | TokenKind::Int => true,
+        TokenKind::Value | TokenKind::Chars | TokenKind::Line => false,
+    }
+}
+
+/// The place behind the token of this kind and so many bytes that begins at a place.
+fn token_end(text: &[u8], from: Place, kind: TokenKind, count: usize) -> Place
+    requires place { IsPlaceIn text.now from }
+    requires within { from.at + count ≤ length text.now }
+    requires token { front (drop from.at text.now) ≡ Some (kind, count) }
+    ensures moved { result ≡ moved from (take count (drop from.at text.now)) }
+    ensures place { IsPlaceIn text.now result }
+    ensures at { result.at ≡ from.at + count }
+{
+    if is_plain(kind) {
+        along(text, from, count)
+    } else {
+        forward(text, from, count)
+    }
+}
+
 /// The first token from a place on, behind the blanks and comments that stand there.
 ///
 /// It is as long as it can be. At the end of the text it is an end of line of no bytes.
@@ -149,6 +184,6 @@ pub fn next_token(text: &[u8], from: Place) -> Result<Token<'_>, LexFault>
         kind,
         text: found,
         place,
-        next: forward(text, place, length),
+        next: token_end(text, place, kind, length),
     })
 }

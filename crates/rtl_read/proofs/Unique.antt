@@ -1,5 +1,5 @@
 -- What a reading of all items says of the text: its design, or its first fault; and each text has one of these.
-use Rattle.std.proofs.Common.{◌≡◌, ℕ, List, [], ◌∷◌, ◌++◌, Result, Ok, Err, false, refl, sym, ap, subst, ◌∙◌, inl, inr, ◌⊎◌}
+use Rattle.std.proofs.Common.{◌≡◌, ℕ, List, [], ◌∷◌, ◌++◌, Result, Ok, Err, false, refl, sym, ap, subst, ◌∙◌, inl, inr, ◌⊎◌, ⊎_elim}
 use Rattle.std.specs.Prelude.{IfOk}
 use Rattle.rtl_lex.specs.Place.{start}
 use Rattle.rtl_lex.specs.Items.{Seen}
@@ -16,7 +16,7 @@ use Rattle.rtl_read.specs.declared.read_fault.ReadFault.TheVariants as faults
 use Rattle.rtl_read.specs.Draft.{nothing, design_of}
 use Rattle.rtl_read.specs.Act.{act}
 use Rattle.rtl_read.specs.Gives.{Gives}
-use Rattle.rtl_read.specs.Reads.{AreItemsOf, Reads, refusal, IsFirstFault, OnFault}
+use Rattle.rtl_read.specs.Reads.{AreItemsOf, HasNoMeaning, IsFirstFault, IsOutOfPlace, OnFault, Reads, refusal}
 use Rattle.rtl_read.specs.Taking.{reading, design_read}
 use Rattle.rtl_read.proofs.Refusing.{refuses_no_number}
 
@@ -33,7 +33,7 @@ reads_is text design r = reads_again act refusal (faults.Syntax start) r.uses (S
 pub fault_is : (text : List ℕ) (fault : ReadFault) (f : IsFirstFault text fault) → read_all (items_of f.before ++ f.here ∷ f.rest) ≡ Err fault
 unfolding reading
 fault_is text fault f =
-    let first : IsFault act refusal (faults.Syntax start) (items_of f.before ++ f.here ∷ f.rest) (Start ∷ []) nothing fault = record { before = f.before; here = f.here; rest = f.rest; state = f.state; items = refl; more = f.more; begins = f.begins; meant = f.meant; cause = f.cause } in
+    let first : IsFault act refusal (faults.Syntax start) (items_of f.before ++ f.here ∷ f.rest) (Start ∷ []) nothing fault = record { before = f.before; here = f.here; rest = f.rest; state = f.state; items = refl; more = f.more; begins = f.begins; meant = f.meant; cause = ⊎_elim (λ (c : IsOutOfPlace f.before f.here fault). inl (c.none, c.fault_is)) (λ (c : HasNoMeaning f.before f.here f.state fault). inr (c.role, c.others, c.some, c.fault_is)) f.cause } in
     fault_reads act refusal (faults.Syntax start) (items_of f.before ++ f.here ∷ f.rest) (Start ∷ []) nothing fault first (are_closed (items_of f.before ++ f.here ∷ f.rest) text start false f.tokens) refl
 
 -- ---- what is read is a design or a first fault
@@ -60,7 +60,7 @@ first_of : (text : List ℕ) (items : List Seen) (fault : ReadFault) → AreItem
 unfolding reading
 first_of text items fault tokens e =
     let first = is_fault act refusal (faults.Syntax start) refuses_no_number items (Start ∷ []) nothing fault (are_closed items text start false tokens) refl e in
-    record { before = first.before; here = first.here; rest = first.rest; state = first.state; tokens = subst (AreItemsOf text) first.items tokens; more = first.more; begins = first.begins; meant = first.meant; cause = first.cause }
+    record { before = first.before; here = first.here; rest = first.rest; state = first.state; tokens = subst (AreItemsOf text) first.items tokens; more = first.more; begins = first.begins; meant = first.meant; cause = ⊎_elim (λ c. inl (record { none = c.0; fault_is = c.1 })) (λ c. inr (record { role = c.0; others = c.1; some = c.2; fault_is = c.3 })) first.cause }
 
 pub what_reads : (text : List ℕ) (answer : Result Design ReadFault) → IsReading text answer → IfOk answer (Reads text)
 what_reads text (Ok design) h =

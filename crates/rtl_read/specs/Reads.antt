@@ -35,8 +35,20 @@ refusal_of sort i = Syntax i.place
 abbrev pub refusal : Seen → ReadFault
 refusal i = refusal_of i.sort i
 
--- the fault is the text's first: the items before this one begin a text of the grammar and have no fault, and
--- either no text of the grammar begins with the items up to this one, or one does, and there this one has the fault
+-- no text of the grammar begins with these items, and the fault is that of the last
+pub record IsOutOfPlace (before : List Use) (here : Seen) (fault : ReadFault) : Type 0 where
+  pub none : BeginsNone (sorts_of before ++ here.sort ∷ [])
+  pub fault_is : fault ≡ refusal here
+
+-- a text of the grammar begins with these items, and what the last does there has the fault
+pub record HasNoMeaning (before : List Use) (here : Seen) (state : Draft) (fault : ReadFault) : Type 0 where
+  pub role : Expect
+  pub others : List Use
+  pub some : IsText (roles_of (before ++ record { role = role; item = here } ∷ others))
+  pub fault_is : act role here state ≡ Err fault
+
+-- the fault is the text's first: the items before this one begin a text of the grammar and have no fault, and this one is out of
+-- place, or has no meaning there
 pub record IsFirstFault (text : List ℕ) (fault : ReadFault) : Type 0 where
   pub before : List Use
   pub here : Seen
@@ -46,8 +58,7 @@ pub record IsFirstFault (text : List ℕ) (fault : ReadFault) : Type 0 where
   pub more : List Use
   pub begins : IsText (roles_of (before ++ more))
   pub meant : run act nothing before ≡ Ok state
-  pub cause : (BeginsNone (sorts_of before ++ here.sort ∷ []) × (fault ≡ refusal here))
-      ⊎ ((role : Expect) × (others : List Use) × IsText (roles_of (before ++ record { role = role; item = here } ∷ others)) × (act role here state ≡ Err fault))
+  pub cause : IsOutOfPlace before here fault ⊎ HasNoMeaning before here state fault
 
 -- a fact of the fault that a call answers, if it does; want of memory says nothing
 abbrev pub OnFault : {X : Type 0} → Result X ReadFault → (ReadFault → Type 0) → Type 0

@@ -1,11 +1,11 @@
 //! The attributes that wait for their item.
 
-ghost use Rattle.std.specs.Prelude.{◌≡◌, OnOk, OnErr, IfOk};
+ghost use Rattle.std.specs.Prelude.{◌≡◌, OnOk, IfOk};
 ghost use Rattle.rtl_read.specs.Meaning.Attribute.{no_attributes, put_at, with_attribute};
 
+use crate::few_names::FewNames;
 use rtl_bits::{Memory, Seq, Text};
 use rtl_ir::{Attribute, Value};
-use rtl_sig::Names;
 use std::alloc::Global;
 use std::mem;
 
@@ -13,7 +13,7 @@ use std::mem;
 #[derive(Drop)]
 pub struct Attributes {
     pub items: Seq<Attribute>,
-    pub names: Names,
+    pub names: FewNames,
 }
 
 /// No attributes.
@@ -22,7 +22,7 @@ pub(crate) fn no_attributes(alloc: Global) -> Attributes
 {
     Attributes {
         items: Seq::make(alloc),
-        names: Names::make(alloc),
+        names: FewNames::make(alloc),
     }
 }
 
@@ -44,9 +44,9 @@ impl Attributes {
     pub(crate) fn put(&mut self, alloc: Global, name: Text, value: Value) -> Result<(), Memory>
         ensures { OnOk result (self.new ≡ with_attribute name value self.old) }
     {
-        let id = self.names.intern(name.as_slice())?;
+        let at = self.names.intern(alloc, name.as_slice())?;
         let items = mem::replace(&mut self.items, Seq::make(alloc));
-        self.items = put_at(id.index, Attribute { name, value }, items)?;
+        self.items = put_at(at, Attribute { name, value }, items)?;
         Ok(())
     }
 
@@ -55,7 +55,7 @@ impl Attributes {
         ensures items { result ≡ self.old.items }
         ensures none { self.new ≡ no_attributes }
     {
-        self.names = Names::make(alloc);
+        self.names = FewNames::make(alloc);
         mem::replace(&mut self.items, Seq::make(alloc))
     }
 }

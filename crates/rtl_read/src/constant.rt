@@ -1,10 +1,9 @@
 //! Constants.
 
-ghost use Rattle.std.specs.Prelude.{◌≡◌, ◌<◌, ◌*◌, length, map, IfOk};
+ghost use Rattle.std.specs.Prelude.{◌≡◌, ◌<◌, ◌*◌, map, IfOk};
 ghost use Rattle.std.specs.Prelude.{reverse};
 ghost use Rattle.std.specs.List.{flat_map};
 ghost use Rattle.rtl_lex.specs.Items.{as_seen};
-ghost use Rattle.rtl_lex.specs.Values.{width_of};
 ghost use Rattle.rtl_sig.specs.declared.sig.SigBit.TheVariants.{Fixed};
 ghost use Rattle.rtl_read.specs.Constant.{integer, value, string, constant, low_bits, unsigned, constant_bits, fixed};
 ghost use Rattle.rtl_read.specs.Gives.{Gives};

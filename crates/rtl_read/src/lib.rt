@@ -5,6 +5,7 @@ mod act;
 mod attributes;
 mod constant;
 mod draft;
+mod few_names;
 mod laws;
 mod open_cell;
 mod open_module;

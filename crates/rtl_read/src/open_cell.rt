@@ -13,12 +13,12 @@ ghost use Rattle.rtl_read.specs.Meaning.Cell.{
   with_pin,
 };
 
+use crate::few_names::FewNames;
 use crate::read_fault::ReadFault;
-use crate::signal::find;
 use rtl_bits::{Memory, Seq, Text};
 use rtl_ir::{Attribute, Cell, CellParam, Pin, Value};
 use rtl_lex::Item;
-use rtl_sig::{Names, SigSpec};
+use rtl_sig::SigSpec;
 use std::alloc::Global;
 use std::mem;
 
@@ -26,8 +26,8 @@ use std::mem;
 #[derive(Drop)]
 pub struct OpenCell {
     pub cell: Cell,
-    pub params: Names,
-    pub pins: Names,
+    pub params: FewNames,
+    pub pins: FewNames,
     /// The name of the parameter or pin that is open.
     pub name: Text,
     /// Whether `signed` stands before it.
@@ -46,8 +46,8 @@ pub(crate) fn plain_cell(alloc: Global, attributes: Seq<Attribute>) -> OpenCell
             pins: Seq::make(alloc),
             attributes,
         },
-        params: Names::make(alloc),
-        pins: Names::make(alloc),
+        params: FewNames::make(alloc),
+        pins: FewNames::make(alloc),
         name: Text::make(alloc),
         signed: false,
     }
@@ -74,10 +74,10 @@ impl OpenCell {
     pub(crate) fn param_name(&mut self, alloc: Global, item: &Item<'_>) -> Result<(), ReadFault>
         ensures { Sets result self.new (with_param_name (as_seen item.now) self.old) }
     {
-        if find(&self.params, item.text).is_some() {
+        if self.params.has(item.text) {
             return Err(ReadFault::Duplicate(item.place));
         }
-        self.params.intern(item.text)?;
+        self.params.intern(alloc, item.text)?;
         self.name = Text::from_slice(alloc, item.text)?;
         Ok(())
     }
@@ -86,10 +86,10 @@ impl OpenCell {
     pub(crate) fn pin_name(&mut self, alloc: Global, item: &Item<'_>) -> Result<(), ReadFault>
         ensures { Sets result self.new (with_pin_name (as_seen item.now) self.old) }
     {
-        if find(&self.pins, item.text).is_some() {
+        if self.pins.has(item.text) {
             return Err(ReadFault::Duplicate(item.place));
         }
-        self.pins.intern(item.text)?;
+        self.pins.intern(alloc, item.text)?;
         self.name = Text::from_slice(alloc, item.text)?;
         Ok(())
     }

@@ -1,6 +1,6 @@
 //! The process that is open.
 
-ghost use Rattle.std.specs.Prelude.{◌≡◌, [], OnOk};
+ghost use Rattle.std.specs.Prelude.{◌≡◌, OnOk};
 ghost use Rattle.rtl_lex.specs.Items.{as_seen};
 ghost use Rattle.rtl_read.specs.Meaning.Process.{
   event_of,

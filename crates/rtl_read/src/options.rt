@@ -5,7 +5,6 @@ ghost use Rattle.rtl_lex.specs.Items.{as_seen};
 ghost use Rattle.rtl_read.specs.Gives.{Gives, Sets};
 ghost use Rattle.rtl_read.specs.Meaning.Wire.{
   some_width,
-  within_limit,
   plain_wire,
   plain_store,
   with_option,

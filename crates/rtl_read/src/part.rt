@@ -1,6 +1,6 @@
 //! The part of a signal that was read last.
 
-ghost use Rattle.std.specs.Prelude.{◌≡◌, ◌<◌, ◌≤◌, ◌+◌, ◌-◌, ◌++◌, [], IfOk, OnOk, drop, length, take};
+ghost use Rattle.std.specs.Prelude.{◌≡◌, ◌<◌, ◌≤◌, ◌+◌, ◌-◌, ◌++◌, IfOk, OnOk, drop, length, take};
 ghost use Rattle.rtl_read.specs.Part.{range_bits};
 ghost use Rattle.rtl_read.specs.Signal.{wire_bits};
 

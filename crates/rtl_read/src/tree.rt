@@ -7,7 +7,6 @@ ghost use Rattle.rtl_read.specs.Meaning.Tree.{
   plain_case,
   plain_tree,
   case_of,
-  switch_of,
   deeper,
   enter_switch,
   open_case,

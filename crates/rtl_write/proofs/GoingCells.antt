@@ -37,7 +37,6 @@ use Rattle.rtl_write.proofs.Going.{Goes, goes_none, goes_then, goes_on, goes_lin
 use Rattle.rtl_write.proofs.GoingSignals.{Begins, TakesSlices, IsOver, goes_signal}
 use Rattle.rtl_write.proofs.GoingWires.{at, IsFree, add_name, adds_name, takes_item}
 use Rattle.rtl_write.proofs.Tokens as tokens
-use Rattle.rtl_write.proofs.Tokens.{word}
 
 -- a draft with this open cell
 abbrev celled : Draft → OpenCell → Draft

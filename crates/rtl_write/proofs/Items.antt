@@ -18,7 +18,7 @@ use Rattle.rtl_lex.specs.declared.token.LexFault.{LexFault}
 use Rattle.rtl_lex.specs.declared.token.LexFault.TheVariants as faults
 use Rattle.rtl_lex.specs.Bytes.{is_end, is_lower, is_digit, is_mark, is_sigil, is_name}
 use Rattle.rtl_lex.specs.Gaps.{gap}
-use Rattle.rtl_lex.specs.Numbers.{int_of, in_range, integer}
+use Rattle.rtl_lex.specs.Numbers.{in_range, integer}
 use Rattle.rtl_lex.specs.Place.{moved}
 use Rattle.rtl_lex.specs.Sorts.{sort_of, word_sort, module_word, option_word, process_word, event_word, mark_sort}
 use Rattle.rtl_lex.specs.Strings.{char_by, escape, char_front, spelt, chars_of, octals}

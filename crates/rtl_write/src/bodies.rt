@@ -1,6 +1,6 @@
 //! Modules, read from the text of their bodies.
 
-ghost use Rattle.std.specs.Prelude.{◌≡◌, ◌≤◌, true, List, [], ◌∷◌, IfOk, length};
+ghost use Rattle.std.specs.Prelude.{◌≡◌, ◌≤◌, true, [], ◌∷◌, IfOk, length};
 ghost use Rattle.rtl_ir.specs.declared.module.Module.{Module};
 ghost use Rattle.rtl_read.specs.declared.read_fault.ReadFault.TheVariants as faults;
 ghost use Rattle.rtl_write.specs.Text.{body_text};

@@ -1,18 +1,8 @@
 //! Constants.
 
-ghost use Rattle.std.specs.Prelude.{◌≡◌, ◌∷◌, ◌++◌, OnOk, map, reverse};
+ghost use Rattle.std.specs.Prelude.{◌≡◌, ◌++◌, OnOk};
 ghost use Rattle.std.specs.Fmt.{decimal, signed_decimal};
-ghost use Rattle.std.specs.List.{flat_map};
-ghost use Rattle.rtl_write.specs.Constant.{
-  bit_letter,
-  letters_of,
-  sign_mark,
-  bits_text,
-  octal,
-  escaped,
-  string_text,
-  value_text,
-};
+ghost use Rattle.rtl_write.specs.Constant.{bit_letter, letters_of, bits_text, escaped, string_text, value_text};
 
 use rtl_bits::{Bit, Memory, Text};
 use rtl_ir::Value;

@@ -11,7 +11,6 @@ ghost use Rattle.rtl_write.specs.PortTables.{
   natural_of,
   port_of,
   add_port,
-  with_port,
   with_line,
   modules_of,
 };

@@ -1,6 +1,6 @@
 //! Signals.
 
-ghost use Rattle.std.specs.Prelude.{◌≡◌, ◌≤◌, ◌<◌, ◌+◌, ◌^◌, ◌++◌, OnOk, IfOk, map, slice_get, length};
+ghost use Rattle.std.specs.Prelude.{◌≡◌, ◌<◌, ◌+◌, ◌^◌, ◌++◌, OnOk, IfOk, map};
 ghost use Rattle.std.specs.Option.{option_copied};
 ghost use Rattle.rtl_write.specs.Signal.{constant_of, part_text, run_text, braces_text, signal_text};
 

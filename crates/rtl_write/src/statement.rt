@@ -1,6 +1,6 @@
 //! Statements: attributes, parameters, wires, memories, cells, connections.
 
-ghost use Rattle.std.specs.Prelude.{◌≡◌, ◌++◌, OnOk, length, take};
+ghost use Rattle.std.specs.Prelude.{◌≡◌, ◌++◌, OnOk};
 ghost use Rattle.std.specs.List.{flat_map};
 ghost use Rattle.rtl_write.specs.Text.{
   indent,

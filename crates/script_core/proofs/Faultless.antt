@@ -51,7 +51,7 @@ use Rattle.check_laws.proofs.Named.{ordered_lines, lines_distinct, ports_distinc
 use Rattle.check_laws.proofs.Readable.{sound}
 use Rattle.script_core.specs.Cold.{table_of}
 use Rattle.script_core.proofs.Tables.{same_name, table_instance, instantiated}
-use Rattle.script_core.proofs.Testing.{bad_same}
+use Rattle.rtl_check.proofs.Testing.{bad_same}
 
 -- ---- ports in another order
 

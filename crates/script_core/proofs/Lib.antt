@@ -3,7 +3,6 @@ pub mod ParseLemmas
 pub mod KeyLemmas
 pub mod FoldLemmas
 pub mod Tables
-pub mod Testing
 pub mod Faultless
 pub mod BuildLemmas
 pub mod Given

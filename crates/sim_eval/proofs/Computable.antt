@@ -50,11 +50,11 @@ use Rattle.rtl_ir.specs.Flat.Memory.{addresses_of, fetched_rows, init_cells, mem
 use Rattle.rtl_ir.specs.Flat.Place.{Frame, frame, Path, Place}
 use Rattle.rtl_ir.specs.Flat.Point.{Point, Constant, At as AtPlace, bit_place, pin_points, point, points, wire_points}
 use Rattle.rtl_ir.specs.Flat.Pick.{no_test, pick_of}
-use Rattle.rtl_ir.specs.Flat.Process.{Trigger, always_row, edge_row, edge_trigger, level_row, level_trigger, loaded_row, loaded_rows, may_hold, no_modules, one_rule_rows, process_rows, processes_rows, raced_row, raced_rows, rules_rows, tree_bit_rows, two_rules_rows}
+use Rattle.rtl_ir.specs.Flat.Process.{Trigger, always_row, edge_row, edge_trigger, level_row, level_trigger, loaded_row, loaded_rows, may_hold, no_modules, one_rule_rows, process_rows, processes_rows, raced_row, raced_rows, rules_rows, tree_bit_rows, two_rules_rows, pair_by}
 use Rattle.rtl_ir.specs.Flat.Rows.{plain_rows, rows_of}
 use Rattle.rtl_ir.specs.Flat.Start.{start_of}
 use Rattle.rtl_ir.specs.Flat.Tree as tree
-use Rattle.rtl_ir.specs.Flat.Tree.{named, in_module, in_instances, in_tree, given_rows, driven_rows, role_points, places, root}
+use Rattle.rtl_ir.specs.Flat.Tree.{named, in_instances, in_tree, given_rows, driven_rows, role_points, places, root}
 use Rattle.rtl_ir.specs.Follow.{all_joins, source_at}
 use Rattle.rtl_ir.specs.declared.follow.Join.{Join}
 use Rattle.rtl_ir.specs.Parameters.{signal_at}
@@ -197,7 +197,7 @@ module _ (start : SigBit → Bit) (p : Path) (m : Module) (root : CaseView) (bit
   one_within updates (Edge signal) = λ x i. absurd i
   one_within updates Init = λ x i. absurd i
 
-  two_within : (a b : SyncRule) (edge edge' level level' : Option Trigger) → AreWithin (two_rules_rows start p m.wires m root bits a b edge edge' level level')
+  two_within : (a b : SyncRule) (edge edge' level level' : Option Trigger) → AreWithin (two_rules_rows start p m.wires m root bits (pair_by a b edge edge' level level'))
   two_within a b (Some e) edge level (Some l) = both_within e (all_joins a.updates) l (all_joins b.updates)
   two_within a b edge (Some e) (Some l) level = both_within e (all_joins b.updates) l (all_joins a.updates)
   two_within a b edge edge' level level' = races_within (all_joins a.updates) (edge_bit a.event) (edge_bit b.event)

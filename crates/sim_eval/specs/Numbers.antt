@@ -5,6 +5,7 @@ use Rattle.rtl_bits.specs.declared.bit.Bit.TheVariants.{S0, S1, X, Z, M, Dash}
 use Rattle.cell_types.specs.declared.shape.Shape.{Shape}
 use Rattle.cell_gate.specs.declared.pins.Pins.{Pins}
 use Rattle.cell_gate.specs.Storage.{store_bit_of}
+use Rattle.cell_word.specs.Values.{word_value_of}
 use Rattle.flat_net.specs.declared.net.Logic.{Logic}
 use Rattle.flat_net.specs.declared.net.Point.{Point}
 use Rattle.flat_net.specs.declared.net.Point.TheVariants.{Constant, At}
@@ -37,6 +38,10 @@ number_word values points = map (number_read values) points
 -- what the inputs of a combinational cell have
 abbrev pub number_inputs : List Bit → Logic → List (List Bit)
 number_inputs values c = number_word values c.a ∷ number_word values c.b ∷ number_word values c.s ∷ []
+
+-- what a cell on words gives
+abbrev pub given_word : List Bit → Logic → List Bit
+given_word values c = word_value_of c.shape (number_inputs values c)
 
 -- what a storage bit has at its pins
 abbrev pub number_pins : List Bit → StorePins → ℕ → Pins

@@ -1,5 +1,5 @@
 -- What a simulation is at.
-use Rattle.std.specs.Prelude.{◌≡◌, ◌<◌, not, List, [], length, map}
+use Rattle.std.specs.Prelude.{◌≡◌, ◌<◌, not, List, length, map}
 use Rattle.std.specs.List.{AllByRecursion}
 use Rattle.rtl_bits.specs.declared.bit.Bit.{Bit}
 use Rattle.rtl_ir.specs.declared.module.Design.{Design}

@@ -1,5 +1,5 @@
 -- What tree bits have, by the values of the numbered bits.
-use Rattle.std.specs.Prelude.{ℕ, Bool, nat_eq, List, [], ◌∷◌, Option, Some, None, slice_index_or, if◌then◌else◌}
+use Rattle.std.specs.Prelude.{◌≡◌, ℕ, Bool, nat_eq, List, [], ◌∷◌, Option, Some, None, slice_index_or, if◌then◌else◌}
 use Rattle.rtl_bits.specs.declared.bit.Bit.{Bit}
 use Rattle.rtl_bits.specs.declared.bit.Bit.TheVariants.{S0, S1, X}
 use Rattle.rtl_bits.specs.Knowledge.{is_known}
@@ -82,3 +82,7 @@ bit_of bits at = slice_index_or bits at X
 abbrev pub merged_with : Option (List Bit) → ℕ → Bit → Bit
 merged_with None at b = b
 merged_with (Some others) at b = merge_of (bit_of others at) b
+
+-- bits are merged with others, place by place; past their end those are x
+abbrev pub Merges : List Bit → List Bit → List Bit → Type 0
+Merges others old new = (at : ℕ) → bit_of new at ≡ merge_of (bit_of others at) (bit_of old at)

@@ -5,6 +5,7 @@ use Rattle.rtl_bits.specs.declared.bit.Bit.{Bit}
 use Rattle.rtl_bits.specs.declared.bit.Bit.TheVariants.{S0, S1, X, Z, M, Dash}
 use Rattle.rtl_bits.specs.Numbers.{is_one}
 use Rattle.rtl_bits.specs.Tables.{and_of}
+use Rattle.cell_gate.specs.Control.{pick_of}
 use Rattle.flat_net.specs.declared.memory.WritePort.{WritePort}
 use Rattle.flat_net.specs.declared.net.Point.{Point}
 use Rattle.flat_net.specs.Cells.{listed_point}
@@ -36,6 +37,15 @@ writers_of values address at (w ∷ ports) =
     then writers_of values address at ports
     else w.number ∷ writers_of values address at ports
 
+-- whether a port with this mask may follow the port of a number
+abbrev pub may_follow : List Bit → ℕ → Bool
+may_follow mask number = is_one (slice_index_or mask number X)
+
 -- whether a port with this mask may follow the ports of these numbers
 abbrev pub follows_all : List Bit → List ℕ → Bool
-follows_all mask numbers = list_all (λ number. is_one (slice_index_or mask number X)) numbers
+follows_all mask numbers = list_all (λ number. may_follow mask number) numbers
+
+-- what a port makes of a bit of the word at an address, behind the ports of these numbers, which may write it
+abbrev pub after_port : List Bit → ℕ → ℕ → WritePort → List ℕ → Bit → Bit
+after_port values address at w writers old =
+    pick_of (number_hit values address at w) (if follows_all w.mask writers then number_at values w.word at else X) old

@@ -1,8 +1,7 @@
 //! Combinational cells.
 
-ghost use Rattle.std.specs.Prelude.{◌≡◌, ◌<◌, ℕ, List, [], ◌∷◌, IfOk, IsTrue, length, map, slice_index_or};
+ghost use Rattle.std.specs.Prelude.{◌≡◌, ◌<◌, List, IfOk, IsTrue, length, map, slice_index_or};
 ghost use Rattle.std.specs.List.{AllByRecursion};
-ghost use Rattle.cell_word.specs.Values.{word_value_of};
 ghost use Rattle.rtl_ir.specs.Flat.Place.{Place};
 ghost use Rattle.net_model.specs.Run.{Time};
 ghost use Rattle.flat_net.specs.declared.net.Output.{Output};
@@ -11,7 +10,7 @@ ghost use Rattle.flat_net.specs.Parts.{inputs_of, output_row};
 ghost use Rattle.flat_net.specs.Within.{IsLogicWithin};
 ghost use Rattle.sim_eval.specs.Advance.{Advances, AreFewer, Takes, output_fact};
 ghost use Rattle.sim_eval.specs.Limits.{IsWordWithin, input_widths, is_computable, is_logic_within};
-ghost use Rattle.sim_eval.specs.Numbers.{IsWorked, number_inputs, number_read, worked_bit};
+ghost use Rattle.sim_eval.specs.Numbers.{IsWorked, given_word, number_read, worked_bit};
 
 use crate::values::{bit_at, put, read, read_all};
 use cell_gate::gate_value;
@@ -68,7 +67,7 @@ fn first_of(values: &[Bit], points: &[Point]) -> Bit
 /// What a cell on words gives.
 fn word(alloc: Global, cell: &Logic, values: &[Bit]) -> Result<Bits, Memory>
     requires within { IsWordWithin cell.now }
-    ensures value { IfOk result (λ bits. bits ≡ word_value_of cell.now.shape (number_inputs values.now cell.now)) }
+    ensures value { IfOk result (λ bits. bits ≡ given_word values.now cell.now) }
 {
     let a = read_all(alloc, values, cell.a.as_slice())?;
     let b = read_all(alloc, values, cell.b.as_slice())?;

@@ -3,7 +3,7 @@
 ghost use Rattle.std.specs.Prelude.{◌≡◌, ◌<◌, ℕ, IfOk, OnOk, length, option_map};
 ghost use Rattle.rtl_bits.specs.Tables.{merge_of};
 ghost use Rattle.net_model.specs.Picked.{tested_of};
-ghost use Rattle.sim_eval.specs.Trees.{bit_of, merged_with};
+ghost use Rattle.sim_eval.specs.Trees.{Merges, bit_of, merged_with};
 ghost use Rattle.sim_eval.specs.Walk.{leaf_of, number_mark, walked, walked_assigns, walked_branch, walked_branches};
 ghost use Rattle.sim_eval.specs.Walk.{walked_signal, walked_tree};
 
@@ -194,7 +194,7 @@ fn merge_open(bits: &mut [Bit], merged: &Option<Vec<Bit>>)
 
 /// Merges these bits with the others, place by place; past their end those are x.
 fn merge_all(bits: &mut [Bit], others: &[Bit])
-    ensures value { (at : ℕ) → bit_of bits.new at ≡ merge_of (bit_of others.now at) (bit_of bits.old at) }
+    ensures value { Merges others.now bits.old bits.new }
 {
     for at in 0..bits.len() {
         bits[at] = merge(bit_in(others, at), bits[at]);

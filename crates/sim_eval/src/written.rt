@@ -1,9 +1,7 @@
 //! What write ports make of a bit of a word.
 
-ghost use Rattle.std.specs.Prelude.{◌≡◌, ◌∷◌, ◌++◌, List, [], IfOk, OnOk, if◌then◌else◌, length, map, slice_index_or};
+ghost use Rattle.std.specs.Prelude.{◌≡◌, ◌∷◌, ◌++◌, List, [], IfOk, OnOk, if◌then◌else◌, length, map};
 ghost use Rattle.std.specs.List.{AllByRecursion};
-ghost use Rattle.rtl_bits.specs.Numbers.{is_one};
-ghost use Rattle.cell_gate.specs.Control.{pick_of};
 ghost use Rattle.rtl_ir.specs.Flat.Place.{Place};
 ghost use Rattle.net_model.specs.Words.{address_is, after_ports};
 ghost use Rattle.flat_net.specs.Points.{AreApart};
@@ -11,7 +9,7 @@ ghost use Rattle.flat_net.specs.Within.{IsWritePortWithin};
 ghost use Rattle.flat_net.specs.Words.{ported_of, ports_at};
 ghost use Rattle.sim_eval.specs.Numbers.{number_word};
 ghost use Rattle.sim_eval.specs.Shown.{shown};
-ghost use Rattle.sim_eval.specs.Written.{follows_all, is_zero, number_at, number_hit};
+ghost use Rattle.sim_eval.specs.Written.{after_port, follows_all, is_zero, may_follow, number_at, number_hit};
 
 use crate::values::{bit_at, read};
 use cell_gate::pick;
@@ -41,8 +39,7 @@ pub(crate) fn written(
 }
 
 /// What a port makes of a bit of a word, behind the ports of these numbers, which may write it. Where this one may
-/// write
-/// it too, its number is put last.
+/// write it too, its number is put last.
 fn after_port(
     values: &[Bit],
     port: &WritePort,
@@ -51,9 +48,7 @@ fn after_port(
     old: Bit,
 ) -> Result<Bit, Memory>
     ensures value { IfOk result (λ value.
-        value ≡ pick_of (number_hit values.now bit.now.address bit.now.at port.now)
-        (if follows_all port.now.mask writers.old.items then number_at values.now port.now.word bit.now.at else Bit.X)
-        old) }
+        value ≡ after_port values.now bit.now.address bit.now.at port.now writers.old.items old) }
     ensures writers { OnOk result (
         writers.new.items ≡ (if is_zero (number_hit values.now bit.now.address bit.now.at port.now) then
         writers.old.items else writers.old.items ++ port.now.number ∷ [])) }
@@ -96,7 +91,7 @@ fn followed_by(port: &WritePort, writers: &[u32], new: Bit) -> Bit
 
 /// Whether a port may follow the one of a number.
 fn may_follow(port: &WritePort, number: u32) -> bool
-    ensures value { result ≡ is_one (slice_index_or port.now.mask number Bit.X) }
+    ensures value { result ≡ may_follow port.now.mask number }
 {
     is_one(bit_at(port.mask.as_slice(), number))
 }

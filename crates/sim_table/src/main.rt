@@ -1,6 +1,8 @@
 //! Runs designs of a table over their stimuli, and compares their traces.
 #![tactic(auto)]
 
+mod chain;
+
 ghost use Rattle.std.specs.Prelude.{◌≡◌, ◌++◌, ◌∷◌, List};
 ghost use Rattle.rtl_bits.specs.declared.bit.Bit.{Bit};
 ghost use Rattle.rtl_ir.specs.declared.module.Design.{Design};
@@ -113,12 +115,22 @@ fn holds(alloc: Global, fields: &[&[u8]]) -> Result<bool, Memory> {
     }
 }
 
-/// Counts the rows at standard input, those of memories, and those of cells that select.
+/// Counts the rows at standard input, those of memories, those of cells that select, and two chains.
 fn tally_of(rt: &HostRuntime) -> Result<Tally, Memory> {
     let mut tally = Tally::make(rt.alloc());
     tally.read("standard input", rt.reader(), TEXTS, holds)?;
     tally.file(rt, "memories", TEXTS, holds)?;
     tally.file(rt, "selects", TEXTS, holds)?;
+    tally.count(
+        "chains",
+        b"of 20,000 gates",
+        chain::passes_on(rt.alloc(), 20_000)?,
+    )?;
+    tally.count(
+        "chains",
+        b"of 100,000 gates",
+        chain::passes_on(rt.alloc(), 100_000)?,
+    )?;
     Ok(tally)
 }
 

@@ -40,10 +40,10 @@ trace_more d m stimulus x =
     line : List Bit → List ℕ
     line bits = step_line (port_widths Output m) bits ++ codes "\n"
 
--- a simulation is at a module after the first steps of a stimulus, and their trace is written
-pub record IsTraced (d : Design) (m : Module) (stimulus : List (List Bit)) (sim : Sim) (text : List ℕ) : Type 0 where
+-- a simulation is at a module after the first steps of a stimulus, and their trace is written behind a text
+pub record IsTraced (front : List ℕ) (d : Design) (m : Module) (stimulus : List (List Bit)) (sim : Sim) (text : List ℕ) : Type 0 where
   pub at : IsSimOf sim d m stimulus
-  pub written : text ≡ trace_text d m stimulus
+  pub written : text ≡ front ++ trace_text d m stimulus
 
 module _ {A : Type 0} where
   one_more : (xs : List A) (at : ℕ) (x : A) → at < length xs → x ≡ get_or xs at x → take at xs ++ x ∷ [] ≡ take (suc at) xs
@@ -60,28 +60,33 @@ module _ {A : Type 0} where
   taken : (xs : List A) (at : ℕ) (x : A) → at < length xs → x ≡ get_or xs at x → take at xs ++ x ∷ [] ≡ take (at + 1) xs
   taken xs at x lt is = rw add-one (one_more xs at x lt is)
 
-pub traced_more : (d : Design) (m : Module) (all : List (List Bit)) (at : ℕ) (x : List Bit) (old new : Sim) (before after : List ℕ) → at < length all → x ≡ get_or all at x
-    → IsTraced d m (take at all) old before → IsSimOf new d m (take at all ++ x ∷ [])
+pub traced_more : (front : List ℕ) (d : Design) (m : Module) (all : List (List Bit)) (at : ℕ) (x : List Bit) (old new : Sim) (before after : List ℕ) → at < length all
+    → x ≡ get_or all at x → IsTraced front d m (take at all) old before → IsSimOf new d m (take at all ++ x ∷ [])
     → after ≡ before ++ (step_line (port_widths Output m) (outputs_after d m (take at all ++ x ∷ [])) ++ codes "\n")
-    → IsTraced d m (take (at + 1) all) new after
-traced_more d m all at x old new before after lt is h sim line =
-    subst (λ (s : List (List Bit)). IsTraced d m s new after) (taken all at x lt is)
-    record { at = sim; written = line ∙ ap (λ (t : List ℕ). t ++ (step_line (port_widths Output m) (outputs_after d m (take at all ++ x ∷ [])) ++ codes "\n")) h.written ∙ sym (trace_more d m (take at all) x) }
+    → IsTraced front d m (take (at + 1) all) new after
+traced_more front d m all at x old new before after lt is h sim line =
+    subst (λ (s : List (List Bit)). IsTraced front d m s new after) (taken all at x lt is)
+    record { at = sim; written = line ∙ ap (λ (t : List ℕ). t ++ last) h.written ∙ append_assoc front (trace_text d m (take at all)) last ∙ ap (λ (t : List ℕ). front ++ t) (sym (trace_more d m (take at all) x)) }
+  where
+    last : List ℕ
+    last = step_line (port_widths Output m) (outputs_after d m (take at all ++ x ∷ [])) ++ codes "\n"
 
 -- before the first step nothing is written
-pub traced_none : (d : Design) (m : Module) (sim : Sim) (text : List ℕ) → IsSimOf sim d m [] → text ≡ [] → IsTraced d m [] sim text
-traced_none d m sim text at nothing = record { at = at; written = nothing }
+pub traced_none : (front : List ℕ) (d : Design) (m : Module) (sim : Sim) (text : List ℕ) → IsSimOf sim d m [] → text ≡ front → IsTraced front d m [] sim text
+traced_none front d m sim text at nothing = record { at = at; written = nothing ∙ sym (append-nil front) }
 
 -- after all steps the trace is written
-pub traced_all : (d : Design) (m : Module) (all : List (List Bit)) (n : ℕ) (sim : Sim) (text : List ℕ) → length all ≤ n → IsTraced d m (take n all) sim text → text ≡ trace_text d m all
-traced_all d m all n sim text le h = h.written ∙ ap (trace_text d m) (whole all n le)
+pub traced_all : (front : List ℕ) (d : Design) (m : Module) (all : List (List Bit)) (n : ℕ) (sim : Sim) (text : List ℕ) → length all ≤ n → IsTraced front d m (take n all) sim text
+    → text ≡ front ++ trace_text d m all
+traced_all front d m all n sim text le h = h.written ∙ ap (λ (s : List (List Bit)). front ++ trace_text d m s) (whole all n le)
 
 -- a simulation goes on: at each module with these wires that it was at before the first step it is traced
-abbrev pub GoesOn : Sim → List Wire → List (List Bit) → Sim → List ℕ → Type 0
-GoesOn first wires stimulus now text = (d : Design) (m : Module) → m.wires ≡ wires → IsSimOf first d m [] → IsTraced d m stimulus now text
+abbrev pub GoesOn : List ℕ → Sim → List Wire → List (List Bit) → Sim → List ℕ → Type 0
+GoesOn front first wires stimulus now text = (d : Design) (m : Module) → m.wires ≡ wires → IsSimOf first d m [] → IsTraced front d m stimulus now text
 
-pub goes_over : (first now : Sim) (wires : List Wire) (stimulus : List (List Bit)) (text : List ℕ) → IsFreshOver first wires → GoesOn first wires stimulus now text → IsSimOver now wires
-goes_over first now wires stimulus text h goes = record {
+pub goes_over : (front : List ℕ) (first now : Sim) (wires : List Wire) (stimulus : List (List Bit)) (text : List ℕ) → IsFreshOver first wires → GoesOn front first wires stimulus now text
+    → IsSimOver now wires
+goes_over front first now wires stimulus text h goes = record {
   design = h.design;
   body = h.body;
   stimulus = stimulus;

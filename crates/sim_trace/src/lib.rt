@@ -5,4 +5,4 @@ mod stimulus;
 mod trace;
 
 pub use stimulus::{StimulusFault, stimulus_of};
-pub use trace::{titled_trace, trace_text};
+pub use trace::{put_titled_trace, put_trace};

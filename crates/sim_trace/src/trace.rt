@@ -1,6 +1,6 @@
 //! Traces of simulations.
 
-ghost use Rattle.std.specs.Prelude.{◌≡◌, ◌<◌, ◌^◌, [], ◌∷◌, ◌++◌, List, IfOk, OnOk, Some, codes, length, slice_get};
+ghost use Rattle.std.specs.Prelude.{◌≡◌, ◌<◌, ◌^◌, [], ◌∷◌, ◌++◌, List, OnOk, Some, codes, length, slice_get};
 ghost use Rattle.rtl_bits.specs.declared.bit.Bit.{Bit};
 ghost use Rattle.rtl_ir.specs.Faults.{check_faults};
 ghost use Rattle.rtl_ir.specs.declared.module.Design.{Design};
@@ -21,7 +21,6 @@ use rtl_bits::{Bits, Memory, Text};
 use rtl_ir::{Design, Module};
 use sim_eval::Sim;
 use sim_text::write_step;
-use std::alloc::Global;
 
 /// Makes a step of a simulation of a module with these wires with an input vector, and writes the line of its outputs.
 fn put_step(text: &mut Text, sim: &mut Sim, module: &Module, inputs: &Bits) -> Result<(), Memory>
@@ -41,57 +40,56 @@ fn put_step(text: &mut Text, sim: &mut Sim, module: &Module, inputs: &Bits) -> R
     Ok(())
 }
 
-/// The lines of the trace of a simulation of a module with these wires, from its start on.
+/// Writes the lines of the trace of a simulation of a module with these wires, from its start on.
 #[tactic(auto, using(crate::proofs::Tracing::traced_none))]
-fn trace_of(
-    alloc: Global,
+fn put_steps(
+    text: &mut Text,
     sim: &mut Sim,
     module: &Module,
     stimulus: &[Bits],
-) -> Result<Text, Memory>
+) -> Result<(), Memory>
     requires fresh { IsFreshOver sim.old «module».now.wires }
-    ensures value { (d : Design) (m : Module) → m.wires ≡ «module».now.wires → IsSimOf sim.old d m [] →
-        IfOk result (λ text. text ≡ trace_text d m stimulus.now) }
+    ensures ok { (d : Design) (m : Module) → m.wires ≡ «module».now.wires → IsSimOf sim.old d m [] →
+        OnOk result (text.new ≡ text.old ++ trace_text d m stimulus.now) }
 {
-    let mut text = Text::make(alloc);
     for inputs in stimulus {
-        put_step(&mut text, sim, module, inputs)?;
+        put_step(text, sim, module, inputs)?;
     }
-    Ok(text)
+    Ok(())
 }
 
-/// The lines of the trace of the module at this place of a design without faults.
-pub fn trace_text(
-    alloc: Global,
+/// Writes the lines of the trace of the module at this place of a design without faults.
+pub fn put_trace(
+    text: &mut Text,
     design: &Design,
     at: usize,
     stimulus: &[Bits],
-) -> Result<Text, Memory>
+) -> Result<(), Memory>
     requires in_range { at < length design.now.modules }
     requires small { length design.now.modules < 2 ^ 32 }
     requires faultless { check_faults design.now.modules ≡ [] }
-    ensures value { («module» : Module) → slice_get design.now.modules at ≡ Some «module» →
-        IfOk result (λ text. text ≡ trace_text design.now «module» stimulus.now) }
+    ensures ok { («module» : Module) → slice_get design.now.modules at ≡ Some «module» →
+        OnOk result (text.new ≡ text.old ++ trace_text design.now «module» stimulus.now) }
 {
-    let mut sim = Sim::start(alloc, design, at as u32)?;
-    trace_of(alloc, &mut sim, &design.modules.as_slice()[at], stimulus)
+    let mut sim = Sim::start(text.allocator(), design, at as u32)?;
+    put_steps(text, &mut sim, &design.modules.as_slice()[at], stimulus)
 }
 
-/// The lines of the trace of the module at this place among modules without processes that are lent, each under its
-/// name. Their cells have shapes.
-pub fn titled_trace(
-    alloc: Global,
+/// Writes the lines of the trace of the module at this place among modules without processes that are lent, each under
+/// its name. Their cells have shapes.
+pub fn put_titled_trace(
+    text: &mut Text,
     modules: &[Titled],
     at: usize,
     stimulus: &[Bits],
-) -> Result<Text, Memory>
+) -> Result<(), Memory>
     requires in_range { at < length modules.now }
     requires small { length modules.now < 2 ^ 32 }
     requires plain { HaveNoProcess modules.now }
     requires shapes { Each (λ (m : Module). HaveShapes m.cells) (titled_design modules.now).modules }
-    ensures value { («module» : Module) → slice_get (titled_design modules.now).modules at ≡ Some «module» →
-        IfOk result (λ text. text ≡ trace_text (titled_design modules.now) «module» stimulus.now) }
+    ensures ok { («module» : Module) → slice_get (titled_design modules.now).modules at ≡ Some «module» →
+        OnOk result (text.new ≡ text.old ++ trace_text (titled_design modules.now) «module» stimulus.now) }
 {
-    let mut sim = Sim::start_titled(alloc, modules, at as u32)?;
-    trace_of(alloc, &mut sim, modules[at].body, stimulus)
+    let mut sim = Sim::start_titled(text.allocator(), modules, at as u32)?;
+    put_steps(text, &mut sim, modules[at].body, stimulus)
 }

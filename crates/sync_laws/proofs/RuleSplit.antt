@@ -10,7 +10,7 @@ use Rattle.rtl_ir.specs.Faults.RuleKinds.{has_one_bit, is_one_bit}
 use Rattle.rtl_ir.specs.Faults.TwoEdges.{EdgeBit, edge_bit}
 use Rattle.rtl_ir.specs.Flat.Driver.{Driven}
 use Rattle.rtl_ir.specs.Flat.Place.{Path}
-use Rattle.rtl_ir.specs.Flat.Process.{Trigger, edge_trigger, level_trigger, loaded_rows, raced_rows, two_rules_rows}
+use Rattle.rtl_ir.specs.Flat.Process.{Trigger, edge_trigger, level_trigger, loaded_rows, raced_rows, two_rules_rows, pair_by}
 use Rattle.rtl_ir.specs.Follow.{all_joins}
 use Rattle.rtl_ir.specs.declared.follow.Join.{Join}
 use Rattle.rtl_ir.specs.Tree.{CaseView}
@@ -96,7 +96,7 @@ module _ (start : SigBit → Bit) (p : Path) (wires : List Wire) (m : Module) (r
       → ((e l : Trigger) → edge_trigger b.event ≡ Some e → level_trigger a.event ≡ Some l → P (both_parts e b.updates l a.updates) (loaded_bits (all_joins b.updates) (all_joins a.updates)) (loaded_rows start p wires e (all_joins b.updates) l (all_joins a.updates)))
       → P (two_parts (edge_trigger a.event) (edge_trigger b.event) (level_trigger a.event) (level_trigger b.event) a.updates b.updates)
       (two_rules_bits a b (edge_trigger a.event) (edge_trigger b.event) (level_trigger a.event) (level_trigger b.event))
-      (two_rules_rows start p wires m root bits a b (edge_trigger a.event) (edge_trigger b.event) (level_trigger a.event) (level_trigger b.event))
+      (two_rules_rows start p wires m root bits (pair_by a b (edge_trigger a.event) (edge_trigger b.event) (level_trigger a.event) (level_trigger b.event)))
   two_split a b few P none first second =
       by (edge_trigger a.event) (edge_trigger b.event) (level_trigger a.event) (level_trigger b.event) refl refl refl refl
     where
@@ -116,7 +116,7 @@ module _ (start : SigBit → Bit) (p : Path) (wires : List Wire) (m : Module) (r
           (subst (λ z. P [] z []) (sym (raced_first (all_joins a.updates) (edge_bit a.event) (edge_bit b.event) n)) none)
 
       by : (ea eb la lb : Option Trigger) → edge_trigger a.event ≡ ea → edge_trigger b.event ≡ eb → level_trigger a.event ≡ la → level_trigger b.event ≡ lb
-          → P (two_parts ea eb la lb a.updates b.updates) (two_rules_bits a b ea eb la lb) (two_rules_rows start p wires m root bits a b ea eb la lb)
+          → P (two_parts ea eb la lb a.updates b.updates) (two_rules_bits a b ea eb la lb) (two_rules_rows start p wires m root bits (pair_by a b ea eb la lb))
       by (Some e) eb la (Some l) u v w x = first e l u x
       by None (Some e) (Some l) lb u v w x = second e l v w
       by (Some e) (Some f) (Some l) None u v w x = absurd (two e f u v)

@@ -9,7 +9,7 @@ use Rattle.rtl_ir.specs.Faults.TwoEdges.{EdgeBit, edge_bit, is_tested}
 use Rattle.rtl_ir.specs.Flat.Access.{line_accesses, rule_accesses}
 use Rattle.rtl_ir.specs.Flat.Driver.{Driven}
 use Rattle.rtl_ir.specs.Flat.Place.{Path}
-use Rattle.rtl_ir.specs.Flat.Process.{Trigger, edge_trigger, level_trigger, no_modules, one_rule_rows, processes_rows, raced_rows, rules_rows, tree_bit_rows, two_rules_rows}
+use Rattle.rtl_ir.specs.Flat.Process.{Trigger, edge_trigger, level_trigger, no_modules, one_rule_rows, processes_rows, raced_rows, rules_rows, tree_bit_rows, two_rules_rows, pair_by}
 use Rattle.rtl_ir.specs.Flat.Start.{process_starts}
 use Rattle.rtl_ir.specs.Follow.{all_joins}
 use Rattle.rtl_ir.specs.Rules.{acting_rules, has_line, init_lines, is_init}
@@ -66,19 +66,19 @@ module _ (start : SigBit → Bit) (p : Path) (wires : List Wire) (m : Module) (r
   raced_none (Some a) None = refl
   raced_none None b = refl
 
-  two_none : (a b : SyncRule) → a.updates ≡ [] → b.updates ≡ [] → (ea eb la lb : Option Trigger) → two_rules_rows start p wires m root bits a b ea eb la lb ≡ []
+  two_none : (a b : SyncRule) → a.updates ≡ [] → b.updates ≡ [] → (ea eb la lb : Option Trigger) → two_rules_rows start p wires m root bits (pair_by a b ea eb la lb) ≡ []
   two_none a b e f (Some x) eb la (Some l) = λ i. both x (e i) l (f i)
     where
       both : Trigger → List Link → Trigger → List Link → List Driven
-      both x ea l eb = two_rules_rows start p wires m root bits (record a { updates = ea }) (record b { updates = eb }) (Some x) None None (Some l)
+      both x ea l eb = two_rules_rows start p wires m root bits (pair_by (record a { updates = ea }) (record b { updates = eb }) (Some x) None None (Some l))
   two_none a b e f None (Some x) (Some l) lb = λ i. both x (f i) l (e i)
     where
       both : Trigger → List Link → Trigger → List Link → List Driven
-      both x eb l ea = two_rules_rows start p wires m root bits (record a { updates = ea }) (record b { updates = eb }) None (Some x) (Some l) None
+      both x eb l ea = two_rules_rows start p wires m root bits (pair_by (record a { updates = ea }) (record b { updates = eb }) None (Some x) (Some l) None)
   two_none a b e f (Some x) (Some y) (Some l) None = λ i. both y (f i) l (e i)
     where
       both : Trigger → List Link → Trigger → List Link → List Driven
-      both y eb l ea = two_rules_rows start p wires m root bits (record a { updates = ea }) (record b { updates = eb }) None (Some y) (Some l) None
+      both y eb l ea = two_rules_rows start p wires m root bits (pair_by (record a { updates = ea }) (record b { updates = eb }) None (Some y) (Some l) None)
   two_none a b e f (Some x) (Some y) None None = ap (λ us. raced_rows start p wires m root bits (all_joins us) (edge_bit a.event) (edge_bit b.event)) e ∙ raced_none (edge_bit a.event) (edge_bit b.event)
   two_none a b e f (Some x) None la None = ap (λ us. raced_rows start p wires m root bits (all_joins us) (edge_bit a.event) (edge_bit b.event)) e ∙ raced_none (edge_bit a.event) (edge_bit b.event)
   two_none a b e f None (Some y) None lb = ap (λ us. raced_rows start p wires m root bits (all_joins us) (edge_bit a.event) (edge_bit b.event)) e ∙ raced_none (edge_bit a.event) (edge_bit b.event)

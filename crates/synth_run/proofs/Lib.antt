@@ -10,6 +10,7 @@ pub mod Printing
 pub mod Planning
 pub mod Replying
 pub mod Synthesising
+pub mod Valuing
 pub mod Numbers
 pub mod Reading
 pub mod Ending

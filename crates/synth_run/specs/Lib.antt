@@ -1,5 +1,6 @@
 pub mod Options
 pub mod Spelled
+pub mod Values
 pub mod Words
 pub mod Said
 pub mod Lines

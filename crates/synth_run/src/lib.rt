@@ -7,6 +7,7 @@ mod options;
 mod program;
 mod session;
 mod synth;
+mod values;
 mod words;
 
 pub use program::{Status, run};

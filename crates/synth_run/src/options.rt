@@ -1,6 +1,6 @@
-//! The options that the words of a call give.
+//! The options of a call, and the rule by which words are options.
 
-ghost use Rattle.std.specs.Prelude.{◌≡◌, ◌≤◌, ◌∷◌, None, IfSome, MatchOption, length, map, string_bytes};
+ghost use Rattle.std.specs.Prelude.{◌≡◌, ◌≤◌, ◌∷◌, None, IfSome, MatchOption, is_some, length, map, string_bytes};
 ghost use Rattle.std.specs.Option.{option_map};
 ghost use Rattle.synth_run.specs.Options.{form_of, given_from, holds_by, is_value, nothing_given, one_word};
 ghost use Rattle.synth_run.specs.Options.{with_session, with_value};
@@ -161,9 +161,9 @@ fn given_from<'a>(given: Given<'a>, words: &'a [String]) -> Option<Given<'a>>
     given_from(next, rest)
 }
 
-/// The options of the words of a call.
-pub(crate) fn given_of(words: &[String]) -> Option<Given<'_>>
-    ensures value { option_map given_as result ≡ given_from nothing_given (map string_bytes words.now) }
+/// Whether the words of a call are options, each used as it may be.
+pub(crate) fn are_options(words: &[String]) -> bool
+    ensures value { result ≡ is_some (given_from nothing_given (map string_bytes words.now)) }
 {
-    given_from(Given::nothing(), words)
+    given_from(Given::nothing(), words).is_some()
 }

@@ -9,7 +9,8 @@ ghost use Rattle.std.specs.Char.{is_ascii_digit};
 ghost use Rattle.std.specs.List.{list_all};
 ghost use Rattle.synth_run.specs.Words.{given_script, given_workers, is_number, mode_of, number_of, plan_by, plan_of};
 
-use crate::options::{Given, given_of};
+use crate::options::{Given, are_options};
+use crate::values::read_values;
 use rtl_bits::Memory;
 use script_core::{Script, ScriptFault, default_script, parse_script};
 use std::alloc::Global;
@@ -149,8 +150,11 @@ pub fn read_words(alloc: Global, words: &[String]) -> Result<Plan, WordFault>
     ensures script { IfOk result (λ plan. IsScript plan.script) }
     ensures modes { (n : ℕ) → IfOk result (λ plan. plan.mode ≡ Mode.Generate n → ⊥) }
 {
-    let Some(given) = given_of(words) else {
+    if !are_options(words) {
         return Err(WordFault::Usage);
-    };
-    plan_by(alloc, given)
+    }
+    match read_values(alloc, words) {
+        Ok(given) => plan_by(alloc, given),
+        Err(_) => Err(WordFault::Memory),
+    }
 }

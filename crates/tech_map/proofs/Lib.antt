@@ -1,4 +1,3 @@
-pub mod Fits
 pub mod Moving
 pub mod ByKind
 pub mod Renaming

@@ -1,10 +1,10 @@
 //! The gates of a cell, by its kind.
 
-ghost use Rattle.std.specs.Prelude.{◌≡◌, Err, IfOk, OnOk};
+ghost use Rattle.std.specs.Prelude.{◌≡◌, Err, OnOk};
 ghost use Rattle.net_index.specs.Builder.{IsInLimits, PassesLimit};
 ghost use Rattle.tech_map.specs.Techmap.{expand_by_kind};
 
-use cell_types::{ArithKind, CellKind, Shape, UnaryKind, WordKind};
+use cell_types::{ArithKind, CellKind, UnaryKind, WordKind};
 use net_index::{Builder, PassFault};
 use rtl_ir::{Cell, fitting_shape};
 use std::alloc::Global;

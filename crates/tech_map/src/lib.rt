@@ -3,7 +3,6 @@
 
 mod expand;
 mod in_place;
-mod limits;
 mod taken;
 
 ghost use Rattle.std.specs.Prelude.{◌≡◌, ◌++◌, ◌∷◌, [], Err, OnOk, IfOk, length};
@@ -22,9 +21,8 @@ ghost use Rattle.tech_map.specs.Techmap.{with_all_gates, with_gates};
 
 use crate::expand::expand_by_kind;
 use crate::in_place::with_gates_in_place;
-use crate::limits::check_limits;
 use crate::taken::taken_kind;
-use net_index::{Builder, PassFault};
+use net_index::{Builder, PassFault, check_limits};
 use rtl_bits::{Copied, Memory};
 use rtl_ir::{Cell, Module, PortTable};
 use std::alloc::Global;

@@ -3,6 +3,7 @@
 use crate::answer::{design_of, verdict};
 use rtl_bits::{Memory, Text};
 use std::alloc::{AllocError, Global};
+use table_rows::str_of;
 
 /// These bytes so many times.
 fn times(text: &mut Text, bytes: &[u8], count: u32) -> Result<(), Memory> {
@@ -54,28 +55,30 @@ fn spaces(alloc: Global, count: u32) -> Result<Text, Memory> {
     Ok(text)
 }
 
-/// Whether so many switches in one another are answered so.
-pub fn has_switches(alloc: Global, depth: u32, answer: &str) -> Result<bool, Memory> {
-    let text = switches(alloc, depth)?;
-    Ok(verdict(alloc, text.as_slice())?.as_str() == answer)
+/// The text of this sort with so many parts, where the sort is one.
+fn text_of(alloc: Global, sort: &str, count: u32) -> Result<Option<Text>, Memory> {
+    let text = match sort {
+        "switches" => switches(alloc, count)?,
+        "braces" => braces(alloc, count)?,
+        "modules" => Text::from_slice(alloc, modules(alloc, count)?.as_bytes())?,
+        "patterns" => patterns(alloc, count)?,
+        _ => return Ok(None),
+    };
+    Ok(Some(text))
 }
 
-/// Whether so many braces in one another are answered so.
-pub fn has_braces(alloc: Global, depth: u32, answer: &str) -> Result<bool, Memory> {
-    let text = braces(alloc, depth)?;
-    Ok(verdict(alloc, text.as_slice())?.as_str() == answer)
-}
-
-/// Whether so many modules are answered so.
-pub fn has_modules(alloc: Global, count: u32, answer: &str) -> Result<bool, Memory> {
-    let text = modules(alloc, count)?;
-    Ok(verdict(alloc, text.as_bytes())?.as_str() == answer)
-}
-
-/// Whether a case of so many patterns is read.
-pub fn has_patterns(alloc: Global, count: u32) -> Result<bool, Memory> {
-    let text = patterns(alloc, count)?;
-    Ok(verdict(alloc, text.as_slice())?.as_str() == "read")
+/// Whether a text of a sort with so many parts is answered so.
+pub fn is_answered(alloc: Global, fields: &[&[u8]]) -> Result<bool, Memory> {
+    let [_, sort, count, answer] = fields else {
+        return Ok(false);
+    };
+    let Ok(count) = str_of(count).parse::<u32>() else {
+        return Ok(false);
+    };
+    match text_of(alloc, str_of(sort), count)? {
+        Some(text) => Ok(verdict(alloc, text.as_slice())?.as_bytes() == *answer),
+        None => Ok(false),
+    }
 }
 
 /// Whether as many spaces as an input can have are the empty design.

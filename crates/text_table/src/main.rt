@@ -18,7 +18,14 @@ use std::process::ExitCode;
 use table_rows::{LINES, TEXTS, Tally, report, text_of};
 
 /// The files whose rows are lines.
-const OF_LINES: [&str; 5] = ["values", "widths", "integers", "constants", "signals"];
+const OF_LINES: [&str; 6] = [
+    "values",
+    "widths",
+    "integers",
+    "constants",
+    "signals",
+    "sizes",
+];
 
 /// The files whose fields are texts.
 const OF_TEXTS: [&str; 8] = [
@@ -47,6 +54,7 @@ fn holds(alloc: Global, file: &str, fields: &[&[u8]]) -> Result<bool, Memory> {
         "first_designs" | "second_designs" => designs::is_kept(alloc, fields),
         "ports" => ports::is_kept(alloc, fields),
         "generated" => generated::is_written(alloc, fields),
+        "sizes" => large::is_answered(alloc, fields),
         _ => Ok(false),
     }
 }
@@ -73,50 +81,13 @@ fn count_prefixes(rt: &HostRuntime, tally: &mut Tally) -> Result<(), Memory> {
     })
 }
 
-/// Counts the texts with parts in one another, up to the limit and once more.
-fn count_depths(alloc: Global, tally: &mut Tally) -> Result<(), Memory> {
-    let table = "depths";
-    let over = "error 17 1028:1";
-    tally.count(
-        table,
-        b"512 switches",
-        large::has_switches(alloc, 512, "read")?,
-    )?;
-    tally.count(
-        table,
-        b"513 switches",
-        large::has_switches(alloc, 513, over)?,
-    )?;
-    let over = "error 17 2:525";
-    tally.count(table, b"512 braces", large::has_braces(alloc, 512, "read")?)?;
-    tally.count(table, b"513 braces", large::has_braces(alloc, 513, over)?)
-}
-
-/// Counts the texts with many parts.
-fn count_sizes(alloc: Global, tally: &mut Tally) -> Result<(), Memory> {
-    let table = "sizes";
-    let over = "error 17 8193:1";
-    tally.count(
-        table,
-        b"4,096 modules",
-        large::has_modules(alloc, 4096, "read")?,
-    )?;
-    tally.count(
-        table,
-        b"4,097 modules",
-        large::has_modules(alloc, 4097, over)?,
-    )?;
-    tally.count(table, b"5,000 patterns", large::has_patterns(alloc, 5000)?)?;
-    tally.count(table, b"67,108,864 spaces", large::has_spaces(alloc)?)
-}
-
 /// Counts all rows.
 fn tally_of(rt: &HostRuntime) -> Result<Tally, Memory> {
     let mut tally = Tally::make(rt.alloc());
     count_files(rt, &mut tally)?;
     count_prefixes(rt, &mut tally)?;
-    count_depths(rt.alloc(), &mut tally)?;
-    count_sizes(rt.alloc(), &mut tally)?;
+    let is_empty = large::has_spaces(rt.alloc())?;
+    tally.count("sizes", b"67,108,864 spaces", is_empty)?;
     Ok(tally)
 }
 

@@ -2,7 +2,6 @@
 use Rattle.std.proofs.Common.{Global, Vec, ◌≡◌, ℕ, suc, ◌+◌, ◌<◌, ◌≤◌, List, [], ◌∷◌, ◌++◌, length, map, Some, None, replicate, refl, sym, ap, ◌∙◌, subst, arith}
 use Rattle.std.specs.List.{AllByRecursion}
 use Rattle.rtl_bits.specs.Counts.{risen}
-use Rattle.crossbeam_deque.specs.Handles.{Pass}
 use Rattle.work_crew.specs.declared.seat.Seat.{Seat}
 use Rattle.work_crew.specs.declared.seat.Worked.{Worked}
 use Rattle.work_crew.specs.declared.setup.Room.{Room}

@@ -2,7 +2,6 @@
 use Rattle.std.proofs.Common.{Global, Vec, ◌≡◌, ◌⊎◌, inl, inr, ℕ, zero, suc, ◌+◌, ◌%◌, ◌<◌, ◌≤◌, List, [], ◌∷◌, ◌++◌, length, true, refl, sym, ap, ◌∙◌, subst, arith, append_assoc, length-append}
 use Rattle.std.proofs.Math.Nat.{mod-eq_of_lt}
 use Rattle.crossbeam_deque.specs.Handles.{view, IsPassOf, stealer_deque, worker_deque, worker_view, SameWorker}
-use Rattle.work_crew.specs.declared.deque.Hand.{Hand}
 use Rattle.work_crew.specs.declared.seat.Seat.{Seat}
 use Rattle.work_crew.specs.declared.seat.Worked.{Worked}
 use Rattle.work_crew.specs.Times.{times, once_below, every_in, every}

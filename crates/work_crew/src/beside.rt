@@ -8,7 +8,6 @@ use crate::deque::Thief;
 use crate::job::{Gate, Job};
 use crate::pairs::for_each_pair;
 use crate::seat::{Seat, work};
-use rtl_bits::Steps;
 use std::marker::{Send, Sync};
 use std::sync::Wait;
 use std::thread::Threads;

@@ -1,6 +1,6 @@
 //! What a crew needs, all of it made before a worker starts: jobs on deques, passes, workers, places for the outputs.
 
-ghost use Rattle.std.specs.Prelude.{◌≡◌, ℕ, ◌+◌, ◌<◌, ◌≤◌, [], length, replicate, vec_len, None, IfOk};
+ghost use Rattle.std.specs.Prelude.{◌≡◌, ◌+◌, ◌<◌, ◌≤◌, [], length, replicate, vec_len, None, IfOk};
 ghost use Rattle.std.specs.Vec.{vec_capacity};
 ghost use Rattle.work_crew.specs.Times.{every};
 ghost use Rattle.work_crew.specs.Settle.{AllFirst};

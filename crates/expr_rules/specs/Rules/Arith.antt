@@ -13,7 +13,8 @@ use Rattle.cell_types.specs.declared.word.WordKind.TheVariants.{Arith, Division}
 use Rattle.cell_word.specs.Values.{both_signed}
 use Rattle.expr_rules.specs.Change.{first_some, when}
 use Rattle.expr_rules.specs.Rules.Logic.{beside_zeros}
-use Rattle.expr_rules.specs.Signals.{filled, is_one, is_zero, same_word}
+use Rattle.rtl_ir.specs.Signals.{same_signal}
+use Rattle.expr_rules.specs.Signals.{filled, is_one, is_zero}
 use Rattle.expr_rules.specs.declared.change.Change.{Change}
 use Rattle.expr_rules.specs.declared.change.Change.TheVariants.{Gives}
 use Rattle.expr_rules.specs.declared.operands.Operands.{Operands}
@@ -26,7 +27,7 @@ add_zero kind o = None
 
 -- `$sub`, equal operands: gives 0
 abbrev pub equal_difference : WordKind → Shape → Operands → Option Change
-equal_difference (Arith Sub) shape o = when (same_word o.left o.right) (Gives (filled shape.widths.y S0))
+equal_difference (Arith Sub) shape o = when (same_signal o.left o.right) (Gives (filled shape.widths.y S0))
 equal_difference kind shape o = None
 
 -- the place of the one bit that is 1 in a word of constants, where all others are 0

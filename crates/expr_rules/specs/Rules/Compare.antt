@@ -13,7 +13,8 @@ use Rattle.cell_types.specs.declared.word.OrderKind.TheVariants.{Lt, Le, Ge, Gt}
 use Rattle.cell_types.specs.declared.word.WordKind.{WordKind}
 use Rattle.cell_types.specs.declared.word.WordKind.TheVariants.{Equal, Order}
 use Rattle.expr_rules.specs.Change.{first_some, inverter, when}
-use Rattle.expr_rules.specs.Signals.{is_bit, same_word}
+use Rattle.rtl_ir.specs.Signals.{same_signal}
+use Rattle.expr_rules.specs.Signals.{is_bit}
 use Rattle.expr_rules.specs.declared.change.Change.{Change}
 use Rattle.expr_rules.specs.declared.change.Change.TheVariants.{Gives}
 use Rattle.expr_rules.specs.declared.operands.Operands.{Operands}
@@ -50,7 +51,7 @@ one_bit_compare kind own shape o =
 -- `$eq $le $ge`, or `$ne $lt $gt`, equal operands: gives 1 or 0; `$eq`, `$ne` of one bit with a known constant
 abbrev pub compare : WordKind → CellKind → Shape → Operands → Option Change
 compare (Equal kind) own shape o =
-    if same_word o.left o.right then Some (Gives (Fixed (passing kind) ∷ []))
+    if same_signal o.left o.right then Some (Gives (Fixed (passing kind) ∷ []))
     else one_bit_compare kind own shape o
-compare (Order kind) own shape o = when (same_word o.left o.right) (Gives (Fixed (of_equals kind) ∷ []))
+compare (Order kind) own shape o = when (same_signal o.left o.right) (Gives (Fixed (of_equals kind) ∷ []))
 compare kind own shape o = None

@@ -11,7 +11,8 @@ use Rattle.cell_types.specs.declared.word.UnaryKind.TheVariants.{Not}
 use Rattle.cell_types.specs.declared.word.WordKind.{WordKind}
 use Rattle.cell_types.specs.declared.word.WordKind.TheVariants.{Unary, Bitwise}
 use Rattle.expr_rules.specs.Change.{first_some, inverter, when}
-use Rattle.expr_rules.specs.Signals.{filled, is_one, is_zero, same_word}
+use Rattle.rtl_ir.specs.Signals.{same_signal}
+use Rattle.expr_rules.specs.Signals.{filled, is_one, is_zero}
 use Rattle.expr_rules.specs.declared.change.Change.{Change}
 use Rattle.expr_rules.specs.declared.change.Change.TheVariants.{Gives}
 use Rattle.expr_rules.specs.declared.operands.Operands.{Operands}
@@ -37,14 +38,14 @@ or_with_zeros kind o = None
 
 -- `$and`, `$or`, equal operands: gives it
 abbrev pub equal_operands : WordKind → Operands → Option Change
-equal_operands (Bitwise And) o = when (same_word o.left o.right) (Gives o.left)
-equal_operands (Bitwise Or) o = when (same_word o.left o.right) (Gives o.left)
+equal_operands (Bitwise And) o = when (same_signal o.left o.right) (Gives o.left)
+equal_operands (Bitwise Or) o = when (same_signal o.left o.right) (Gives o.left)
 equal_operands kind o = None
 
 -- `$xor`, `$xnor`, equal operands: gives all 0, all 1
 abbrev pub equal_parity : WordKind → Shape → Operands → Option Change
-equal_parity (Bitwise Xor) shape o = when (same_word o.left o.right) (Gives (filled shape.widths.y S0))
-equal_parity (Bitwise Xnor) shape o = when (same_word o.left o.right) (Gives (filled shape.widths.y S1))
+equal_parity (Bitwise Xor) shape o = when (same_signal o.left o.right) (Gives (filled shape.widths.y S0))
+equal_parity (Bitwise Xnor) shape o = when (same_signal o.left o.right) (Gives (filled shape.widths.y S1))
 equal_parity kind shape o = None
 
 -- `$xor`, one operand all 1: becomes an inverter of the other

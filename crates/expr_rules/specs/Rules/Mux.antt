@@ -10,7 +10,8 @@ use Rattle.cell_types.specs.declared.shape.Shape.{Shape}
 use Rattle.cell_types.specs.declared.word.WordKind.{WordKind}
 use Rattle.cell_types.specs.declared.word.WordKind.TheVariants as Word
 use Rattle.expr_rules.specs.Change.{chooser, first_some, inverter, when}
-use Rattle.expr_rules.specs.Signals.{first_bit, is_bit, is_known_constant, is_one, is_unknown_constant, same_word}
+use Rattle.rtl_ir.specs.Signals.{same_signal}
+use Rattle.expr_rules.specs.Signals.{first_bit, is_bit, is_known_constant, is_one, is_unknown_constant}
 use Rattle.expr_rules.specs.declared.change.Change.{Change}
 use Rattle.expr_rules.specs.declared.change.Change.TheVariants.{Gives}
 use Rattle.expr_rules.specs.declared.operands.Operands.{Operands}
@@ -28,7 +29,7 @@ known_select kind o = None
 
 -- A equals B: gives A
 abbrev pub equal_arms : WordKind → Operands → Option Change
-equal_arms Word.Mux o = when (same_word o.a o.b) (Gives o.a)
+equal_arms Word.Mux o = when (same_signal o.a o.b) (Gives o.a)
 equal_arms kind o = None
 
 -- an arm all unknown constants, A before B: gives the other arm
@@ -65,5 +66,5 @@ known_selects kind shape o = None
 
 -- `$bwmux`, A equals B: gives A
 abbrev pub equal_words : WordKind → Operands → Option Change
-equal_words Word.Bwmux o = when (same_word o.a o.b) (Gives o.a)
+equal_words Word.Bwmux o = when (same_signal o.a o.b) (Gives o.a)
 equal_words kind o = None

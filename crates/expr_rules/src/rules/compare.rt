@@ -2,16 +2,16 @@
 
 ghost use Rattle.std.specs.Prelude.{◌≡◌, IfOk, ◌∷◌, []};
 ghost use Rattle.rtl_sig.specs.declared.sig.SigBit.TheVariants.{Fixed};
-ghost use Rattle.expr_rules.specs.Change.{when};
-ghost use Rattle.expr_rules.specs.Signals.{same_word};
+ghost use Rattle.rtl_ir.specs.Signals.{same_signal};
 ghost use Rattle.expr_rules.specs.Rules.Compare.{beside_bit, compare, of_equals, one_bit_compare, passing, turning};
 ghost use Rattle.expr_rules.specs.declared.change.Change.TheVariants.{Gives};
 
 use crate::change::{Change, inverter};
 use crate::operands::Operands;
-use crate::signals::{is_bit, same_word};
-use cell_types::{CellKind, EqualKind, OrderKind, Shape, WordKind};
+use crate::signals::is_bit;
+use cell_types::{EqualKind, OrderKind, Shape, WordKind};
 use rtl_bits::{Bit, Copied, Memory};
+use rtl_ir::same_signal;
 use rtl_sig::{SigBit, SigSpec};
 use std::alloc::Global;
 
@@ -103,13 +103,13 @@ pub(crate) fn compare(
 {
     match kind {
         WordKind::Equal(kind) => {
-            if same_word(o.left.as_slice(), o.right.as_slice()) {
+            if same_signal(o.left.as_slice(), o.right.as_slice()) {
                 Ok(Some(constant(alloc, passing(kind))?))
             } else {
                 one_bit_compare(alloc, kind, shape, o)
             }
         }
-        WordKind::Order(kind) if same_word(o.left.as_slice(), o.right.as_slice()) => {
+        WordKind::Order(kind) if same_signal(o.left.as_slice(), o.right.as_slice()) => {
             Ok(Some(constant(alloc, of_equals(kind))?))
         }
         _ => Ok(None),

@@ -3,7 +3,7 @@
 ghost use Rattle.std.specs.Prelude.{◌≡◌, IfOk, slice_index_or};
 ghost use Rattle.rtl_bits.specs.declared.bit.Bit.TheVariants.{X};
 ghost use Rattle.expr_rules.specs.Laws.{IsComputed};
-ghost use Rattle.expr_rules.specs.Rules.Constants.{constant_inputs, constant_value, known_value, value_by};
+ghost use Rattle.expr_rules.specs.Rules.Constants.{constant_inputs, constant_value, known_value};
 
 use crate::change::Change;
 use crate::operands::Operands;

@@ -2,16 +2,18 @@
 
 ghost use Rattle.std.specs.Prelude.{◌≡◌, IfOk};
 ghost use Rattle.expr_rules.specs.Change.{when};
-ghost use Rattle.expr_rules.specs.Signals.{filled, same_word};
+ghost use Rattle.rtl_ir.specs.Signals.{same_signal};
+ghost use Rattle.expr_rules.specs.Signals.{filled};
 ghost use Rattle.expr_rules.specs.declared.change.Change.TheVariants.{Gives};
 ghost use Rattle.expr_rules.specs.Rules.Logic.{and_with_ones, beside_ones, beside_zeros, double_not, equal_operands};
 ghost use Rattle.expr_rules.specs.Rules.Logic.{equal_parity, or_with_zeros, xor_with_ones};
 
 use crate::change::{Change, gives, inverter};
 use crate::operands::Operands;
-use crate::signals::{are_one, are_zero, filled, same_word};
+use crate::signals::{are_one, are_zero, filled};
 use cell_types::{BitwiseKind, CellKind, Shape, UnaryKind, WordKind};
 use rtl_bits::{Bit, Copied, Memory};
+use rtl_ir::same_signal;
 use rtl_sig::SigSpec;
 use std::alloc::Global;
 
@@ -75,9 +77,9 @@ pub(crate) fn equal_operands(kind: WordKind, o: &Operands) -> Result<Option<Chan
 
 /// The left operand where it equals the right one.
 fn left_if_equal(o: &Operands) -> Result<Option<Change>, Memory>
-    ensures value { IfOk result (λ change. change ≡ when (same_word o.now.left o.now.right) (Gives o.now.left)) }
+    ensures value { IfOk result (λ change. change ≡ when (same_signal o.now.left o.now.right) (Gives o.now.left)) }
 {
-    if same_word(o.left.as_slice(), o.right.as_slice()) {
+    if same_signal(o.left.as_slice(), o.right.as_slice()) {
         Ok(Some(Change::Gives(o.left.copy()?)))
     } else {
         Ok(None)
@@ -108,9 +110,9 @@ pub(crate) fn constant_if_equal(
     o: &Operands,
 ) -> Result<Option<Change>, Memory>
     ensures value { IfOk result (λ change.
-        change ≡ when (same_word o.now.left o.now.right) (Gives (filled shape.now.widths.y bit))) }
+        change ≡ when (same_signal o.now.left o.now.right) (Gives (filled shape.now.widths.y bit))) }
 {
-    if same_word(o.left.as_slice(), o.right.as_slice()) {
+    if same_signal(o.left.as_slice(), o.right.as_slice()) {
         Ok(Some(Change::Gives(filled(alloc, shape.widths.y as usize, bit)?)))
     } else {
         Ok(None)

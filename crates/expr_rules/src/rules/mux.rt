@@ -7,9 +7,10 @@ ghost use Rattle.expr_rules.specs.Rules.Mux.{known_selects, select_inverse, sele
 
 use crate::change::{Change, chooser, inverter};
 use crate::operands::Operands;
-use crate::signals::{are_known, are_unknown, bit_at, first_bit, is_bit, is_one, same_word};
+use crate::signals::{are_known, are_unknown, bit_at, first_bit, is_bit, is_one};
 use cell_types::{CellKind, Shape, WordKind};
 use rtl_bits::{Bit, Copied, Memory};
+use rtl_ir::same_signal;
 use rtl_sig::{SigBit, SigSpec};
 use std::alloc::Global;
 
@@ -39,7 +40,7 @@ pub(crate) fn equal_arms(kind: WordKind, o: &Operands) -> Result<Option<Change>,
     ensures value { IfOk result (λ change. change ≡ equal_arms kind o.now) }
 {
     match kind {
-        WordKind::Mux if same_word(o.a.as_slice(), o.b.as_slice()) => {
+        WordKind::Mux if same_signal(o.a.as_slice(), o.b.as_slice()) => {
             Ok(Some(Change::Gives(o.a.copy()?)))
         }
         _ => Ok(None),
@@ -149,7 +150,7 @@ pub(crate) fn equal_words(kind: WordKind, o: &Operands) -> Result<Option<Change>
     ensures value { IfOk result (λ change. change ≡ equal_words kind o.now) }
 {
     match kind {
-        WordKind::Bwmux if same_word(o.a.as_slice(), o.b.as_slice()) => {
+        WordKind::Bwmux if same_signal(o.a.as_slice(), o.b.as_slice()) => {
             Ok(Some(Change::Gives(o.a.copy()?)))
         }
         _ => Ok(None),

@@ -3,6 +3,9 @@ use Rattle.rtl_ir.specs.Types.{table_ports}
 use Rattle.opt_rounds.proofs.Rounding.{one_round, round_same}
 use Rattle.opt_rounds.proofs.round.Goals as goal
 
+pub merged-requires : goal.merged-requires
+merged-requires c = record { ready = c.in_ok-folded.ensures.pass.ready c.requires.ready }
+
 pub returns-clause-exact : goal.returns-clause-exact
 returns-clause-exact c =
     one_round (table_ports c.args.ports.now.modules) c.args.module c.in_ok-folded.folded.after c.in_ok-merged.merged.after c.in_ok-cleaned.cleaned.after c.in_ok-folded.ensures.exact c.in_ok-merged.ensures.exact c.in_ok-cleaned.ensures.exact

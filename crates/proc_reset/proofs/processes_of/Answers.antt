@@ -1,4 +1,4 @@
-use Rattle.std.proofs.Common.{◌≡◌, [], IfOk, ◌∙◌, ap, subst}
+use Rattle.std.proofs.Common.{◌≡◌, [], IfOk, ◌∙◌, subst}
 use Rattle.rtl_ir.specs.Signals.{wire_bits}
 use Rattle.rtl_ir.specs.Types.{table_ports}
 use Rattle.net_model.specs.Proc.Reset.{resets_step}

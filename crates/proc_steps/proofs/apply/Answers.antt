@@ -1,4 +1,4 @@
-use Rattle.std.proofs.Common.{◌≡◌, Err, Ok, IfOk, OnOk, rules, sym, ◌∙◌}
+use Rattle.std.proofs.Common.{◌≡◌, Err, rules}
 use Rattle.net_index.specs.declared.builder_fault.PassFault.TheVariants as faults
 use Rattle.rtl_ir.specs.Scope.{with_processes}
 use Rattle.rtl_ir.specs.Types.{table_ports}

@@ -13,7 +13,6 @@ use Rattle.cell_types.specs.declared.pin_name.PinName.TheVariants.{Addr, Data, E
 use Rattle.cell_types.specs.Given.{number_in}
 use Rattle.cell_types.specs.PinName.{pin_text}
 use Rattle.cell_types.specs.Shape.{is_set}
-use Rattle.rtl_sig.specs.declared.sig.SigBit.TheVariants as sig
 use Rattle.rtl_ir.specs.declared.cell.Cell.{Cell}
 use Rattle.rtl_ir.specs.declared.module.Link.{Link}
 use Rattle.rtl_ir.specs.declared.module.Module.{Module}

@@ -1,5 +1,5 @@
 -- Modules that instantiate themselves.
-use Rattle.std.specs.Prelude.{ℕ, zero, suc, ◌==◌, Bool, true, false, ◌||◌, List, length, map, slice_get, slice_index_or, [], flat_map, filter_map, position, Option, Some, None, option_map, unwrap_or, if◌then◌else◌}
+use Rattle.std.specs.Prelude.{ℕ, zero, suc, ◌==◌, Bool, false, ◌||◌, List, length, map, slice_get, slice_index_or, [], flat_map, filter_map, position, Option, None, option_map, unwrap_or, if◌then◌else◌}
 use Rattle.std.specs.List.{list_any, range_with_len}
 use Rattle.std.specs.Str.{bytes_eq}
 use Rattle.rtl_ir.specs.declared.cell.Cell.{Cell}

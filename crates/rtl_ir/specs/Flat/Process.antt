@@ -81,6 +81,18 @@ level_trigger (High signal) = Some (record { signal = signal; level = At.High })
 level_trigger (Low signal) = Some (record { signal = signal; level = At.Low })
 level_trigger event = None
 
+-- two rules that act in one process: at this edge the clocked one, and at this level the one that loads; or any other two, which
+-- drive bits only where both have an edge, and of which the one that is tested is the reset
+pub data RulePair : Type 0 where
+  EdgeAndLevel : Trigger → SyncRule → Trigger → SyncRule → RulePair
+  OtherPair : SyncRule → SyncRule → RulePair
+
+-- two rules by the edges and the levels that they have, those of the first rule and of the second
+abbrev pub pair_by : SyncRule → SyncRule → Option Trigger → Option Trigger → Option Trigger → Option Trigger → RulePair
+pair_by a b (Some edge) other level (Some load) = EdgeAndLevel edge a load b
+pair_by a b other (Some edge) (Some load) level = EdgeAndLevel edge b load a
+pair_by a b edge edge' level level' = OtherPair a b
+
 -- whether a value may come to the bit itself
 abbrev pub may_hold : CaseView → List WireBit → Join → Bool
 may_hold root bits j = list_any (is_bit j.bit) (leaves_of (expanded root bits j.source))
@@ -170,19 +182,17 @@ module _ (start : SigBit → Bit) (p : Path) (wires : List Wire) where
   one_rule_rows root bits updates (Edge signal) = []
   one_rule_rows root bits updates Init = []
 
-  -- two rules, by the edges and levels that they are
-  abbrev pub two_rules_rows : Module → CaseView → List WireBit → SyncRule → SyncRule → Option Trigger → Option Trigger → Option Trigger → Option Trigger → List Driven
-  two_rules_rows m root bits a b (Some e) edge level (Some l) = loaded_rows e (all_joins a.updates) l (all_joins b.updates)
-  two_rules_rows m root bits a b edge (Some e) (Some l) level = loaded_rows e (all_joins b.updates) l (all_joins a.updates)
-  two_rules_rows m root bits a b edge edge' level level' =
-      raced_rows m root bits (all_joins a.updates) (edge_bit a.event) (edge_bit b.event)
+  -- two rules
+  abbrev pub two_rules_rows : Module → CaseView → List WireBit → RulePair → List Driven
+  two_rules_rows m root bits (EdgeAndLevel edge clocked level loading) = loaded_rows edge (all_joins clocked.updates) level (all_joins loading.updates)
+  two_rules_rows m root bits (OtherPair a b) = raced_rows m root bits (all_joins a.updates) (edge_bit a.event) (edge_bit b.event)
 
   -- the rules that act: one, or two
   abbrev pub rules_rows : Module → CaseView → List WireBit → List SyncRule → List Driven
   rules_rows m root bits [] = []
   rules_rows m root bits (a ∷ []) = one_rule_rows root bits (all_joins a.updates) a.event
   rules_rows m root bits (a ∷ b ∷ []) =
-      two_rules_rows m root bits a b (edge_trigger a.event) (edge_trigger b.event) (level_trigger a.event) (level_trigger b.event)
+      two_rules_rows m root bits (pair_by a b (edge_trigger a.event) (edge_trigger b.event) (level_trigger a.event) (level_trigger b.event))
   rules_rows m root bits (a ∷ b ∷ c ∷ rules) = []
 
   -- a process, with its switches read by the rules

@@ -1,6 +1,6 @@
 //! Attributes, which wait for the item that they stand before.
 
-ghost use Rattle.std.specs.Prelude.{◌≡◌, Ok};
+ghost use Rattle.std.specs.Prelude.{Ok};
 ghost use Rattle.rtl_lex.specs.Items.{as_seen};
 ghost use Rattle.rtl_read.specs.Gives.{Sets};
 ghost use Rattle.rtl_read.specs.Act.Attribute.{act_attribute_name, act_attribute_value};

@@ -1,6 +1,6 @@
 //! Cells: a type, a name, and lines up to `end`.
 
-ghost use Rattle.std.specs.Prelude.{◌≡◌, Ok, OnOk};
+ghost use Rattle.std.specs.Prelude.{Ok};
 ghost use Rattle.rtl_lex.specs.Items.{as_seen};
 ghost use Rattle.rtl_read.specs.Gives.{Sets};
 ghost use Rattle.rtl_read.specs.Act.Cell.{

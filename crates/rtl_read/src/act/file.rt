@@ -1,6 +1,5 @@
 //! Files: an optional `autoidx`, whose number is dropped, then modules.
 
-ghost use Rattle.std.specs.Prelude.{◌≡◌};
 ghost use Rattle.rtl_lex.specs.Items.{as_seen};
 ghost use Rattle.rtl_read.specs.Gives.{Sets};
 ghost use Rattle.rtl_read.specs.Act.File.{act_autoidx_number, act_modules};

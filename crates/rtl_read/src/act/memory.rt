@@ -1,6 +1,5 @@
 //! Memories: options, and then a name.
 
-ghost use Rattle.std.specs.Prelude.{◌≡◌};
 ghost use Rattle.rtl_lex.specs.Items.{as_seen};
 ghost use Rattle.rtl_read.specs.Gives.{Sets};
 ghost use Rattle.rtl_read.specs.Act.Memory.{act_memory_option, act_memory_width, act_memory_size, act_memory_offset};

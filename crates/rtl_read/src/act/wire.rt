@@ -1,6 +1,5 @@
 //! Wires: options, and then a name.
 
-ghost use Rattle.std.specs.Prelude.{◌≡◌};
 ghost use Rattle.rtl_lex.specs.Items.{as_seen};
 ghost use Rattle.rtl_read.specs.Gives.{Sets};
 ghost use Rattle.rtl_read.specs.Act.Wire.{act_wire_option, act_wire_width, act_wire_offset, act_port_number};

@@ -14,11 +14,10 @@ use Rattle.desk_core.specs.Netlist.{done_modules}
 use Rattle.desk_core.specs.Results.{outcomes_of}
 use Rattle.desk_core.specs.Shaped.{IsShaped}
 use Rattle.desk_core.proofs.Outcomes.{lent_plain}
-use Rattle.desk_core.proofs.Showing.{told_same}
 use Rattle.desk_core.proofs.simulate.traced.Goals as goal
 
-pub titled_trace-requires : goal.titled_trace-requires
-titled_trace-requires c =
+pub put_titled_trace-requires : goal.put_titled_trace-requires
+put_titled_trace-requires c =
     let all = done_modules (outcomes_of c.args.design.now.design.modules c.args.results.now.found.items) in
     let source = c.as_slice-modules.ensures.value ∙ ap (λ (d : Design). d.modules) c.design.ensures.value in
     let lent = c.in_ok-netlist.netlist.items in
@@ -26,8 +25,8 @@ titled_trace-requires c =
     c.in_ok-netlist.ensures.value
     ∙ ap (λ (ms : List Module). done_modules (outcomes_of ms c.as_slice.result.now)) source
     ∙ ap (λ (fs : List (Option Built)). done_modules (outcomes_of c.args.design.now.design.modules fs)) c.as_slice.ensures.value in
-    let same = c.as_slice-2.ensures.value in
-    let count : length all ≡ length c.as_slice-2.result.now = ap length (sym made) ∙ length-map lent titled_module ∙ ap length (sym same) in
+    let same = c.as_slice-3.ensures.value in
+    let count : length all ≡ length c.as_slice-3.result.now = ap length (sym made) ∙ length-map lent titled_module ∙ ap length (sym same) in
     let shaped : Each IsShaped (map titled_module lent) = subst (Each IsShaped) (sym made) c.requires.gates in
     record {
       in_range = subst (λ (n : ℕ). c.args.at < n) count c.requires.in_range;
@@ -42,17 +41,17 @@ returns c = record {
       let steps = c.args.stimulus.now in
       let all : Design = record { modules = done_modules (outcomes_of c.args.design.now.design.modules c.args.results.now.found.items) } in
       let source = c.as_slice-modules.ensures.value ∙ ap (λ (d : Design). d.modules) c.design.ensures.value in
-      let made : (titled_design c.as_slice-2.result.now).modules ≡ all.modules =
-      ap (λ (ts : List Titled). (titled_design ts).modules) c.as_slice-2.ensures.value
+      let made : (titled_design c.as_slice-3.result.now).modules ≡ all.modules =
+      ap (λ (ts : List Titled). (titled_design ts).modules) c.as_slice-3.ensures.value
       ∙ c.in_ok-netlist.ensures.value
       ∙ ap (λ (ms : List Module). done_modules (outcomes_of ms c.as_slice.result.now)) source
       ∙ ap (λ (fs : List (Option Built)). done_modules (outcomes_of c.args.design.now.design.modules fs)) c.as_slice.ensures.value in
-      let netlist : titled_design c.as_slice-2.result.now ≡ all = ap (λ (ms : List Module). record { modules = ms }) made in
-      let trace : c.in_ok-trace.trace ≡ trace_text all m steps =
-      c.in_ok-trace.ensures.value m (ap (λ (d : Design). slice_get d.modules c.args.at) netlist ∙ there) ∙ ap (λ (d : Design). trace_text d m steps) netlist in
-      let words : c.as_slice-3.result.now ≡ c.args.words ++ counted (codes "steps") (length steps) = c.as_slice-3.ensures.value ∙ c.in_ok-put_counted.ensures.ok in
-      let same : ok_reply (ok_line c.as_slice-3.result.now ++ c.as_slice-4.result.now) ≡ ok_reply (ok_line (c.args.words ++ counted (codes "steps") (length steps)) ++ trace_text all m steps) =
-      ap (λ (w : List ℕ). ok_reply (ok_line w ++ c.as_slice-4.result.now)) words
-      ∙ ap (λ (t : List ℕ). ok_reply (ok_line (c.args.words ++ counted (codes "steps") (length steps)) ++ t)) (c.as_slice-4.ensures.value ∙ trace) in
-      told_same c.text_reply.result _ _ same c.text_reply.ensures.value;
+      let netlist : titled_design c.as_slice-3.result.now ≡ all = ap (λ (ms : List Module). record { modules = ms }) made in
+      let words : c.as_slice-2.result.now ≡ c.args.words ++ counted (codes "steps") (length steps) = c.as_slice-2.ensures.value ∙ c.in_ok-put_counted.ensures.ok in
+      let line : c.in_ok-text.text ≡ ok_line (c.args.words ++ counted (codes "steps") (length steps)) = c.in_ok-text.ensures.value ∙ ap ok_line words in
+      c.ok_reply.ensures.value
+      ∙ ap ok_reply
+      (c.in_ok-put_titled_trace.ensures.ok m (ap (λ (d : Design). slice_get d.modules c.args.at) netlist ∙ there)
+      ∙ ap (λ (d : Design). c.in_ok-text.text ++ trace_text d m steps) netlist
+      ∙ ap (λ (t : List ℕ). t ++ trace_text all m steps) line);
 }

@@ -1,4 +1,4 @@
-use Rattle.std.proofs.Common.{◌≡◌, ◌+◌, Bool, true, false, not, List, [], ◌∷◌, ◌++◌, ◌∙◌, drop, map, ap, sym, Vec, Global}
+use Rattle.std.proofs.Common.{◌≡◌, ◌+◌, Bool, true, false, not, [], ◌++◌, ◌∙◌, drop, ap, sym, Vec, Global}
 use Rattle.std.specs.Prelude.{filter}
 use Rattle.std.specs.Option.{is_some}
 use Rattle.std.proofs.Math.ListN.{drop_of_length-le}

@@ -14,4 +14,4 @@ returns-in_err-mux-clause-over c e =
     mux_over c.args.matched c.args.runs.now c.loop-count.count-index _ (drop-cons c.args.runs.now c.loop-count.count-index 0 c.loop-count-test.true) c.loop-count.acc.now c.loop-count.written.now c.loop-count.enable.now c.loop-count.builder c.loop-count.value _ c.loop-count.invariant.all
     c.in_ok-select.select c.run_select.new.builder
     (c.in_ok-select.ensures.exact ∙ ap (λ s. run_select c.args.matched s c.loop-count.builder) c.low_bit.ensures.value)
-    (subst₂ (λ a b. PassesLimit (mux_of_signals a b c.in_ok-select.select c.run_select.new.builder).1) c.cut.ensures.low c.cut-in-loop-count.ensures.low (search (rules, c.mux_of_signals.ensures.over, e, c.from_residual-in_err-mux.ensures)))
+    (subst₂ (λ a b. PassesLimit (mux_of_signals a b c.in_ok-select.select c.run_select.new.builder).1) c.cut.ensures.low c.cut-in-loop-count.ensures.low (search (rules, c.mux_cell.ensures.over, e, c.from_residual-in_err-mux.ensures)))

@@ -2,7 +2,8 @@
 use Rattle.std.proofs.Common.{◌≡◌, ◌++◌, List, [], drop, map}
 use Rattle.rtl_ir.specs.declared.wire.Wire.{Wire}
 use Rattle.rtl_ir.specs.Flat.Start.{start_of}
-use Rattle.opt_merge.specs.Rows.{bits_numbers, inits_of}
+use Rattle.rtl_ir.specs.Starts.{inits_of}
+use Rattle.opt_merge.specs.Rows.{bits_numbers}
 use Rattle.opt_merge.specs.Traits.{bit_number}
 use Rattle.opt_merge.proofs.rows.push_start_bits.Given as goal
 

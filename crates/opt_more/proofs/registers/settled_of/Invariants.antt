@@ -9,7 +9,7 @@ use Rattle.rtl_ir.specs.Parameters.{signal_at}
 use Rattle.rtl_ir.specs.declared.cell.Cell.{Cell}
 use Rattle.rtl_ir.specs.declared.wire.Wire.{Wire}
 use Rattle.opt_more.specs.Dff.{enabled_of, settled_from, settled_of}
-use Rattle.opt_more.specs.Starts.{inits_of}
+use Rattle.rtl_ir.specs.Starts.{inits_of}
 use Rattle.opt_more.proofs.RegisterSteps.{values_then}
 use Rattle.opt_more.proofs.registers.settled_of.Given as goal
 

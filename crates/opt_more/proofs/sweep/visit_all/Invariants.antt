@@ -5,7 +5,7 @@ use Rattle.rtl_ir.specs.declared.wire.Wire.{Wire}
 use Rattle.net_alias.specs.Aliases.{IsAliases}
 use Rattle.net_index.specs.Types.{AreTypes}
 use Rattle.opt_more.specs.Sweep.{swept_by}
-use Rattle.opt_more.specs.Starts.{inits_of}
+use Rattle.rtl_ir.specs.Starts.{inits_of}
 use Rattle.opt_more.specs.Visits.{visit_by}
 use Rattle.opt_more.proofs.sweep.visit_all.Given as goal
 

@@ -1,4 +1,4 @@
-use Rattle.std.proofs.Common.{◌≡◌, ◌&&◌, ◌||◌, not, ◌∙◌, ap}
+use Rattle.std.proofs.Common.{◌&&◌, ◌||◌, not, ◌∙◌, ap}
 use Rattle.std.specs.List.{list_any}
 use Rattle.proc_reset.specs.Reads.{is_among}
 use Rattle.proc_reset.proofs.free.are_apart.Goals as goal

@@ -1,4 +1,3 @@
-use Rattle.std.proofs.Common.{◌≡◌}
 use Rattle.rtl_ir.specs.Decisions.{expanded}
 use Rattle.proc_reset.proofs.places.is_held.Goals as goal
 

@@ -1,4 +1,4 @@
-use Rattle.std.proofs.Common.{◌≡◌, ◌++◌, Some, option_map, sym, ◌∙◌, ap}
+use Rattle.std.proofs.Common.{◌++◌, Some, option_map, sym, ◌∙◌, ap}
 use Rattle.net_model.specs.Proc.Reset.{reset_by}
 use Rattle.process_trees.specs.Edge.{edge_as}
 use Rattle.proc_reset.proofs.Choosing.{answer_is}

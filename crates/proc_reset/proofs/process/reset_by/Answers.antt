@@ -1,4 +1,4 @@
-use Rattle.std.proofs.Common.{◌≡◌, ◌++◌, option_map, sym, ◌∙◌, ap}
+use Rattle.std.proofs.Common.{◌++◌, option_map, sym, ◌∙◌, ap}
 use Rattle.rtl_ir.specs.Faults.TwoEdges.{edge_bit}
 use Rattle.net_model.specs.Proc.Reset.{reset_by}
 use Rattle.process_trees.specs.Edge.{edge_as}

@@ -1,4 +1,4 @@
-use Rattle.std.proofs.Common.{◌≡◌, ◌++◌, refl, ◌∙◌, ap}
+use Rattle.std.proofs.Common.{◌++◌, ◌∙◌}
 use Rattle.rtl_ir.specs.Rules.{acting_rules}
 use Rattle.net_model.specs.Proc.Reset.{reset_process}
 use Rattle.proc_reset.proofs.Leveled.{last_process, next_process}

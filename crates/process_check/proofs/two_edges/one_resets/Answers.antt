@@ -8,7 +8,7 @@ use Rattle.process_check.proofs.two_edges.one_resets.Goals as goal
 pub returns-then-tested-other_tested : goal.returns-then-tested-other_tested
 returns-then-tested-other_tested c = record {
   value = λ ports are fit.
-      none_resets ports c.args.«module».now c.args.tree.now.root.now c.args.tree.now.bits.now (all_joins c.args.lines.now) (edge_as c.args.one) (edge_as c.args.other) c.in_ok-tested.tested
+      none_resets ports c.args.tree.now.«module».now c.args.tree.now.root.now c.args.tree.now.bits.now (all_joins c.args.lines.now) (edge_as c.args.one) (edge_as c.args.other) c.in_ok-tested.tested
       (c.in_ok-tested.ensures.value ports are fit) (both_same c.in_ok-tested.tested c.in_ok-other_tested.other_tested c.if-tested-other_tested.true ∙ c.in_ok-other_tested.ensures.value ports are fit);
 }
 
@@ -16,7 +16,7 @@ pub returns-then-tested : goal.returns-then-tested
 returns-then-tested c = record {
   value = IfOk-weaker c.resets_well.result _ _
       (λ well e ports are fit.
-      first_resets ports c.args.«module».now c.args.tree.now.root.now c.args.tree.now.bits.now (all_joins c.args.lines.now) (edge_as c.args.one) (edge_as c.args.other) well
+      first_resets ports c.args.tree.now.«module».now c.args.tree.now.root.now c.args.tree.now.bits.now (all_joins c.args.lines.now) (edge_as c.args.one) (edge_as c.args.other) well
       (sym c.if-tested.true ∙ c.in_ok-tested.ensures.value ports are fit) (other_false c.in_ok-tested.tested c.in_ok-other_tested.other_tested c.if-tested-other_tested.false c.if-tested.true ∙ c.in_ok-other_tested.ensures.value ports are fit)
       (e ports are fit))
       c.resets_well.ensures.value;
@@ -26,7 +26,7 @@ pub returns-else-tested : goal.returns-else-tested
 returns-else-tested c = record {
   value = IfOk-weaker c.resets_well-else-tested.result _ _
       (λ well e ports are fit.
-      second_resets ports c.args.«module».now c.args.tree.now.root.now c.args.tree.now.bits.now (all_joins c.args.lines.now) (edge_as c.args.one) (edge_as c.args.other) well
+      second_resets ports c.args.tree.now.«module».now c.args.tree.now.root.now c.args.tree.now.bits.now (all_joins c.args.lines.now) (edge_as c.args.one) (edge_as c.args.other) well
       (sym c.if-tested.false ∙ c.in_ok-tested.ensures.value ports are fit) (other_true c.in_ok-tested.tested c.in_ok-other_tested.other_tested c.if-tested-other_tested.false c.if-tested.false ∙ c.in_ok-other_tested.ensures.value ports are fit)
       (e ports are fit))
       c.resets_well-else-tested.ensures.value;

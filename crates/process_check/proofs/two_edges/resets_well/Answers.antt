@@ -9,6 +9,6 @@ pub returns : goal.returns
 returns c = record {
   value = IfOk-weaker c.are_settled.result _ _
       (λ well e ports are fit.
-      e ∙ resets_is ports c.args.«module».now c.args.tree.now.root.now _ c.args.tree.now.bits.now (all_joins c.args.lines.now) (edge_as c.args.reset) (c.in_ok-active.ensures.value ports are fit))
+      e ∙ resets_is ports c.args.tree.now.«module».now c.args.tree.now.root.now _ c.args.tree.now.bits.now (all_joins c.args.lines.now) (edge_as c.args.reset) (c.in_ok-active.ensures.value ports are fit))
       c.are_settled.ensures.value;
 }

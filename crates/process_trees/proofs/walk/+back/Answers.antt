@@ -1,9 +1,8 @@
-use Rattle.std.proofs.Common.{◌≡◌, ℕ, ◌+◌, ◌-◌, ◌<◌, ◌≤◌, ◌&&◌, ◌++◌, not, List, drop, length, false, true, refl, sym, ap, ◌∙◌, arith, rules, subst}
-use Rattle.rtl_sig.specs.declared.sig.WireBit.{WireBit}
+use Rattle.std.proofs.Common.{◌≡◌, ◌+◌, ◌-◌, ◌<◌, ◌≤◌, ◌++◌, drop, length, false, true, refl, sym, ap, ◌∙◌, arith, rules, subst}
 use Rattle.rtl_ir.specs.Tree.{cases_of, switches_of}
 use Rattle.process_trees.specs.declared.walk.Walk.{Walk}
 use Rattle.process_trees.specs.Reach.{reach_cases, reach_switch, reach_switches}
-use Rattle.process_trees.specs.Walk.{AreSet, Walked, is_among, unset_among, unset_at}
+use Rattle.process_trees.specs.Walk.{AreSet, Walked}
 use Rattle.process_trees.proofs.Backward.{case_walked_whole, switches_step}
 use Rattle.process_trees.proofs.Marking.{backs, by_all_is, marked_size, set_append, takes}
 use Rattle.process_trees.proofs.Switches.{case_walked, cases_end, default_walked, none_before}

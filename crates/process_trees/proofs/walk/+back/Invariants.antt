@@ -1,8 +1,7 @@
 -- What was walked so far.
-use Rattle.std.proofs.Common.{◌≡◌, ℕ, ◌&&◌, not, List, length, drop}
-use Rattle.rtl_sig.specs.declared.sig.WireBit.{WireBit}
-use Rattle.rtl_ir.specs.Tree.{cases_of, switches_of}
-use Rattle.process_trees.specs.Reach.{reach_cases, reach_switches}
+use Rattle.std.proofs.Common.{drop}
+use Rattle.rtl_ir.specs.Tree.{switches_of}
+use Rattle.process_trees.specs.Reach.{reach_switches}
 use Rattle.process_trees.specs.Walk.{AreSet, Walked}
 use Rattle.process_trees.proofs.Switches.{CasesWalked}
 use Rattle.process_trees.proofs.walk.+back.Given as goal

@@ -1,7 +1,5 @@
 use Rattle.std.proofs.Common.{◌∙◌, ◌&&◌, ap, not, sym}
-use Rattle.std.specs.Prelude.{IfOk}
 use Rattle.process_trees.specs.Walk.{is_among, unset_among, unset_at}
-use Rattle.process_trees.proofs.Marking.{among_set}
 use Rattle.process_trees.proofs.Results.{if_ok}
 use Rattle.process_trees.proofs.Switches.{among_filter}
 use Rattle.process_trees.proofs.walk.set_by_all.Goals as goal

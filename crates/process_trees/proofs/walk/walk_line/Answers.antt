@@ -1,4 +1,4 @@
-use Rattle.std.proofs.Common.{◌≡◌, ◌+◌, ◌-◌, ◌<◌, drop, length, min, arith, subst}
+use Rattle.std.proofs.Common.{◌≡◌, ◌+◌, ◌-◌, ◌<◌, drop, length, arith, subst}
 use Rattle.rtl_ir.specs.Assigns.{last_source}
 use Rattle.rtl_ir.specs.Follow.{joins}
 use Rattle.process_trees.specs.Reach.{given_last}

@@ -1,5 +1,4 @@
-use Rattle.std.proofs.Common.{map}
-use Rattle.flat_net.specs.Registers.{trigger_of}
+use Rattle.rtl_ir.specs.Triggers.{trigger_of}
 use Rattle.flat_net.proofs.Kept.{within-Keeps}
 use Rattle.flat_net.proofs.Moduling.{Adds-behind}
 use Rattle.flat_net.proofs.Triggering.{edge_points, edge_reads, edge_rows}

@@ -1,4 +1,4 @@
-use Rattle.std.proofs.Common.{◌∙◌, map, sym, subst, ap}
+use Rattle.std.proofs.Common.{◌∙◌, sym, subst, ap}
 use Rattle.std.specs.Prelude.{option_map, reverse, true, false}
 use Rattle.rtl_ir.specs.Flat.Process.{no_modules}
 use Rattle.process_trees.specs.Edge.{edge_as}

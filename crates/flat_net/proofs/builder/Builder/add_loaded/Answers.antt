@@ -1,9 +1,9 @@
-use Rattle.std.proofs.Common.{◌∙◌, map, ap, refl, subst}
+use Rattle.std.proofs.Common.{◌∙◌, map, refl, subst}
 use Rattle.rtl_ir.specs.Flat.Process.{level_row, loaded_row}
 use Rattle.rtl_ir.specs.Follow.{source_at}
 use Rattle.rtl_ir.specs.declared.follow.Join.{Join}
 use Rattle.flat_net.specs.Adds.{Adds}
-use Rattle.flat_net.specs.Registers.{trigger_of}
+use Rattle.rtl_ir.specs.Triggers.{trigger_of}
 use Rattle.flat_net.proofs.Adding.{Adds-numbers, Adds-then}
 use Rattle.flat_net.proofs.Kept.{within-Keeps}
 use Rattle.flat_net.proofs.Reading.{Extends-then}

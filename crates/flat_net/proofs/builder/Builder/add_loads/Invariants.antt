@@ -8,7 +8,7 @@ use Rattle.rtl_ir.specs.Follow.{source_at}
 use Rattle.rtl_ir.specs.declared.follow.Join.{Join}
 use Rattle.flat_net.specs.Known.{Extends}
 use Rattle.flat_net.specs.Registers.{IsControl}
-use Rattle.flat_net.specs.Rules.{AreSources}
+use Rattle.rtl_ir.specs.Sources.{AreSources}
 use Rattle.flat_net.specs.Starts.{IsStart}
 use Rattle.flat_net.proofs.Adding.{Leads}
 use Rattle.flat_net.proofs.builder.Builder.add_loads.Given as goal

@@ -1,11 +1,11 @@
-use Rattle.std.proofs.Common.{◌∙◌, map, ap, sym, subst}
+use Rattle.std.proofs.Common.{◌∙◌, ap, sym, subst}
 use Rattle.std.specs.Prelude.{reverse}
 use Rattle.rtl_ir.specs.Flat.Process.{loaded_rows, raced_rows}
 use Rattle.rtl_ir.specs.Faults.TwoEdges.{edge_bit}
 use Rattle.rtl_ir.specs.Follow.{all_joins}
 use Rattle.flat_net.specs.declared.rules.Paired.TheVariants.{First, Second, Edges}
 use Rattle.flat_net.specs.Adds.{Adds}
-use Rattle.flat_net.specs.Registers.{trigger_of}
+use Rattle.rtl_ir.specs.Triggers.{trigger_of}
 use Rattle.flat_net.proofs.Pairing.{as_paired}
 use Rattle.flat_net.proofs.Results.{if_ok}
 use Rattle.flat_net.proofs.builder.Builder.add_pair.Goals as goal

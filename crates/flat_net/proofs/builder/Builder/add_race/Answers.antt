@@ -1,4 +1,4 @@
-use Rattle.std.proofs.Common.{map, refl}
+use Rattle.std.proofs.Common.{refl}
 use Rattle.rtl_ir.specs.EventTests.{switch_test}
 use Rattle.rtl_ir.specs.Flat.Process.{no_modules}
 use Rattle.process_trees.specs.Edge.{edge_as}

@@ -1,4 +1,4 @@
-use Rattle.std.proofs.Common.{[], map, subst, sym}
+use Rattle.std.proofs.Common.{[], subst, sym}
 use Rattle.std.proofs.lemmas.List.{take_all}
 use Rattle.flat_net.specs.Sources.{AreHeldBits}
 use Rattle.flat_net.proofs.Kept.{within-Keeps}

@@ -1,5 +1,5 @@
 -- The bits so far are those of the places so far.
-use Rattle.std.proofs.Common.{◌≡◌, Some, map, slice_get, take}
+use Rattle.std.proofs.Common.{◌≡◌, Some, slice_get, take}
 use Rattle.rtl_bits.specs.declared.bit.Bit.{Bit}
 use Rattle.rtl_sig.specs.declared.sig.SigBit.{SigBit}
 use Rattle.rtl_ir.specs.Flat.Place.{Path}

@@ -1,4 +1,4 @@
-use Rattle.std.proofs.Common.{map, subst}
+use Rattle.std.proofs.Common.{subst}
 use Rattle.std.proofs.lemmas.List.{take_all}
 use Rattle.flat_net.specs.Starts.{Gains, starts_by}
 use Rattle.flat_net.proofs.Beginning.{gains_line, gains_none}

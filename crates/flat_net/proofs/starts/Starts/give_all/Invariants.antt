@@ -1,5 +1,5 @@
 -- The start values of the places so far came behind the others.
-use Rattle.std.proofs.Common.{List, map, take}
+use Rattle.std.proofs.Common.{List, take}
 use Rattle.rtl_sig.specs.declared.sig.WireBit.{WireBit}
 use Rattle.rtl_ir.specs.Tree.{CaseView}
 use Rattle.process_trees.specs.Rounds.{AreLeaves}

@@ -1,4 +1,4 @@
-use Rattle.std.proofs.Common.{◌≡◌, ℕ, ◌+◌, ◌-◌, ◌≤◌, length, sym, ◌∙◌, ap, arith, subst}
+use Rattle.std.proofs.Common.{◌≡◌, ◌+◌, ◌-◌, length, sym, ◌∙◌, arith, subst}
 use Rattle.process_trees.specs.Leaves.{rows_summaries}
 use Rattle.process_trees.specs.Rounds.{AreAfter, leaf_summary}
 use Rattle.process_trees.proofs.Equals.{equal_lists}

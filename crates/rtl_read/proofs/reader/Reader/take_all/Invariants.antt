@@ -1,4 +1,4 @@
-use Rattle.std.proofs.Common.{List, [], ◌∷◌}
+use Rattle.std.proofs.Common.{List}
 use Rattle.std.specs.Prelude.{IfSome}
 use Rattle.rtl_lex.specs.Place.{IsPlaceIn}
 use Rattle.rtl_lex.specs.Items.{Seen}

@@ -1,4 +1,4 @@
-use Rattle.std.proofs.Common.{◌≡◌, ◌<◌, length, sym, subst}
+use Rattle.std.proofs.Common.{◌<◌, length, sym, subst}
 use Rattle.std.proofs.lemmas.List.{length-map}
 use Rattle.flat_net.specs.Titled.{titled_design, titled_module}
 use Rattle.sim_eval.proofs.Kept.{at_in, module_at}

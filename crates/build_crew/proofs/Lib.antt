@@ -1,0 +1,9 @@
+pub mod Asking
+pub mod Counts
+pub mod Going
+pub mod Keeping
+pub mod Numbers
+pub mod Ending
+pub mod Seats
+pub mod Spent
+pub mod Crews

@@ -1,0 +1,4 @@
+pub mod Rises
+pub mod Calls
+pub mod Kept
+pub mod Leaves

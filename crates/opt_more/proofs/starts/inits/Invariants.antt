@@ -1,7 +1,0 @@
--- The start values so far and those of the wires that are left are all.
-use Rattle.std.proofs.Common.{◌≡◌, ◌++◌, drop}
-use Rattle.opt_more.specs.Starts.{inits_of}
-use Rattle.opt_more.proofs.starts.inits.Given as goal
-
-abbrev pub invariant-loop-wire : goal.invariant-loop-wire
-invariant-loop-wire l = l.inits.items ++ inits_of (drop l.wire-index l.wires) ≡ inits_of l.wires

@@ -1,9 +1,0 @@
--- The start values of bits, by the attributes of wires.
-use Rattle.std.specs.Prelude.{List, map, codes}
-use Rattle.rtl_bits.specs.declared.bit.Bit.{Bit}
-use Rattle.rtl_ir.specs.Attributes.{attribute_bits}
-use Rattle.rtl_ir.specs.declared.wire.Wire.{Wire}
-
--- the bits of the attribute `\init` of each wire, none where it has no such attribute
-abbrev pub inits_of : List Wire → List (List Bit)
-inits_of wires = map (λ (w : Wire). attribute_bits w.attributes (codes "\\init")) wires

@@ -1,0 +1,88 @@
+//! The names of the parts of one item.
+
+ghost use Rattle.std.specs.Prelude.{◌≡◌, [], ◌++◌, IfOk, OnOk, is_some};
+ghost use Rattle.std.specs.List.{position};
+ghost use Rattle.std.specs.Str.{bytes_eq};
+ghost use Rattle.rtl_sig.specs.Names.{next_number_of, number_of, with_name};
+
+use rtl_bits::{Memory, Text};
+use rtl_sig::Names;
+use std::alloc::Global;
+use std::marker::Model;
+
+/// How many names are compared one by one.
+const FEW: usize = 16;
+
+/// The names of the parts of one item, each once, in the order in which they came. The first of them are compared one by
+/// one, which is faster than a table while they are few; those after them are looked up in one.
+#[derive(Drop)]
+pub struct FewNames {
+    first: Vec<Text>,
+    others: Names,
+}
+
+impl Model for FewNames {
+    ghost use Rattle.std.specs.Prelude.{ℕ, List, ◌++◌};
+
+    ghost Value = { List (List ℕ) };
+
+    ghost view = { λ names. names.first.items ++ names.others };
+}
+
+impl FewNames {
+    /// No names. It takes no memory.
+    pub(crate) fn make(alloc: Global) -> FewNames
+        ensures value { result ≡ [] }
+    {
+        FewNames {
+            first: Vec::new(alloc),
+            others: Names::make(alloc),
+        }
+    }
+
+    /// Whether the name is one of these.
+    pub(crate) fn has(&self, name: &[u8]) -> bool
+        ensures value { result ≡ is_some (number_of self.now name.now) }
+    {
+        match place_of(self.first.as_slice(), name) {
+            Some(_at) => true,
+            None => self.others.find(name).is_some(),
+        }
+    }
+
+    /// The number of the name, which is put last where it is new.
+    pub(crate) fn intern(&mut self, alloc: Global, name: &[u8]) -> Result<usize, Memory>
+        ensures number { IfOk result (λ number. number ≡ next_number_of self.old name.now) }
+        ensures names { OnOk result (self.new ≡ with_name self.old name.now) }
+    {
+        if let Some(at) = place_of(self.first.as_slice(), name) {
+            return Ok(at);
+        }
+        let count = self.first.len();
+        if count < FEW && self.others.count() == 0 {
+            self.first.push(Text::from_slice(alloc, name)?)?;
+            return Ok(count);
+        }
+        let id = self.others.intern(name)?;
+        count.checked_add(id.index).ok_or(Memory)
+    }
+}
+
+/// The place of the name among these.
+fn place_of(names: &[Text], name: &[u8]) -> Option<usize>
+    ensures value { result ≡ position (bytes_eq name.now) names.now }
+{
+    for at in 0..names.len() {
+        if is_same(name, names[at].as_slice()) {
+            return Some(at);
+        }
+    }
+    None
+}
+
+/// Whether the two names are the same.
+fn is_same(one: &[u8], other: &[u8]) -> bool
+    ensures value { result ≡ bytes_eq one.now other.now }
+{
+    one == other
+}

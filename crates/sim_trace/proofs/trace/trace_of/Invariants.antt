@@ -1,7 +1,0 @@
-use Rattle.std.proofs.Common.{take}
-use Rattle.sim_trace.proofs.Tracing.{GoesOn}
-use Rattle.sim_trace.proofs.trace.trace_of.Given as goal
-
--- the simulation is after the steps so far, and their trace is written
-abbrev pub invariant-loop-inputs : goal.invariant-loop-inputs
-invariant-loop-inputs l = GoesOn l.fn.sim l.module.wires (take l.inputs-index l.stimulus) l.sim l.text
