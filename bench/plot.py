@@ -1,8 +1,9 @@
 #!/usr/bin/env python3
-"""Draws docs/time.svg from the tables of bench/README.md: user time beside the size of the text, for rtlsyn and Yosys.
+"""Draws docs/time.svg from the tables of bench/README.md: user time beside the size of the text, for rtlsyn and Yosys,
+and how much faster more workers are.
 
-A table is drawn where it has the columns Bytes, User time and "Yosys: user time". Tables under one heading make one
-picture.
+A table is drawn where it has the columns Bytes, User time and "Yosys: user time", or the columns Workers and Speed-up.
+Tables under one heading make one picture of each kind.
 
   bench/plot.py          writes docs/time.svg
   bench/plot.py --check  prints whether docs/time.svg is what would be written
@@ -13,7 +14,8 @@ import re
 import sys
 
 TOP = os.path.dirname(os.path.dirname(os.path.abspath(__file__)))
-COLUMNS = ['Bytes', 'User time', 'Yosys: user time']
+TIME = ['Bytes', 'User time', 'Yosys: user time']
+SPEED_UP = ['Workers', 'Speed-up']
 COLOURS = {'rtlsyn': '#0b6e4f', 'Yosys 0.23': '#b5502b'}
 WIDE, HIGH, LEFT, TOP_EDGE, RIGHT, LOW = 400, 320, 60, 40, 30, 45
 
@@ -23,8 +25,8 @@ def number(text):
     return float(re.match(r'[\d,.]+', text)[0].replace(',', ''))
 
 
-def rows_of(section):
-    """The rows of the section's tables that have all columns: bytes, time, Yosys' time."""
+def rows_of(section, columns):
+    """The numbers in these columns of the section's tables that have them all."""
     head = []
     for line in section.splitlines():
         fields = [field.strip() for field in line.strip('|').split(' | ')]
@@ -32,17 +34,18 @@ def rows_of(section):
             head = []
         elif not head:
             head = [field.strip('| ') for field in fields]
-        elif not line.startswith('|---') and set(COLUMNS) <= set(head):
-            yield [number(fields[head.index(name)].strip()) for name in COLUMNS]
+        elif not line.startswith('|---') and set(columns) <= set(head):
+            yield [number(fields[head.index(name)].strip()) for name in columns]
 
 
 def pictures():
-    """Each heading with tables that can be drawn, and its rows in order of size."""
+    """What draws each picture, its title, and its rows in order of size."""
     with open(f'{TOP}/bench/README.md', encoding='utf-8') as file:
         for section in re.split(r'(?m)^## ', file.read())[1:]:
-            rows = sorted(rows_of(section))
-            if rows:
-                yield section.splitlines()[0], rows
+            for draw, columns in (time_panel, TIME), (speed_up_panel, SPEED_UP):
+                rows = sorted(rows_of(section, columns))
+                if rows:
+                    yield draw, section.splitlines()[0], rows
 
 
 def scale(values):
@@ -61,8 +64,27 @@ def unit(power, words):
     return f'{10 ** (power % 3)} {["bytes", "KB", "MB", "GB"][power // 3]}'
 
 
-def panel(title, rows, left):
-    """One picture: axes with their powers of ten, and dots for each program."""
+def speed_up_panel(title, rows, left):
+    """A dot for each number of workers, and the line on which twice the workers are twice as fast."""
+    wide, high = WIDE - LEFT - RIGHT, HIGH - TOP_EDGE - LOW
+    most = math.ceil(max(max(row) for row in rows))
+    x_of = lambda workers: left + LEFT + workers / most * wide
+    y_of = lambda factor: TOP_EDGE + high - factor / most * high
+    yield f'<text x="{left + LEFT}" y="22" font-weight="bold">{title}: speed-up beside workers</text>'
+    for mark in sorted({0, 1, *range(0, most + 1, max(1, most // 8))}):
+        x, y = x_of(mark), y_of(mark)
+        yield f'<line x1="{x:.1f}" y1="{TOP_EDGE}" x2="{x:.1f}" y2="{TOP_EDGE + high}" stroke="#ddd"/>'
+        yield f'<text x="{x:.1f}" y="{TOP_EDGE + high + 18}" text-anchor="middle">{mark}</text>'
+        yield f'<line x1="{left + LEFT}" y1="{y:.1f}" x2="{left + LEFT + wide}" y2="{y:.1f}" stroke="#ddd"/>'
+        yield f'<text x="{left + LEFT - 6}" y="{y + 4:.1f}" text-anchor="end">{mark}</text>'
+    yield (f'<line x1="{x_of(0):.1f}" y1="{y_of(0):.1f}" x2="{x_of(most):.1f}" y2="{y_of(most):.1f}" '
+           'stroke="#999" stroke-dasharray="4"/>')
+    colour = COLOURS['rtlsyn']
+    yield from (f'<circle cx="{x_of(row[0]):.1f}" cy="{y_of(row[1]):.1f}" r="3.5" fill="{colour}"/>' for row in rows)
+
+
+def time_panel(title, rows, left):
+    """Axes with their powers of ten, and dots for each program."""
     x_low, x_high = scale([row[0] for row in rows])
     y_low, y_high = scale([time for row in rows for time in row[1:]])
     wide, high = WIDE - LEFT - RIGHT, HIGH - TOP_EDGE - LOW
@@ -85,7 +107,7 @@ def panel(title, rows, left):
 def drawing():
     found = list(pictures())
     wide = WIDE * len(found)
-    parts = [line for at, (title, rows) in enumerate(found) for line in panel(title, rows, WIDE * at)]
+    parts = [line for at, (draw, title, rows) in enumerate(found) for line in draw(title, rows, WIDE * at)]
     for at, (name, colour) in enumerate(COLOURS.items()):
         x = WIDE - 190 + 70 * at
         parts += [f'<circle cx="{x}" cy="18" r="3.5" fill="{colour}"/>', f'<text x="{x + 8}" y="22">{name}</text>']
