@@ -4,7 +4,6 @@
 mod calls;
 mod designs;
 mod devices;
-mod keys;
 mod outside;
 mod pieces;
 mod scripts;
@@ -16,9 +15,8 @@ use std::process::ExitCode;
 use table_rows::{LINES, TEXTS, Tally, report};
 
 /// The files whose fields are texts.
-const FILES: [&str; 10] = [
-    "texts", "designs", "widths", "calls", "counts", "accepted", "keys", "scripts", "sessions",
-    "words",
+const FILES: [&str; 9] = [
+    "texts", "designs", "widths", "calls", "counts", "accepted", "scripts", "sessions", "words",
 ];
 
 /// Whether a row of the file of this name holds.
@@ -27,7 +25,6 @@ fn holds(alloc: Global, file: &str, fields: &[&[u8]]) -> Result<bool, Memory> {
         "texts" | "designs" | "widths" | "calls" => calls::is_answered(alloc, fields),
         "counts" => calls::has_lines(alloc, fields),
         "accepted" => designs::is_accepted(alloc, fields),
-        "keys" => keys::are_alike(alloc, fields),
         "scripts" => scripts::is_read(alloc, fields),
         "sessions" => sessions::is_answered(alloc, fields),
         "words" => sessions::is_taken(alloc, fields),
