@@ -3,7 +3,6 @@ pub mod State
 pub mod Codes
 pub mod Netlist
 pub mod Answers
-pub mod Summary
 pub mod Step
 pub mod Builds
 pub mod Results

@@ -6,12 +6,8 @@ use rtl_bits::{Memory, Steps, Text};
 use script_core::default_script;
 use std::alloc::Global;
 use std::io;
-use std::marker::Sync;
 use std::process::ExitCode;
-use std::sync::Wait;
-use std::thread::Threads;
 use synth_io::{Source, StdSink, StdSource, read_input, write_reply};
-use work_crew::NoGate;
 
 /// The name of the counter of builds.
 struct Builds;
@@ -39,24 +35,22 @@ impl Session {
     }
 
     /// Answers a command, where there is one.
-    fn answer<R: Threads + Wait + Sync>(
+    fn answer(
         &mut self,
-        rt: &R,
         command: Option<Command>,
         meter: &mut Steps<Builds>,
     ) -> Result<(), Memory> {
         let Some(command) = command else {
             return Ok(());
         };
-        let reply = self.desk.command(rt, &command, &NoGate, meter)?;
+        let reply = self.desk.command(&command, meter)?;
         self.ended = reply.last;
         self.replies.extend(reply.text.as_slice())
     }
 
     /// Answers the commands of lines, each of which ends in LF.
-    fn answer_lines<R: Threads + Wait + Sync>(
+    fn answer_lines(
         &mut self,
-        rt: &R,
         alloc: Global,
         lines: &[u8],
         meter: &mut Steps<Builds>,
@@ -67,15 +61,14 @@ impl Session {
                 return Ok(());
             }
             let command = reader.feed(line)?;
-            self.answer(rt, command, meter)?;
+            self.answer(command, meter)?;
         }
-        self.answer(rt, reader.finish(), meter)
+        self.answer(reader.finish(), meter)
     }
 }
 
 /// The replies to the commands of an input.
-fn replies<R: Threads + Wait + Sync, S: Source>(
-    rt: &R,
+fn replies<S: Source>(
     alloc: Global,
     source: &mut S,
     meter: &mut Steps<Builds>,
@@ -84,18 +77,13 @@ fn replies<R: Threads + Wait + Sync, S: Source>(
         return Err(Memory);
     };
     let mut session = Session::make(alloc)?;
-    session.answer_lines(rt, alloc, input.as_slice(), meter)?;
+    session.answer_lines(alloc, input.as_slice(), meter)?;
     Ok(session.replies)
 }
 
 fn main(rt: HostRuntime) -> ExitCode {
     let mut meter = Steps::make(&Builds);
-    let answered = replies(
-        &rt,
-        rt.alloc(),
-        &mut StdSource::make(rt.reader()),
-        &mut meter,
-    );
+    let answered = replies(rt.alloc(), &mut StdSource::make(rt.reader()), &mut meter);
     meter.end(&Builds);
     let Ok(text) = answered else {
         return ExitCode::FAILURE;

@@ -13,6 +13,5 @@ pub mod Synthesising
 pub mod Valuing
 pub mod Numbers
 pub mod Reading
-pub mod Generating
 pub mod Ending
 pub mod Only

@@ -158,4 +158,4 @@ pub same_reply : (mode : Mode) (script : List Word) (input : List ℕ) (said oth
 same_reply Synth script input said other f g = same_input (is_long input) script input said other f g
 same_reply Session script input said other (ts, f, is) (us, g, is') =
     is ∙ ap (session_said (is_overlong input)) (same_turns (first_state script) ts us f.steps g.steps (f.commands ∙ sym g.commands)) ∙ sym is'
-same_reply (Generate count) script input said other f g = f ∙ sym g
+same_reply (Generate count) script input said other f g = absurd f

@@ -20,7 +20,6 @@ use Rattle.synth_run.specs.declared.words.Mode.TheVariants.{Synth, Session, Gene
 use Rattle.synth_run.specs.declared.session.Stop.{Stop}
 use Rattle.synth_run.specs.declared.session.Stop.TheVariants as halts
 use Rattle.synth_run.specs.Builds.{CountsTurns, HasCounted}
-use Rattle.synth_run.specs.Generated.{generated_said}
 use Rattle.synth_run.specs.Replies.{AnswersTaken, HasAnswered, HasBegun, IsPrintedSession, IsReadThrough, IsReply}
 use Rattle.synth_run.specs.Said.{Said, said_of, too_long}
 use Rattle.synth_run.specs.Session.{AreTurns, IsSession, Turn, commands_in, input_commands, is_long, is_overlong, session_said, state_after, text_in}
@@ -48,26 +47,20 @@ session_turns script input is =
     let found = some_turns (input_commands input) (first_state script) (first_good script is) in
     (found.0, record { steps = found.1; commands = found.2 })
 
-pub some_reply : (mode : Mode) (script : List Word) (input : List ℕ) → IsScript script → (said : Said) × IsReply mode script input said
-some_reply Synth script input is = synth_said script input
-some_reply Session script input is =
+pub some_reply : (mode : Mode) (script : List Word) (input : List ℕ) → IsScript script → (mode ≡ Synth) ⊎ (mode ≡ Session) → (said : Said) × IsReply mode script input said
+some_reply Synth script input is mode = synth_said script input
+some_reply Session script input is mode =
     let found = session_turns script input is in
     (session_said (is_overlong input) found.0, (found.0, found.1, refl))
-some_reply (Generate count) script input is = (generated_said script count, refl)
+some_reply (Generate count) script input is (inl mode) = absurd cc
+some_reply (Generate count) script input is (inr mode) = absurd cc
 
 -- nothing is a front of the reply
-front_of : (mode : Mode) (script : List Word) (input : List ℕ) (had : Option (List ℕ)) → IsScript script
-    → (said : Said) × IsReply mode script input said × ((n : ℕ) × Appends had had (take n said.text))
-front_of mode script input had is =
-    let found = some_reply mode script input is in
+pub begun_none : (mode : Mode) (script : List Word) (before had : Option (List ℕ)) → IsScript script → (mode ≡ Synth) ⊎ (mode ≡ Session) → HasBegun mode script before had had
+begun_none mode script None had is modes = tt
+begun_none mode script (Some input) had is modes =
+    let found = some_reply mode script input is modes in
     (found.0, found.1, (0, appends_nothing had))
-
-pub begun_none : (mode : Mode) (script : List Word) (before had : Option (List ℕ)) → IsScript script → HasBegun mode script before had had
-begun_none Synth script None had is = tt
-begun_none Session script None had is = tt
-begun_none Synth script (Some input) had is = front_of Synth script input had is
-begun_none Session script (Some input) had is = front_of Session script input had is
-begun_none (Generate count) script before had is = front_of (Generate count) script [] had is
 
 -- ---- a session to its end
 

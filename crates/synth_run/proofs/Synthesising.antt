@@ -20,7 +20,7 @@ use Rattle.reply_lines.specs.declared.reply.Reply.{Reply}
 use Rattle.reply_lines.specs.Lines.{check_words, counted, error_reply, ok_line, ok_reply, read_words}
 use Rattle.desk_core.specs.Answers.{checked_answer, design_answer, print_answer, printed_reply, refusal}
 use Rattle.rtl_bits.specs.Counts.{risen}
-use Rattle.build_crew.specs.Rises.{RisesUpTo}
+use Rattle.desk_core.specs.Builds.{RisesUpTo}
 use Rattle.desk_core.proofs.Rises.{rises_more}
 use Rattle.desk_core.specs.Netlist.{built_count, built_words, netlist_of, over_words, unless_over}
 use Rattle.desk_core.specs.State.{Answer, State, answer, first_state}

@@ -12,7 +12,6 @@ given_as given = record {
   session = given.session;
   script = option_map (λ value. value.now) given.script;
   workers = option_map (λ value. value.now) given.workers;
-  generate = option_map (λ value. value.now) given.generate;
 }
 
 abbrev pub form_as : Form → options.Form

@@ -17,7 +17,7 @@ pub returns-in_default-hold-clause-err : goal.returns-in_default-hold-clause-err
 returns-in_default-hold-clause-err g c =
     goes_forgotten c.args.self.now c.loop-front.self c.args.bytes.now c.loop-front.left.now (g.K.Sink.held c.args.sink.now) (g.K.Sink.held c.loop-front.sink)
     c.args.meter.now c.loop-front.meter halts.Memory c.loop-front.invariant.goes
-    (line_forgotten c.loop-front.self.reader [] c.loop-front.self.speaker.desk.state (g.K.Sink.held c.loop-front.sink) c.loop-front.meter c.loop-front.meter)
+    (line_forgotten c.loop-front.self.reader [] c.loop-front.self.speaker.desk (g.K.Sink.held c.loop-front.sink) c.loop-front.meter c.loop-front.meter)
 
 pub returns-in-Ok-true-clause-ends : goal.returns-in-Ok-true-clause-ends
 returns-in-Ok-true-clause-ends g c = λ _.
@@ -51,4 +51,4 @@ pub returns-in-Err-hold-clause-err : goal.returns-in-Err-hold-clause-err
 returns-in-Err-hold-clause-err g c =
     goes_forgotten c.args.self.now c.loop-front.self c.args.bytes.now c.loop-front.left.now (g.K.Sink.held c.args.sink.now) (g.K.Sink.held c.loop-front.sink)
     c.args.meter.now c.loop-front.meter halts.Memory c.loop-front.invariant.goes
-    (line_forgotten c.loop-front.self.reader [] c.loop-front.self.speaker.desk.state (g.K.Sink.held c.loop-front.sink) c.loop-front.meter c.loop-front.meter)
+    (line_forgotten c.loop-front.self.reader [] c.loop-front.self.speaker.desk (g.K.Sink.held c.loop-front.sink) c.loop-front.meter c.loop-front.meter)
