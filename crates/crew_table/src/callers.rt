@@ -64,7 +64,7 @@ pub fn fill_key<R: Wait>(
 }
 
 /// The seat gives its ticket's key back.
-fn return_key<R: Wait>(rt: &R, cache: &SharedCache<Built>, seat: &mut Seat, ticket: Ticket)
+pub fn return_key<R: Wait>(rt: &R, cache: &SharedCache<Built>, seat: &mut Seat, ticket: Ticket)
     requires cache { seat.old.cache ≡ cache.now.table.shared.table_id }
     requires own { ticket.seat ≡ seat.old.number }
     requires one { HoldsOnly ticket.key seat.old.calls }

@@ -4,6 +4,7 @@
 mod callers;
 mod crews;
 mod crowd;
+mod given_back;
 mod seats;
 
 use rtl_bits::Memory;
@@ -25,6 +26,8 @@ fn tally_of<R: Files + Threads + Wait + Sync + AllocGlobal>(rt: &R) -> Result<Ta
     })?;
     let counted = crowd::are_counted(rt, rt.alloc())?;
     tally.count("crowd", b"eight seats on eight threads", counted)?;
+    let is_free = given_back::is_free_again(rt, rt.alloc())?;
+    tally.count("crowd", b"a ticket that was given back", is_free)?;
     Ok(tally)
 }
 

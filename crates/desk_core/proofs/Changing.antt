@@ -20,7 +20,6 @@ use Rattle.rtl_readable.specs.Readable.{IsReadable}
 use Rattle.script_core.specs.declared.built.Built.{Built}
 use Rattle.script_core.specs.declared.word.Word.{Word}
 use Rattle.script_core.specs.Words.{script_of}
-use Rattle.result_cache.specs.Filled.{HoldsNone}
 use Rattle.reply_lines.specs.declared.reply.Reply.{Reply}
 use Rattle.reply_lines.specs.Lines.{check_words, counted, error_reply, ok_line, ok_reply, read_words}
 use Rattle.design_edit.specs.Modules.{with_modules, without_module}
@@ -35,7 +34,7 @@ use Rattle.std.proofs.lemmas.List.{length-replicate}
 use Rattle.desk_core.specs.declared.results.Results.{Results}
 use Rattle.desk_core.specs.Answers.{IsEditAnswer, IsEdited, IsLoadAnswer, checked_answer, design_answer, refusal, remove_answer, script_answer, script_answer_by}
 use Rattle.desk_core.specs.Edits.{IsEditReply}
-use Rattle.desk_core.specs.Results.{AreSound}
+use Rattle.desk_core.specs.Results.{AreSeated, AreSound}
 use Rattle.desk_core.specs.State.{State, answer}
 
 abbrev nones : ℕ → List (Option Built)
@@ -50,7 +49,7 @@ length_none : (n : ℕ) → length (nones n) ≡ n
 length_none n = length-replicate n None
 
 -- results beside no module are sound for any readable design and any script
-pub sound_fresh : (design : Design) (script : List Word) (new : Results) → HoldsNone new.shard → IsReadable design
+pub sound_fresh : (design : Design) (script : List Word) (new : Results) → AreSeated new.cache.table.shared.table_id new.cache.shards new.seats.items → IsReadable design
     → new.found.items ≡ replicate (length design.modules) None → AreSound design script new
 sound_fresh design script new idle readable found = record {
   readable = readable;

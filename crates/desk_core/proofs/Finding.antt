@@ -1,183 +1,208 @@
--- The results beside modules, one module after another.
-use Rattle.std.proofs.Common.{◌≡◌, ◌≢◌, ◌⊎◌, inl, inr, ℕ, ◌+◌, ◌<◌, ◌≤◌, List, Bool, true, false, true≢false, not, cond, ◌||◌, get_or, length, set, slice_get, Option, Some, None, refl, sym, ap, subst, ◌∙◌, arith}
-use Rattle.std.specs.Str.{bytes_eq}
-use Rattle.std.proofs.lemmas.List.{length-set}
+-- The results that a crew finds, beside their modules.
+use Rattle.std.proofs.Common.{◌≡◌, ℕ, zero, suc, ◌+◌, ◌<◌, ◌≤◌, List, [], ◌∷◌, ◌++◌, Bool, true, false, ◌||◌, drop, length, set, slice_get, Option, Some, None, Result, Ok, Err, get_or, take, refl, sym, ap, subst, ◌∙◌, arith, append_assoc}
+use Rattle.std.proofs.Math.ListN.{drop_of_length-le}
+use Rattle.std.proofs.lemmas.List.{append-nil, drop-set, length-append, length-set, take_at}
 use Rattle.std.proofs.lemmas.Option.{slice_get-get_or}
+use Rattle.std.specs.Prelude.{IfOk, map}
+use Rattle.std.specs.List.{list_all}
 use Rattle.std.specs.Option.{is_some}
+use Rattle.rtl_bits.specs.Counts.{risen}
+use Rattle.rtl_bits.specs.declared.memory.Memory.{Memory}
 use Rattle.rtl_sig.specs.Names.{has_name}
 use Rattle.rtl_ir.specs.declared.module.Design.{Design}
-use Rattle.result_cache.specs.Filled.{HoldsNone, filled_keys, new_count, with_key, with_keys}
-use Rattle.result_cache.proofs.FilledKeys.{filled_known}
-use Rattle.result_cache.proofs.Keys.{bytes_same}
-use Rattle.result_cache.proofs.NewKeys.{keys_below, fresh, below_more, new_below, new_snoc, with_keys_snoc, still_among}
-use Rattle.result_cache.proofs.Rising.{among_with}
+use Rattle.rtl_ir.specs.declared.module.Module.{Module}
+use Rattle.rtl_ir.specs.Faults.{check_faults}
+use Rattle.rtl_readable.specs.Readable.{IsReadable}
+use Rattle.result_cache.specs.Filled.{new_count, with_keys}
+use Rattle.result_cache.proofs.NewKeys.{among_keys, new_below_few}
+use Rattle.atomic_table.specs.Seated.{TableId}
+use Rattle.result_cache.specs.Seats.{Seated, IsIdle}
+use Rattle.build_crew.specs.Calls.{HasFailed, HasFound}
+use Rattle.build_crew.specs.declared.finding.Found.{Found}
+use Rattle.build_crew.specs.Kept.{AreAllSeats, HasStill, kept_by}
+use Rattle.build_crew.specs.Leaves.{HasRun, HasStopped}
+use Rattle.build_crew.specs.Rises.{RisesUpTo}
+use Rattle.build_crew.proofs.Asking.{asking_failed, asking_first}
+use Rattle.build_crew.proofs.Numbers.{of_job}
 use Rattle.script_core.specs.declared.built.Built.{Built}
+use Rattle.script_core.specs.declared.key.Key.{Key}
 use Rattle.script_core.specs.declared.word.Word.{Word}
-use Rattle.script_core.specs.Built.{IsValueOf}
-use Rattle.script_core.specs.Keys.{key_of}
+use Rattle.script_core.specs.Built.{IsAcceptedKey, IsValueOf}
+use Rattle.script_core.specs.Keys.{key_of, key_text}
 use Rattle.desk_core.specs.declared.results.Results.{Results}
-use Rattle.desk_core.specs.Netlist.{key_text_at}
-use Rattle.desk_core.specs.Results.{AreSound, IsFoundAt, IsResultAt}
-use Rattle.desk_core.specs.Results.{AreFound}
-use Rattle.desk_core.specs.Builds.{HasStill, RisesUpTo}
-use Rattle.desk_core.proofs.Lists.{all_there, same_number, get_set_same, get_set_other}
-use Rattle.desk_core.proofs.Rises.{rises_more, rises_within}
+use Rattle.desk_core.specs.Builds.{BuildsOrReturns}
+use Rattle.desk_core.specs.Netlist.{key_text_at, key_texts}
+use Rattle.desk_core.specs.Results.{AreAnswers, AreSeated, AreSound, IsResultAt, TellKeys}
+use Rattle.desk_core.proofs.Rises.{returns_built, risen_none}
 
-with_itself : (key : List ℕ) (keys : List (List ℕ)) → has_name (with_key key keys) key ≡ true
-with_itself key keys = among_with key key keys ∙ ap (λ (b : Bool). b || has_name keys key) (bytes_same key key refl)
+-- the key of a module of a design without faults is that of an accepted one
+pub accepted_key : (design : Design) (script : List Word) (at : ℕ) (key : Key) → IsReadable design → check_faults design.modules ≡ [] → at < length design.modules
+    → key ≡ key_of design.modules at script → IsAcceptedKey key
+accepted_key design script at key readable faultless within is = record {
+  design = design;
+  at = at;
+  readable = readable;
+  faultless = faultless;
+  in_range = within;
+  same = is ∙ sym (ap (λ (k : Key). key_of design.modules at k.script) is);
+}
 
-with_still : (key : List ℕ) (keys : List (List ℕ)) (q : List ℕ) → has_name keys q ≡ true → has_name (with_key key keys) q ≡ true
-with_still key keys q is = among_with q key keys ∙ ap (λ (b : Bool). bytes_eq q key || b) is ∙ right (bytes_eq q key)
-  where
-    right : (a : Bool) → (a || true) ≡ true
-    right true = refl
-    right false = refl
+pub tell_keys : (design : Design) (table : List Module) (script : List Word) (results : Results) → table ≡ design.modules → AreSound design script results → TellKeys design table script results.found.items
+tell_keys design table script results same h = record {
+  readable = h.readable;
+  same = same;
+  beside = h.beside;
+  own = λ at built is. (h.own at built is).key;
+}
 
-module _ {design : Design} {script : List Word} where
-  -- the results stay sound where neither what is kept nor what stands beside the modules changes
-  pub sound_same : (old new : Results) → AreSound design script old → HoldsNone new.shard → new.found.items ≡ old.found.items
-      → filled_keys new.shard ≡ filled_keys old.shard → AreSound design script new
-  sound_same old new h idle found filled = record {
+-- what a list has at a place
+pub got_at : {A : Type 0} (xs : List A) (k : ℕ) (x y : A) → k < length xs → get_or xs k x ≡ y → slice_get xs k ≡ Some y
+got_at xs k x y within is = slice_get-get_or xs k x within ∙ ap Some is
+
+-- what is found for a key is found for one that it equals
+pub found_fits : (r : Result (Found Built) Memory) (key own : Key) → key ≡ own → IfOk r (λ found. found.value.key ≡ key)
+    → IfOk r (λ found. IsValueOf found.value.key found.value.outcome) → IfOk r (λ found. (found.value.key ≡ own) × IsValueOf found.value.key found.value.outcome)
+found_fits (Ok found) key own same is value = (is ∙ same, value)
+found_fits (Err memory) key own same is value = tt
+
+pub found_does : (r : Result (Found Built) Memory) (key own : Key) (olds news : Seated) (m n : ℕ) → key ≡ own
+    → IfOk r (λ found. (k : ℕ) × (n ≡ risen m k) × HasFound (key_text key) found.is_new olds news k)
+    → IfOk r (λ found. (k : ℕ) × (n ≡ risen m k) × HasFound (key_text own) found.is_new olds news k)
+found_does r key own olds news m n same h =
+    subst (λ (q : Key). IfOk r (λ found. (k : ℕ) × (n ≡ risen m k) × HasFound (key_text q) found.is_new olds news k)) same h
+
+-- a seat without a ticket that asked for nothing
+pub failed_idle : (cache : TableId) (s : Seated) (m : ℕ) → IsIdle cache s → (n : ℕ) × (m ≡ risen m n) × HasFailed s s n
+failed_idle cache s m idle = (0, risen_none m, asking_failed s s (asking_first s idle.1))
+
+-- a result for one that was found
+abbrev pub beside_of : List (Found Built) → List (Option Built)
+beside_of items = map (λ (item : Found Built). Some item.value) items
+
+length_beside : (items : List (Found Built)) → length (beside_of items) ≡ length items
+length_beside [] = refl
+length_beside (x ∷ items) = ap suc (length_beside items)
+
+-- what stands beside a module was found there
+got_beside : (items : List (Found Built)) (at : ℕ) (built : Built) → slice_get (beside_of items) at ≡ Some (Some built) → (found : Found Built) × (slice_get items at ≡ Some found) × (found.value ≡ built) × (at < length items)
+got_beside [] at built is = absurd (let no : None ≡ Some (Some built) = is in cc)
+got_beside (x ∷ items) zero built is = (x, refl, (let e : x.value ≡ built = cc in e), omega arith)
+got_beside (x ∷ items) (suc at) built is = let rest = got_beside items at built is in (rest.0, rest.1, rest.2, let l = rest.3 in omega (arith, l))
+
+pub all_beside : (items : List (Found Built)) → list_all is_some (beside_of items) ≡ true
+all_beside [] = refl
+all_beside (x ∷ items) = all_beside items
+
+or_true : (b : Bool) → (b || true) ≡ true
+or_true true = refl
+or_true false = refl
+
+module _ (design : Design) (script : List Word) (old new : Results) where
+  -- the results are sound once a crew found them all
+  pub sound_run : (items : List (Found Built)) → AreSound design script old → AreSeated new.cache.table.shared.table_id new.cache.shards new.seats.items → length items ≡ length design.modules
+      → AreAnswers script design.modules items → new.found.items ≡ beside_of items → kept_by new.seats.items ≡ with_keys (kept_by old.seats.items) (key_texts script design.modules)
+      → AreSound design script new
+  sound_run items h idle count answers beside kept = record {
     readable = h.readable;
     idle = idle;
-    beside = ap length found ∙ h.beside;
+    beside = ap length beside ∙ length_beside items ∙ count;
     own = λ at built is.
-        subst (λ (kept : List (List ℕ)). IsResultAt script design.modules kept at built) (sym filled)
-        (h.own at built (sym (ap (λ (l : List (Option Built)). slice_get l at) found) ∙ is));
+        let got = got_beside items at built (ap (λ (l : List (Option Built)). slice_get l at) (sym beside) ∙ is) in
+        let answer = answers at got.0 got.1 in
+        let one : IsResultAt script design.modules (kept_by new.seats.items) at got.0.value = record {
+          key = answer.0;
+          value = answer.1;
+          kept =
+              ap (λ (l : List (List ℕ)). has_name l (key_text_at script design.modules at)) kept
+              ∙ among_keys (key_text_at script design.modules at) (kept_by old.seats.items) (key_texts script design.modules)
+              ∙ ap (λ (b : Bool). has_name (kept_by old.seats.items) (key_text_at script design.modules at) || b)
+              (of_job (key_text_at script design.modules) 0 (length design.modules) at (omega arith) (let l = got.3 in omega (arith, l, count)))
+              ∙ or_true (has_name (kept_by old.seats.items) (key_text_at script design.modules at));
+        } in
+        subst (IsResultAt script design.modules (kept_by new.seats.items) at) got.2 one;
   }
 
-  -- they stay sound where the result of the key of a module is put beside it
-  pub sound_found : (old new : Results) (at : ℕ) (built : Built) → AreSound design script old → HoldsNone new.shard → at < length design.modules
-      → new.found.items ≡ set old.found.items at (Some built) → filled_keys new.shard ≡ with_key (key_text_at script design.modules at) (filled_keys old.shard)
-      → built.key ≡ key_of design.modules at script → IsValueOf built.key built.outcome → AreSound design script new
-  sound_found old new at built h idle within found filled key value = record {
+  -- they are sound still where a crew had no memory
+  pub sound_stopped : AreSound design script old → AreSeated new.cache.table.shared.table_id new.cache.shards new.seats.items → new.found.items ≡ old.found.items
+      → HasStill (kept_by old.seats.items) (kept_by new.seats.items) → AreSound design script new
+  sound_stopped h idle beside still = record {
     readable = h.readable;
     idle = idle;
-    beside = ap length found ∙ length-set old.found.items at (Some built) ∙ h.beside;
-    own = λ k other is. by k other (ap (λ (l : List (Option Built)). slice_get l k) (sym found) ∙ is) (same_number k at);
+    beside = ap length beside ∙ h.beside;
+    own = λ at built is.
+        let one = h.own at built (ap (λ (l : List (Option Built)). slice_get l at) (sym beside) ∙ is) in
+        record { key = one.key; value = one.value; kept = still (key_text_at script design.modules at) one.kept };
   }
-    where
-      text : List ℕ
-      text = key_text_at script design.modules at
 
-      by : (k : ℕ) (other : Built) → slice_get (set old.found.items at (Some built)) k ≡ Some (Some other) → (k ≡ at) ⊎ (k ≢ at)
-          → IsResultAt script design.modules (filled_keys new.shard) k other
-      by k other is (inl e) =
-          let there : slice_get (set old.found.items at (Some built)) at ≡ Some (Some built) = get_set_same old.found.items at (Some built) (omega (arith, h.beside, within)) in
-          let one : Some (Some built) ≡ Some (Some other) = sym there ∙ ap (slice_get (set old.found.items at (Some built))) (sym e) ∙ is in
-          let same : built ≡ other = cc in
-          subst (λ (b : Built). IsResultAt script design.modules (filled_keys new.shard) k b) same
-          (subst (λ (n : ℕ). IsResultAt script design.modules (filled_keys new.shard) n built) (sym e)
-          record { key = key; value = value; kept = ap (λ (l : List (List ℕ)). has_name l text) filled ∙ with_itself text (filled_keys old.shard) })
-      by k other is (inr ne) =
-          let before = h.own k other (sym (get_set_other old.found.items at k (Some built) ne) ∙ is) in
-          record {
-            key = before.key;
-            value = before.value;
-            kept = ap (λ (l : List (List ℕ)). has_name l (key_text_at script design.modules k)) filled ∙ with_still text (filled_keys old.shard) (key_text_at script design.modules k) before.kept;
-          }
+-- all seats still, where there are as many after as before
+pub seated_after : (cache : TableId) (shards : ℕ) (olds news : List Seated) → length news ≡ length olds → AreSeated cache shards olds → AreAllSeats cache (length olds) shards 0 news
+    → AreSeated cache shards news
+seated_after cache shards olds news same h all =
+    let some = h.some in
+    let few = h.few in
+    record {
+      some = omega (arith, same, some);
+      few = omega (arith, same, few);
+      all = subst (λ (n : ℕ). AreAllSeats cache n shards 0 news) (sym same) all;
+    }
 
-  -- the result that stands beside a module
-  pub known_beside : (results : Results) (at : ℕ) (found : Option Built) → AreSound design script results → at < length design.modules → found ≡ get_or results.found.items at found → is_some found ≡ true
-      → (built : Built) × (slice_get results.found.items at ≡ Some (Some built))
-  known_beside results at None h within is there = absurd (true≢false (sym there))
-  known_beside results at (Some built) h within is there =
-      (built, slice_get-get_or results.found.items at (Some built) (omega (arith, within, h.beside)) ∙ ap Some (sym is))
+-- a list that was lent whole comes back whole
+pub back_whole : {A : Type 0} (n : ℕ) (old new : List A) → n ≡ length new → take n (new ++ drop (length new) old) ≡ new
+back_whole n old new same = take_at new (drop (length new) old) n (sym same)
 
-  -- a result that stands beside its module already is found there
-  pub found_known : (old : Results) (at : ℕ) (built : Built) → AreSound design script old → slice_get old.found.items at ≡ Some (Some built)
-      → with_key (key_text_at script design.modules at) (filled_keys old.shard) ≡ filled_keys old.shard
-  found_known old at built h is = filled_known old.shard (key_text_at script design.modules at) (h.own at built is).kept
+-- no more was built than there are modules
+pub built_few : (design : Design) (script : List Word) (keys : List (List ℕ)) (built : ℕ) → built ≡ new_count keys (key_texts script design.modules) → built ≤ length design.modules
+built_few design script keys built is = let e = new_below_few keys (key_text_at script design.modules) (length design.modules) in omega (arith, is, e)
 
--- the results of the modules below a place are found, and these were built
-pub record AreFoundBelow (design : Design) (script : List Word) (before now : Results) (at built : ℕ) : Type 0 where
-  pub sound : AreSound design script now
-  pub filled : filled_keys now.shard ≡ with_keys (filled_keys before.shard) (keys_below (key_text_at script design.modules) at)
-  pub built_is : built ≡ new_count (filled_keys before.shard) (keys_below (key_text_at script design.modules) at)
-  pub found : (k : ℕ) → k < at → (b : Built) × (slice_get now.found.items k ≡ Some (Some b))
+pub run_ticks : (keys : List (List ℕ)) (built : ℕ) (olds news : List Seated) (m n : ℕ) → HasRun keys built olds news m n → RisesUpTo (new_count (kept_by olds) keys) m n
+run_ticks keys built olds news m n h = subst (λ (k : ℕ). RisesUpTo k m n) h.built_is h.ticks
 
-module _ {design : Design} {script : List Word} {before now : Results} {at built : ℕ} where
-  -- whether one more was built
-  pub new_here : AreFoundBelow design script before now at built
-      → new_count (filled_keys before.shard) (keys_below (key_text_at script design.modules) (at + 1)) ≡ built + fresh (has_name (filled_keys now.shard) (key_text_at script design.modules at))
-  new_here h =
-      ap (new_count (filled_keys before.shard)) (below_more (key_text_at script design.modules) at)
-      ∙ new_snoc (filled_keys before.shard) (keys_below (key_text_at script design.modules) at) (key_text_at script design.modules at)
-      ∙ (let there : fresh (has_name (with_keys (filled_keys before.shard) (keys_below (key_text_at script design.modules) at)) (key_text_at script design.modules at))
-      ≡ fresh (has_name (filled_keys now.shard) (key_text_at script design.modules at)) =
-      ap (λ (l : List (List ℕ)). fresh (has_name l (key_text_at script design.modules at))) (sym h.filled) in
-      omega (arith, h.built_is, there))
+pub run_returns : (keys : List (List ℕ)) (built : ℕ) (olds news : List Seated) (m n : ℕ) → HasRun keys built olds news m n → BuildsOrReturns (new_count (kept_by olds) keys) olds news m n
+run_returns keys built olds news m n h = returns_built (new_count (kept_by olds) keys) olds news m n h.given (run_ticks keys built olds news m n h)
 
-  pub found_more : (new : Results) (more : ℕ) → AreFoundBelow design script before now at built → at < length design.modules → AreSound design script new
-      → filled_keys new.shard ≡ with_key (key_text_at script design.modules at) (filled_keys now.shard)
-      → IsFoundAt now.found.items new.found.items at
-      → more ≡ built + fresh (has_name (filled_keys now.shard) (key_text_at script design.modules at))
-      → AreFoundBelow design script before new (at + 1) more
-  found_more new more h within sound filled found count = record {
-    sound = sound;
-    filled =
-        filled ∙ ap (with_key (key_text_at script design.modules at)) h.filled
-        ∙ sym (ap (with_keys (filled_keys before.shard)) (below_more (key_text_at script design.modules) at)
-        ∙ with_keys_snoc (filled_keys before.shard) (keys_below (key_text_at script design.modules) at) (key_text_at script design.modules at));
-    built_is = count ∙ sym (new_here h);
-    found = λ k lt. by k lt (same_number k at);
+pub stopped_returns : (keys : List (List ℕ)) (olds news : List Seated) (m n : ℕ) → HasStopped keys olds news m n → BuildsOrReturns (new_count (kept_by olds) keys) olds news m n
+stopped_returns keys olds news m n h = record { gave = h.gave; given = h.given; ticks = h.ticks }
+
+-- results are put beside their modules from the last one on
+pub record PutSoFar (full left : List (Found Built)) (found : List (Option Built)) : Type 0 where
+  pub rest : List (Found Built)
+  pub full_is : full ≡ left ++ rest
+  pub beside : drop (length left) found ≡ beside_of rest
+  pub count : length found ≡ length full
+
+module _ (full : List (Found Built)) where
+  pub put_first : (found : List (Option Built)) → length full ≡ length found → PutSoFar full full found
+  put_first found count = record {
+    rest = [];
+    full_is = sym (append-nil full);
+    beside = drop_of_length-le found (omega (arith, count));
+    count = sym count;
   }
-    where
-      by : (k : ℕ) → k < at + 1 → (k ≡ at) ⊎ (k ≢ at) → (b : Built) × (slice_get new.found.items k ≡ Some (Some b))
-      by k lt (inl e) =
-          (found.0, ap (slice_get new.found.items) e ∙ ap (λ (l : List (Option Built)). slice_get l at) found.1 ∙ get_set_same now.found.items at (Some found.0) (omega (arith, h.sound.beside, within)))
-      by k lt (inr ne) =
-          let was = h.found k (omega (arith, lt, ne)) in
-          (was.0, ap (λ (l : List (Option Built)). slice_get l k) found.1 ∙ get_set_other now.found.items at k (Some found.0) ne ∙ was.1)
 
--- whether a key was new, as a number
-fresh_is : (known : Bool) → fresh known ≡ cond known 0 1
-fresh_is true = refl
-fresh_is false = refl
+  pub put_step : (left ys : List (Found Built)) (x : Found Built) (found after : List (Option Built)) → left ≡ ys ++ x ∷ [] → after ≡ set found (length ys) (Some x.value)
+      → PutSoFar full left found → PutSoFar full ys after
+  put_step left ys x found after is put h =
+      let longer : length left ≡ length ys + 1 = ap length is ∙ length-append ys (x ∷ []) in
+      let whole = ap length h.full_is ∙ length-append left h.rest in
+      let count = h.count in
+      let within : length ys < length found = omega (arith, longer, whole, count) in
+      record {
+        rest = x ∷ h.rest;
+        full_is = h.full_is ∙ ap (λ (l : List (Found Built)). l ++ h.rest) is ∙ append_assoc ys (x ∷ []) h.rest;
+        beside =
+            ap (drop (length ys)) put ∙ drop-set found (length ys) (Some x.value) within
+            ∙ ap (λ (l : List (Option Built)). Some x.value ∷ l) (ap (λ (n : ℕ). drop n found) (sym longer) ∙ h.beside);
+        count = ap length put ∙ length-set found (length ys) (Some x.value) ∙ h.count;
+      }
 
-pub count_new : (known is_new : Bool) (built : ℕ) → is_new ≡ not known → is_new ≡ true → built + 1 ≡ built + fresh known
-count_new true is_new built is new = absurd (true≢false (sym (sym is ∙ new)))
-count_new false is_new built is new = refl
+  pub put_within : (left ys : List (Found Built)) (x : Found Built) (found : List (Option Built)) → left ≡ ys ++ x ∷ [] → PutSoFar full left found → length ys < length found
+  put_within left ys x found is h =
+      let longer : length left ≡ length ys + 1 = ap length is ∙ length-append ys (x ∷ []) in
+      let whole = ap length h.full_is ∙ length-append left h.rest in
+      let count = h.count in
+      omega (arith, longer, whole, count)
 
-pub count_old : (known is_new : Bool) (built : ℕ) → is_new ≡ not known → is_new ≡ false → built ≡ built + fresh known
-count_old true is_new built is old = omega arith
-count_old false is_new built is old = absurd (true≢false (sym is ∙ old))
-
-module _ {design : Design} {script : List Word} where
-  -- at the start none is found
-  pub found_first : (results : Results) → AreSound design script results → AreFoundBelow design script results results 0 0
-  found_first results h = record { sound = h; filled = refl; built_is = refl; found = λ k lt. absurd (omega (arith, lt)) }
-
-  -- what is kept before is kept still
-  pub found_still : (before now new : Results) (at built : ℕ) → AreFoundBelow design script before now at built → filled_keys new.shard ≡ filled_keys now.shard
-      → HasStill (filled_keys before.shard) (filled_keys new.shard)
-  found_still before now new at built h same = λ text known.
-      ap (λ (l : List (List ℕ)). has_name l text) (same ∙ h.filled) ∙ still_among (filled_keys before.shard) (keys_below (key_text_at script design.modules) at) text known
-
-  -- one more rise for one more module
-  pub ticks_more : (before now : Results) (at built m n o : ℕ) → AreFoundBelow design script before now at built
-      → RisesUpTo (new_count (filled_keys before.shard) (keys_below (key_text_at script design.modules) at)) m n
-      → RisesUpTo (cond (has_name (filled_keys now.shard) (key_text_at script design.modules at)) 0 1) n o
-      → RisesUpTo (new_count (filled_keys before.shard) (keys_below (key_text_at script design.modules) (at + 1))) m o
-  ticks_more before now at built m n o h f g =
-      let here = new_here {before = before} {now = now} h in
-      let one = fresh_is (has_name (filled_keys now.shard) (key_text_at script design.modules at)) in
-      let was = h.built_is in
-      rises_more _ _ _ m n o f g (omega (arith, here, one, was))
-
-  -- once all are gone through, each has its result
-  pub found_all : (before now : Results) (at built : ℕ) → AreFoundBelow design script before now at built → at ≡ length design.modules → AreFound now
-  found_all before now at built h is = all_there now.found.items (λ k lt. h.found k (omega (arith, lt, is, h.sound.beside)))
-
--- a rise for the modules so far is one for all of them
-pub ticks_all : (design : Design) (script : List Word) (before : Results) (at more all m n : ℕ) → all ≡ at + more
-    → RisesUpTo (new_count (filled_keys before.shard) (keys_below (key_text_at script design.modules) at)) m n
-    → RisesUpTo (new_count (filled_keys before.shard) (keys_below (key_text_at script design.modules) all)) m n
-ticks_all design script before at more all m n is f =
-    let few = new_below (filled_keys before.shard) (key_text_at script design.modules) at more in
-    subst (λ (k : ℕ). RisesUpTo (new_count (filled_keys before.shard) (keys_below (key_text_at script design.modules) k)) m n) (sym is)
-    (rises_within _ _ m n f few)
-
-pub fresh_few : (known : Bool) → fresh known ≤ 1
-fresh_few true = omega arith
-fresh_few false = omega arith
+  pub put_done : (left : List (Found Built)) (found : List (Option Built)) → left ≡ [] → PutSoFar full left found → found ≡ beside_of full
+  put_done left found none h =
+      ap (λ (l : List (Found Built)). drop (length l) found) (sym none) ∙ h.beside
+      ∙ ap beside_of (sym (h.full_is ∙ ap (λ (l : List (Found Built)). l ++ h.rest) none))

@@ -3,9 +3,9 @@ pub mod Lists
 pub mod Finding
 pub mod Outcomes
 pub mod Told
+pub mod Summing
 pub mod Going
 pub mod Tracing
-pub mod Taking
 pub mod Changing
 pub mod Starting
 pub mod Showing

@@ -1,7 +1,17 @@
 -- Results may go to another thread, and be looked at by several.
+use denote.RattleType.{RattleType}
+use denote.Ref.{NamedLft}
 use denote.Param.Send.{IsSend, IsSync, sendable}
 use denote.Param.SendFields.{declared_send, declared_sync, variants_send, variants_sync}
 use Rattle.std.proofs.Crossing.{crosses}
+use Rattle.std.proofs.MapsCrossing as maps
+use Rattle.build_crew.proofs.finding.Found.TheSendSync as founds
+use Rattle.build_crew.specs.contracts.finding.Found as finding
+use Rattle.result_cache.proofs.cache.SharedCache.TheSendSync as caches
+use Rattle.rtl_check.specs.contracts.checked.Checked as checked
+use Rattle.rtl_ir.specs.contracts.module.Design as designs
+use Rattle.rtl_ir.specs.contracts.table.DesignPorts as tables
+use Rattle.script_core.proofs.script.Script.TheSendSync as scripts
 use Rattle.rtl_bits.proofs.seq.Seq.TheSendSync as seqs
 use Rattle.rtl_bits.proofs.text.Text.TheSendSync as texts
 use Rattle.rtl_sig.proofs.sig.SigSpec.TheSendSync as signals
@@ -20,6 +30,8 @@ use Rattle.script_core.proofs.key.Key.TheSendSync as keys
 use Rattle.script_core.proofs.word.Word.TheSendSync as words
 use Rattle.script_core.specs.contracts.built.Built as results
 use Rattle.script_core.specs.contracts.outcome.Outcome as outcomes
+use Rattle.desk_core.specs.contracts.crew_jobs.CrewJobs as jobs
+use Rattle.desk_core.specs.contracts.keys.Keys as tellers
 use Rattle.desk_core.specs.contracts.kept.Kept as kept
 
 -- what a module is made of
@@ -79,3 +91,37 @@ built_sync = declared_sync results.the_type (keys.the_sync, (outcome_sync, tt))
 -- a result that is shared by a counter
 pub kept_send : IsSend kept.the_row
 kept_send = search (sendable, crosses, built_send, built_sync) depth 40
+
+pub kept_sync : IsSync kept.the_row
+kept_sync = search (sendable, crosses, built_send, built_sync) depth 40
+
+-- a result that was found
+pub found_send : IsSend (finding.the_row kept.the_row)
+found_send = search (sendable, founds.the_send, kept_send) depth 40
+
+-- what tells the keys of a design
+design_sync : IsSync designs.the_row
+design_sync = search (sendable, crosses, seqs.the_sync, module_sync) depth 40
+
+checked_sync : IsSync checked.the_row
+checked_sync = declared_sync checked.the_type (design_sync, tt)
+
+table_sync : (a : NamedLft) → IsSync (tables.the_row a)
+table_sync a = search (sendable, crosses, maps.crosses, module_sync) depth 60
+
+teller_sync : (a b : NamedLft) → IsSync (tellers.the_row a b)
+teller_sync a b = search (sendable, checked_sync, table_sync, scripts.the_sync) depth 40
+
+-- the jobs of a crew
+pub jobs_sync : (a : NamedLft) (R : RattleType) → IsSync R → IsSync (jobs.the_row a R)
+jobs_sync a R y =
+    declared_sync (jobs.the_type a R) (
+      search (sendable, y) depth 20,
+      (
+        search (sendable, crosses) depth 20,
+        (
+          search (sendable, caches.the_sync, kept_send) depth 30,
+          (search (sendable, teller_sync) depth 20, (search (sendable, crosses, kept_sync) depth 30, tt)),
+        ),
+      ),
+    )

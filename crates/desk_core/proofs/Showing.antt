@@ -1,11 +1,13 @@
 -- Answers by the module of a name.
-use Rattle.std.proofs.Common.{◌≡◌, ℕ, List, ◌++◌, Option, Some, None, Result, Ok, Err, get_or, sym, ap, ◌∙◌}
+use Rattle.std.proofs.Common.{◌≡◌, ℕ, List, [], ◌++◌, Option, Some, None, Result, Ok, Err, get_or, sym, ap, ◌∙◌}
 use Rattle.std.specs.Prelude.{IfOk, codes}
 use Rattle.std.specs.Fmt.{decimal}
 use Rattle.std.specs.Option.{option_map_or}
 use Rattle.std.proofs.lemmas.Option.{slice_get-get_or}
 use Rattle.rtl_bits.specs.declared.bit.Bit.{Bit}
 use Rattle.rtl_bits.specs.declared.memory.Memory.{Memory}
+use Rattle.desk_read.specs.declared.command.Command.TheVariants.{SimNetlist}
+use Rattle.desk_read.specs.declared.command.SimAsk.{SimAsk}
 use Rattle.rtl_ir.specs.declared.module.Module.{Module}
 use Rattle.rtl_ir.specs.Faults.Recursion.{place_named}
 use Rattle.rtl_write.specs.Text.{module_text}
@@ -14,6 +16,7 @@ use Rattle.reply_lines.specs.declared.reply.Reply.{Reply}
 use Rattle.reply_lines.specs.Lines.{error_reply}
 use Rattle.sim_trace.specs.Stimulus.{stimulus_of}
 use Rattle.desk_core.specs.Answers.{by_module, by_stimulus, printed_reply, refusal, show_answer, source_answer, source_reply, unchanged}
+use Rattle.desk_core.specs.Builds.{asked_by, if_stimulus, present_keys}
 use Rattle.desk_core.specs.State.{Answer, State, answer}
 
 pub by_found : (s : State) (name : List ℕ) (at : ℕ) (m : Module) (f : Module → Answer) → Some at ≡ place_named s.design.modules name → m ≡ get_or s.design.modules at m → by_module s name f ≡ f m
@@ -59,3 +62,29 @@ bad_line s name text at m number run (Ok reply) place is bad told =
 pub told_same : (r : Result Reply Memory) (a b : Reply) → a ≡ b → IfOk r (λ reply. reply ≡ a) → IfOk r (λ reply. reply ≡ b)
 told_same (Ok reply) a b same is = is ∙ same
 told_same (Err memory) a b same is = tt
+
+-- ---- the keys that a run of a module of the netlist asks for
+
+-- none where no module has the name
+pub asked_unknown : (s : State) (ask : SimAsk) → None ≡ place_named s.design.modules ask.module → asked_by (SimNetlist ask) s ≡ []
+asked_unknown s ask place =
+    ap (λ (o : Option Module). option_map_or (λ (n : Module). if_stimulus (stimulus_of n ask.steps) (present_keys s)) o [])
+    (unnamed s.design.modules ask.module (sym place))
+
+asked_found : (s : State) (ask : SimAsk) (at : ℕ) (m : Module) → Some at ≡ place_named s.design.modules ask.module → m ≡ get_or s.design.modules at m
+    → asked_by (SimNetlist ask) s ≡ if_stimulus (stimulus_of m ask.steps) (present_keys s)
+asked_found s ask at m place is =
+    ap (λ (o : Option Module). option_map_or (λ (n : Module). if_stimulus (stimulus_of n ask.steps) (present_keys s)) o [])
+    (named_at s.design.modules ask.module at m (sym place) ∙ slice_get-get_or s.design.modules at m (place_within s.design.modules ask.module at m (sym place)) ∙ ap Some (sym is))
+
+-- none where a line of the stimulus is bad
+pub asked_bad : (s : State) (ask : SimAsk) (at : ℕ) (m : Module) (number : ℕ) → Some at ≡ place_named s.design.modules ask.module → m ≡ get_or s.design.modules at m
+    → stimulus_of m ask.steps ≡ Err number → asked_by (SimNetlist ask) s ≡ []
+asked_bad s ask at m number place is bad =
+    asked_found s ask at m place is ∙ ap (λ (o : Result (List (List Bit)) ℕ). if_stimulus o (present_keys s)) bad
+
+-- all keys of the design where it can be run
+pub asked_all : (s : State) (ask : SimAsk) (at : ℕ) (m : Module) (stimulus : List (List Bit)) → Some at ≡ place_named s.design.modules ask.module → m ≡ get_or s.design.modules at m
+    → stimulus_of m ask.steps ≡ Ok stimulus → asked_by (SimNetlist ask) s ≡ present_keys s
+asked_all s ask at m stimulus place is reads =
+    asked_found s ask at m place is ∙ ap (λ (o : Result (List (List Bit)) ℕ). if_stimulus o (present_keys s)) reads

@@ -1,5 +1,5 @@
 -- Results that stay beside their modules where a design changes.
-use Rattle.std.proofs.Common.{◌≡◌, ◌≢◌, ◌⊎◌, inl, inr, ℕ, zero, suc, ◌+◌, ◌-◌, ◌<◌, ◌≤◌, List, [], ◌∷◌, ◌++◌, Bool, true, false, cond, not, length, drop, take, get_or, set, min, slice_get, Option, Some, None, Result, Ok, Err, refl, sym, ap, subst, ◌∙◌, arith, append_assoc, true≢false}
+use Rattle.std.proofs.Common.{◌≡◌, ◌≢◌, ◌⊎◌, inl, inr, ℕ, zero, suc, ◌+◌, ◌-◌, ◌<◌, ◌≤◌, List, [], ◌∷◌, ◌++◌, Bool, true, false, cond, not, length, drop, get_or, set, min, slice_get, Option, Some, None, Result, Ok, Err, refl, sym, ap, subst, ◌∙◌, arith, append_assoc, true≢false}
 use Rattle.std.specs.Prelude.{IfOk, IfSome, map, remove, replicate, unwrap_or}
 use Rattle.std.specs.List.{AllByRecursion, IsDistinct, find}
 use Rattle.std.specs.Option.{is_some, option_map}
@@ -19,15 +19,15 @@ use Rattle.rtl_write.specs.Ports.{ports_text}
 use Rattle.rtl_write.specs.Text.{body_text}
 use Rattle.design_edit.proofs.Naming.{has_none, has_one, place_within}
 use Rattle.design_edit.specs.Modules.{has_module, with_module, with_modules, without_module}
-use Rattle.result_cache.specs.Filled.{HoldsNone, filled_keys}
-use Rattle.result_cache.specs.Stored.{Contents}
+use Rattle.result_cache.specs.Seats.{Seated}
+use Rattle.build_crew.specs.Kept.{kept_by}
 use Rattle.script_core.specs.declared.built.Built.{Built}
 use Rattle.script_core.specs.declared.key.Key.{Key}
 use Rattle.script_core.specs.declared.word.Word.{Word}
 use Rattle.script_core.specs.Keys.{body_text_at, key_of, key_text}
 use Rattle.desk_core.specs.declared.results.Results.{Results}
 use Rattle.desk_core.specs.Beside.{AreSeen, AreStill, SeesOwn, unedited, unless_edited}
-use Rattle.desk_core.specs.Results.{AreSound, IsResultAt}
+use Rattle.desk_core.specs.Results.{AreSeated, AreSound, IsResultAt}
 use Rattle.desk_core.proofs.Lists.{get_set_other, get_set_same, same_number}
 use Rattle.desk_core.proofs.Outcomes.{front, split}
 
@@ -230,13 +230,13 @@ own_seen {script} {keys} old new was now still seen at built is =
 
 -- results that stayed beside the modules of a new design are sound there
 pub sound_still : (design after : Design) (script : List Word) (old new : Results) (was : List (Option Built)) → AreSound design script old → IsReadable after → length was ≡ length after.modules
-    → AreStill script design.modules after.modules (filled_keys old.shard) was → AreSeen after.modules was new.found.items → new.shard ≡ old.shard → AreSound after script new
-sound_still design after script old new was h readable long still seen same = record {
+    → AreStill script design.modules after.modules (kept_by old.seats.items) was → AreSeen after.modules was new.found.items → AreSeated new.cache.table.shared.table_id new.cache.shards new.seats.items → new.seats.items ≡ old.seats.items → AreSound after script new
+sound_still design after script old new was h readable long still seen idle same = record {
   readable = readable;
-  idle = subst HoldsNone (sym same) h.idle;
+  idle = idle;
   beside = seen.count ∙ long;
   own = λ at built is.
-      subst (λ (s : Contents Built). IsResultAt script after.modules (filled_keys s) at built) (sym same)
+      subst (λ (s : List Seated). IsResultAt script after.modules (kept_by s) at built) (sym same)
       (own_seen design.modules after.modules was new.found.items still seen at built is);
 }
 
@@ -287,15 +287,15 @@ long_edited design after script old edits found filled count h are many is put =
 -- the results after an edit are sound
 pub sound_edited : (design after : Design) (script : List Word) (old new : Results) (edits : List Module) (found filled : List (Option Built)) (count : ℕ) → AreSound design script old → IsReadable after
     → after.modules ≡ with_modules design.modules edits → count ≡ length after.modules → found ≡ unedited edits design.modules old.found.items → filled ≡ found ++ replicate (count - length found) None
-    → AreSeen after.modules filled new.found.items → new.shard ≡ old.shard → AreSound after script new
-sound_edited design after script old new edits found filled count h readable are many is put seen same =
+    → AreSeen after.modules filled new.found.items → AreSeated new.cache.table.shared.table_id new.cache.shards new.seats.items → new.seats.items ≡ old.seats.items → AreSound after script new
+sound_edited design after script old new edits found filled count h readable are many is put seen idle same =
     sound_still design after script old new filled h readable (long_edited design after script old edits found filled count h are many is put)
-    (subst (AreStill script design.modules after.modules (filled_keys old.shard)) (sym put)
+    (subst (AreStill script design.modules after.modules (kept_by old.seats.items)) (sym put)
     (still_filled design.modules after.modules found (count - length found)
-    (subst (AreStill script design.modules after.modules (filled_keys old.shard)) (sym is)
-    (subst (λ (ms : List Module). AreStill script design.modules ms (filled_keys old.shard) (unedited edits design.modules old.found.items)) (sym are)
+    (subst (AreStill script design.modules after.modules (kept_by old.seats.items)) (sym is)
+    (subst (λ (ms : List Module). AreStill script design.modules ms (kept_by old.seats.items) (unedited edits design.modules old.found.items)) (sym are)
     (still_edited edits design.modules old.found.items h.own)))))
-    seen same
+    seen idle same
 
 -- there are as many results after a removal as modules
 pub long_removed : (design after : Design) (script : List Word) (old : Results) (name : List ℕ) (at : ℕ) (found : List (Option Built)) → AreSound design script old
@@ -311,14 +311,14 @@ long_removed design after script old name at found h are place is =
 -- the results after a removal are sound
 pub sound_removed : (design after : Design) (script : List Word) (old new : Results) (name : List ℕ) (at : ℕ) (found : List (Option Built)) → AreSound design script old → IsReadable after
     → after.modules ≡ without_module design.modules name → place_named design.modules name ≡ Some at → found ≡ remove old.found.items at
-    → AreSeen after.modules found new.found.items → new.shard ≡ old.shard → AreSound after script new
-sound_removed design after script old new name at found h readable are place is seen same =
+    → AreSeen after.modules found new.found.items → AreSeated new.cache.table.shared.table_id new.cache.shards new.seats.items → new.seats.items ≡ old.seats.items → AreSound after script new
+sound_removed design after script old new name at found h readable are place is seen idle same =
     let rest : after.modules ≡ remove design.modules at = are ∙ without_is name design.modules at h.readable place in
     sound_still design after script old new found h readable (long_removed design after script old name at found h are place is)
-    (subst (AreStill script design.modules after.modules (filled_keys old.shard)) (sym is)
-    (subst (λ (ms : List Module). AreStill script design.modules ms (filled_keys old.shard) (remove old.found.items at)) (sym rest)
+    (subst (AreStill script design.modules after.modules (kept_by old.seats.items)) (sym is)
+    (subst (λ (ms : List Module). AreStill script design.modules ms (kept_by old.seats.items) (remove old.found.items at)) (sym rest)
     (still_removed design.modules old.found.items at h.beside (place_inside name design.modules at place) h.own)))
-    seen same
+    seen idle same
 
 -- a place is found where a module has the name
 pub is_there : {X : Type 0} (place : X → ℕ) (found : Option X) (name : List ℕ) (modules : List Module) → option_map place found ≡ place_named modules name → is_some found ≡ has_module modules name

@@ -1,10 +1,10 @@
 -- Replies by what is told where the netlist is needed.
 use Rattle.std.proofs.Common.{◌≡◌, ℕ, ◌-◌, List, ◌++◌, Option, Some, None, Result, Ok, Err, length, refl, sym, ap, subst, ◌∙◌}
-use Rattle.std.specs.Prelude.{IfOk, OnErr, codes}
+use Rattle.std.specs.Prelude.{IfOk, OnErr, OnOk, codes}
 use Rattle.rtl_bits.specs.declared.memory.Memory.{Memory}
 use Rattle.rtl_ir.specs.declared.module.Design.{Design}
 use Rattle.rtl_write.specs.Text.{text_of}
-use Rattle.result_cache.specs.Filled.{filled_keys, with_keys}
+use Rattle.result_cache.specs.Filled.{with_keys}
 use Rattle.result_cache.proofs.NewKeys.{still_among}
 use Rattle.rtl_sig.specs.Names.{has_name}
 use Rattle.script_core.specs.declared.outcome.Outcome.{Outcome}
@@ -16,10 +16,13 @@ use Rattle.desk_core.specs.declared.results.Results.{Results}
 use Rattle.desk_core.specs.declared.runs.Told.{Told}
 use Rattle.desk_core.specs.declared.runs.Told.TheVariants.{Built, Over}
 use Rattle.desk_core.specs.Answers.{print_answer, printed_reply, run_answer}
-use Rattle.desk_core.specs.Builds.{HasStill, KeepsAll}
+use Rattle.result_cache.specs.Seats.{Seated}
+use Rattle.build_crew.specs.Kept.{HasStill, kept_by}
+use Rattle.build_crew.specs.Rises.{RisesUpTo}
+use Rattle.desk_core.specs.Builds.{BuildsOrReturns, HasClaims, KeepsAll, present_keys}
 use Rattle.desk_core.specs.Netlist.{all_kept, built_count, built_words, done_modules, key_texts, netlist_answer, netlist_of, over_words, unless_over}
-use Rattle.desk_core.specs.Results.{AreFound, AreSound, over_of, state_of}
-use Rattle.desk_core.specs.State.{State, answer}
+use Rattle.desk_core.specs.Results.{AreFound, AreSound, over_of, state_of, view_of}
+use Rattle.desk_core.specs.State.{DeskView, State, answer}
 use Rattle.desk_core.specs.Told.{told_by, told_of}
 use Rattle.desk_core.proofs.Outcomes.{over_cold}
 
@@ -51,7 +54,7 @@ pub told_over : (design : Design) (script : List Word) (results : Results) (over
 told_over design script results over sound found is = is ∙ over_cold design script results sound found
 
 -- a state in which all keys of the design are kept
-pub all_are_kept : (design : Design) (script : List Word) (old new : Results) → filled_keys new.shard ≡ with_keys (filled_keys old.shard) (key_texts script design.modules)
+pub all_are_kept : (design : Design) (script : List Word) (old new : Results) → kept_by new.seats.items ≡ with_keys (kept_by old.seats.items) (key_texts script design.modules)
     → state_of design script new ≡ all_kept (state_of design script old)
 all_are_kept design script old new is = ap (λ (kept : List (List ℕ)). record { design = design; script = script; kept = kept }) is
 
@@ -79,15 +82,32 @@ print_built s after words outcomes (Ok reply) told are is state =
     ∙ ap (answer (print_answer s).reply) state
 
 -- what a command that finds no memory leaves
-pub keeps_all : (design : Design) (script : List Word) (old new : Results) → HasStill (filled_keys old.shard) (filled_keys new.shard) → KeepsAll (state_of design script old) (state_of design script new)
+pub keeps_all : (design : Design) (script : List Word) (old new : Results) → HasStill (kept_by old.seats.items) (kept_by new.seats.items) → KeepsAll (state_of design script old) (state_of design script new)
 keeps_all design script old new still = record { design = refl; script = refl; kept = still }
 
 pub keeps_same : (before after : State) → after ≡ before → KeepsAll before after
 keeps_same before after same = subst (KeepsAll before) (sym same) record { design = refl; script = refl; kept = λ text is. is }
 
 -- what is kept before the results are found is kept after it
-pub still_kept : (design : Design) (script : List Word) (old new : Results) → filled_keys new.shard ≡ with_keys (filled_keys old.shard) (key_texts script design.modules) → HasStill (filled_keys old.shard) (filled_keys new.shard)
-still_kept design script old new is = λ text known. ap (λ (l : List (List ℕ)). has_name l text) is ∙ still_among (filled_keys old.shard) (key_texts script design.modules) text known
+pub still_kept : (design : Design) (script : List Word) (old new : Results) → kept_by new.seats.items ≡ with_keys (kept_by old.seats.items) (key_texts script design.modules) → HasStill (kept_by old.seats.items) (kept_by new.seats.items)
+still_kept design script old new is = λ text known. ap (λ (l : List (List ℕ)). has_name l text) is ∙ still_among (kept_by old.seats.items) (key_texts script design.modules) text known
+
+-- what holds of the parts of a desk holds of what contracts see of it
+module _ (design : Design) (script : List Word) (old : Results) (v : DeskView) (is : view_of design script old ≡ v) where
+  pub claims_seen : (news : List Seated) → HasClaims (key_texts script design.modules) old.seats.items news → HasClaims (present_keys v.state) v.seats news
+  claims_seen news h = subst (λ (w : DeskView). HasClaims (present_keys w.state) w.seats news) is h
+
+  pub ticks_seen : (m n : ℕ) → RisesUpTo (built_count (state_of design script old)) m n → RisesUpTo (built_count v.state) m n
+  ticks_seen m n h = subst (λ (w : DeskView). RisesUpTo (built_count w.state) m n) is h
+
+  pub returns_seen : (news : List Seated) (m n : ℕ) → BuildsOrReturns (built_count (state_of design script old)) old.seats.items news m n
+      → BuildsOrReturns (built_count v.state) v.seats news m n
+  returns_seen news m n h = subst (λ (w : DeskView). BuildsOrReturns (built_count w.state) w.seats news m n) is h
+
+-- what holds anyhow holds after an answer
+pub on_ok : {T P : Type 0} (r : Result T Memory) → P → OnOk r P
+on_ok (Ok value) p = p
+on_ok (Err memory) p = tt
 
 -- what holds anyhow holds after an error
 pub on_err : {T P : Type 0} (r : Result T Memory) → P → OnErr r P

@@ -7,7 +7,9 @@ use Rattle.script_core.specs.declared.built.Built.{Built}
 use Rattle.script_core.specs.contracts.built.Built as results
 use Rattle.script_core.specs.declared.word.Word.{Word}
 use Rattle.script_core.specs.contracts.word.Word as words
-use Rattle.desk_core.specs.State.{State}
+use Rattle.result_cache.specs.Seats.{Seated}
+use Rattle.result_cache.specs.contracts.seat.Seat as seats
+use Rattle.desk_core.specs.State.{DeskView, State}
 
 abbrev pub result_code : Coded Built
 result_code = results.the_row.coded
@@ -17,3 +19,8 @@ state_code =
     code_by (Design × (List Word × List (List ℕ)))
     (coded× designs.the_row.coded (coded× (coded_list words.the_row.coded) (coded_list (coded_list coded_ℕ))))
     (λ s. (s.design, (s.script, s.kept))) (λ p. record { design = p.0; script = p.1.0; kept = p.1.1 }) (λ _. refl)
+
+abbrev pub view_code : Coded DeskView
+view_code =
+    code_by (State × List Seated) (coded× state_code (coded_list seats.the_row.coded))
+    (λ v. (v.state, v.seats)) (λ p. record { state = p.0; seats = p.1 }) (λ _. refl)

@@ -3,6 +3,7 @@ pub mod State
 pub mod Codes
 pub mod Netlist
 pub mod Answers
+pub mod Summary
 pub mod Step
 pub mod Builds
 pub mod Results

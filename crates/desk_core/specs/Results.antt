@@ -1,12 +1,15 @@
 -- What is kept of results: under their keys, and beside the modules.
-use Rattle.std.specs.Prelude.{◌≡◌, ℕ, true, List, [], ◌∷◌, ◌++◌, Option, Some, None, length, slice_get, slice_set}
+use Rattle.std.specs.Prelude.{◌≡◌, ◌<◌, ◌≤◌, ℕ, true, List, [], ◌∷◌, ◌++◌, Option, Some, None, length, slice_get}
 use Rattle.std.specs.List.{list_all}
 use Rattle.std.specs.Option.{is_some, option_or}
 use Rattle.rtl_ir.specs.declared.module.Design.{Design}
 use Rattle.rtl_ir.specs.declared.module.Module.{Module}
 use Rattle.rtl_sig.specs.Names.{has_name}
 use Rattle.rtl_readable.specs.Readable.{IsReadable}
-use Rattle.result_cache.specs.Filled.{HoldsNone, filled_keys}
+use Rattle.atomic_table.specs.Seated.{TableId}
+use Rattle.result_cache.specs.Seats.{Seated}
+use Rattle.build_crew.specs.Kept.{AreAllSeats, kept_by}
+use Rattle.build_crew.specs.declared.finding.Found.{Found}
 use Rattle.script_core.specs.declared.built.Built.{Built}
 use Rattle.script_core.specs.declared.outcome.Outcome.{Outcome}
 use Rattle.script_core.specs.declared.word.Word.{Word}
@@ -15,7 +18,7 @@ use Rattle.script_core.specs.Cold.{named}
 use Rattle.script_core.specs.Keys.{key_of}
 use Rattle.desk_core.specs.declared.results.Results.{Results}
 use Rattle.desk_core.specs.Netlist.{key_text_at, over_line}
-use Rattle.desk_core.specs.State.{State}
+use Rattle.desk_core.specs.State.{DeskView, State}
 
 -- a result is that of the key of the module at a place, and the key is kept
 pub record IsResultAt (script : List Word) (modules : List Module) (keys : List (List ℕ)) (at : ℕ) (built : Built) : Type 0 where
@@ -23,14 +26,36 @@ pub record IsResultAt (script : List Word) (modules : List Module) (keys : List 
   pub value : IsValueOf built.key built.outcome
   pub kept : has_name keys (key_text_at script modules at) ≡ true
 
--- the results of a desk with this design and script: no key is held, and beside a module stands the result of its key, or nothing
+-- these are all seats of a cache, at least one and at most 64, and none of them has a ticket
+pub record AreSeated (cache : TableId) (shards : ℕ) (seats : List Seated) : Type 0 where
+  pub some : 0 < length seats
+  pub few : length seats ≤ 64
+  pub all : AreAllSeats cache (length seats) shards 0 seats
+
+-- the keys of the modules of a design are told by a table of these modules, and by the results beside them
+pub record TellKeys (design : Design) (table : List Module) (script : List Word) (found : List (Option Built)) : Type 0 where
+  pub readable : IsReadable design
+  pub same : table ≡ design.modules
+  pub beside : length found ≡ length design.modules
+  pub own :
+      (at : ℕ) (built : Built) → slice_get found at ≡ Some (Some built) →
+      built.key ≡ key_of design.modules at script
+
+-- the results of a desk with this design and script: the seats are all seats of the cache and have no ticket, and beside a
+-- module stands the result of its key, or nothing
 pub record AreSound (design : Design) (script : List Word) (results : Results) : Type 0 where
   pub readable : IsReadable design
-  pub idle : HoldsNone results.shard
+  pub idle : AreSeated results.cache.table.shared.table_id results.cache.shards results.seats.items
   pub beside : length results.found.items ≡ length design.modules
   pub own :
       (at : ℕ) (built : Built) → slice_get results.found.items at ≡ Some (Some built) →
-      IsResultAt script design.modules (filled_keys results.shard) at built
+      IsResultAt script design.modules (kept_by results.seats.items) at built
+
+-- what was found at each place is the result of the key of the module there
+abbrev pub AreAnswers : List Word → List Module → List (Found Built) → Type 0
+AreAnswers script modules items =
+    (at : ℕ) (found : Found Built) → slice_get items at ≡ Some found →
+    (found.value.key ≡ key_of modules at script) × IsValueOf found.value.key found.value.outcome
 
 -- beside each module stands its result
 abbrev pub AreFound : Results → Type 0
@@ -58,10 +83,10 @@ over_of [] found = None
 over_of (m ∷ modules) [] = None
 over_of (m ∷ modules) (result ∷ found) = option_or (over_beside m result) (over_of modules found)
 
--- the result of the module at a place stands beside it, and the others are as they were
-abbrev pub IsFoundAt : List (Option Built) → List (Option Built) → ℕ → Type 0
-IsFoundAt old new at = (built : Built) × (new ≡ slice_set old at (Some built))
-
 -- the state of a desk with this design, script and results
 abbrev pub state_of : Design → List Word → Results → State
-state_of design script results = record { design = design; script = script; kept = filled_keys results.shard }
+state_of design script results = record { design = design; script = script; kept = kept_by results.seats.items }
+
+-- what contracts see of a desk with them
+abbrev pub view_of : Design → List Word → Results → DeskView
+view_of design script results = record { state = state_of design script results; seats = results.seats.items }

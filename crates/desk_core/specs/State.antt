@@ -1,7 +1,8 @@
--- The state of a desk: a machine of one thread, without a cache.
+-- The state of a desk: a machine of one thread, without a cache; and the seats beside it.
 use Rattle.std.specs.Prelude.{ℕ, List, []}
 use Rattle.rtl_ir.specs.declared.module.Design.{Design}
 use Rattle.reply_lines.specs.declared.reply.Reply.{Reply}
+use Rattle.result_cache.specs.Seats.{Seated}
 use Rattle.script_core.specs.declared.word.Word.{Word}
 
 -- the present design, the script, and the texts of the kept keys in rising order, each once
@@ -9,6 +10,11 @@ pub record State : Type 0 where
   pub design : Design
   pub script : List Word
   pub kept : List (List ℕ)
+
+-- what contracts see of a desk: the state of the machine that it is, and the seats of its workers
+pub record DeskView : Type 0 where
+  pub state : State
+  pub seats : List Seated
 
 -- the state at the start: the empty design, and no key is kept
 abbrev pub first_state : List Word → State

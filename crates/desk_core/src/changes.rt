@@ -18,7 +18,8 @@ impl Desk {
     /// The text's design becomes the present one.
     #[tactic(auto, using(crate::proofs::Changing::loaded, crate::proofs::Changing::refused_load, rtl_write::proofs::Kept::readable))]
     pub(crate) fn load(&mut self, text: &[u8]) -> Result<Reply, Memory>
-        ensures ok { IfOk result (λ reply. IsLoadAnswer self.old text.now (answer reply self.new)) }
+        ensures ok { IfOk result (λ reply. IsLoadAnswer self.old.state text.now (answer reply self.new.state)) }
+        ensures seats { self.new.seats ≡ self.old.seats }
         ensures err { OnErr result (self.new ≡ self.old) }
     {
         match read(self.alloc, text) {
@@ -29,9 +30,10 @@ impl Desk {
 
     /// The design becomes the present one, unless it has a fault.
     #[tactic(auto, using(crate::proofs::Changing::accepted_design, crate::proofs::Changing::refused_design))]
-    fn replace(&mut self, design: Design) -> Result<Reply, Memory>
+    pub fn replace(&mut self, design: Design) -> Result<Reply, Memory>
         requires readable { IsReadable design }
-        ensures ok { IfOk result (λ reply. answer reply self.new ≡ design_answer self.old design.modules) }
+        ensures ok { IfOk result (λ reply. answer reply self.new.state ≡ design_answer self.old.state design.modules) }
+        ensures seats { self.new.seats ≡ self.old.seats }
         ensures err { OnErr result (self.new ≡ self.old) }
     {
         match check(self.alloc, design) {
@@ -44,7 +46,8 @@ impl Desk {
     #[tactic(auto, using(crate::proofs::Changing::taken_design, crate::proofs::Changing::sound_fresh))]
     fn accept(&mut self, design: Checked) -> Result<Reply, Memory>
         requires readable { IsReadable design.design }
-        ensures ok { IfOk result (λ reply. answer reply self.new ≡ design_answer self.old design.design.modules) }
+        ensures ok { IfOk result (λ reply. answer reply self.new.state ≡ design_answer self.old.state design.design.modules) }
+        ensures seats { self.new.seats ≡ self.old.seats }
         ensures err { OnErr result (self.new ≡ self.old) }
     {
         let count = module_count(&design) as usize;
@@ -58,7 +61,8 @@ impl Desk {
     /// The script of the text becomes the present one.
     #[tactic(auto, using(crate::proofs::Changing::read_script, crate::proofs::Changing::refused_script))]
     pub(crate) fn set_script(&mut self, text: &[u8]) -> Result<Reply, Memory>
-        ensures ok { IfOk result (λ reply. answer reply self.new ≡ script_answer self.old text.now) }
+        ensures ok { IfOk result (λ reply. answer reply self.new.state ≡ script_answer self.old.state text.now) }
+        ensures seats { self.new.seats ≡ self.old.seats }
         ensures err { OnErr result (self.new ≡ self.old) }
     {
         match parse_script(self.alloc, text) {
@@ -71,7 +75,8 @@ impl Desk {
     /// The script becomes the present one.
     #[tactic(auto, using(crate::proofs::Changing::taken_script, crate::proofs::Changing::sound_fresh))]
     fn take_script(&mut self, script: Script) -> Result<Reply, Memory>
-        ensures ok { IfOk result (λ reply. answer reply self.new ≡ script_answer_by self.old (Ok script)) }
+        ensures ok { IfOk result (λ reply. answer reply self.new.state ≡ script_answer_by self.old.state (Ok script)) }
+        ensures seats { self.new.seats ≡ self.old.seats }
         ensures err { OnErr result (self.new ≡ self.old) }
     {
         let reply = counted_reply(self.alloc, b"script", script.as_slice().len())?;

@@ -1,10 +1,10 @@
 //! A desk: the present design and script, and what is kept.
 
-ghost use Rattle.std.specs.Prelude.{◌≡◌, ◌≤◌, [], IfOk};
+ghost use Rattle.std.specs.Prelude.{◌≡◌, ◌≤◌, [], IfOk, length};
 ghost use Rattle.desk_core.specs.State.{first_state};
 
 use crate::results::Results;
-use result_cache::Shard;
+use result_cache::{Opened, SharedCache};
 use rtl_bits::{Memory, Seq};
 use rtl_check::{Checked, check};
 use rtl_ir::Design;
@@ -12,8 +12,11 @@ use script_core::Script;
 use std::alloc::Global;
 use std::marker::Model;
 
+/// The number of shards of the cache: so many results can be asked for at once.
+const SHARDS: u32 = 16;
+
 /// The present design and script, and what is kept of results. Contracts see the state of the machine that a session
-/// is.
+/// is, and the seats of the workers.
 #[derive(Drop)]
 pub struct Desk {
     pub(crate) alloc: Global,
@@ -23,16 +26,15 @@ pub struct Desk {
 }
 
 impl Model for Desk {
-    ghost use Rattle.result_cache.specs.Filled.{filled_keys};
-    ghost use Rattle.desk_core.specs.Codes.{state_code};
-    ghost use Rattle.desk_core.specs.State.{State};
-    ghost use Rattle.desk_core.specs.Results.{AreSound};
+    ghost use Rattle.desk_core.specs.Codes.{view_code};
+    ghost use Rattle.desk_core.specs.State.{DeskView};
+    ghost use Rattle.desk_core.specs.Results.{AreSound, view_of};
 
-    ghost Value = { State };
+    ghost Value = { DeskView };
 
-    ghost coded = { state_code };
+    ghost coded = { view_code };
 
-    ghost view = { λ d. record { design = d.design.design; script = d.script; kept = filled_keys d.results.shard } };
+    ghost view = { λ d. view_of d.design.design d.script d.results };
 
     ghost invariant = { λ d. AreSound d.design.design d.script d.results };
 }
@@ -49,19 +51,21 @@ fn no_modules(alloc: Global) -> Result<Checked, Memory>
 }
 
 impl Desk {
-    /// A desk with the empty design and this script, of which no key is kept. The number of workers is from 1 to 64; so
-    /// far the one thread of the caller does all work.
-    #[tactic(auto, using(crate::proofs::Starting::none_filled, crate::proofs::Starting::sound_first, result_cache::proofs::FilledKeys::none_at_first))]
+    /// A desk with the empty design and this script, of which no key is kept, with so many workers, from 1 to 64.
     pub fn make(alloc: Global, script: Script, workers: u32) -> Result<Desk, Memory>
         requires some { 1 ≤ workers }
         requires few { workers ≤ 64 }
-        ensures value { IfOk result (λ desk. desk ≡ first_state script) }
+        ensures value { IfOk result (λ desk. desk.state ≡ first_state script) }
+        ensures workers { IfOk result (λ desk. length desk.seats ≡ workers) }
     {
-        let _workers = workers;
         let design = no_modules(alloc)?;
-        let shard = Shard::make(alloc);
+        let Opened { cache, seats } = SharedCache::make(alloc, workers, SHARDS)?;
         let found = Vec::new(alloc);
-        let results = Results { shard, found };
+        let results = Results {
+            cache,
+            seats,
+            found,
+        };
         Ok(Desk {
             alloc,
             design,

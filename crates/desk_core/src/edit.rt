@@ -82,7 +82,8 @@ impl Desk {
     /// Each module of the text's design takes the place of the one of its name, or comes last.
     #[tactic(auto, using(crate::proofs::Changing::edited, crate::proofs::Changing::refused_edit))]
     pub(crate) fn edit(&mut self, text: &[u8]) -> Result<Reply, Memory>
-        ensures ok { IfOk result (λ reply. IsEditAnswer self.old text.now (answer reply self.new)) }
+        ensures ok { IfOk result (λ reply. IsEditAnswer self.old.state text.now (answer reply self.new.state)) }
+        ensures seats { self.new.seats ≡ self.old.seats }
         ensures err { OnErr result (self.new ≡ self.old) }
     {
         match read(self.alloc, text) {
@@ -96,7 +97,8 @@ impl Desk {
     #[tactic(auto, using(crate::proofs::Changing::taken_edits, crate::proofs::Staying::shorter_edited, crate::proofs::Staying::unedited_long))]
     fn take_edits(&mut self, text: &[u8], edits: Design) -> Result<Reply, Memory>
         requires reads { Reads text.now edits }
-        ensures ok { IfOk result (λ reply. IsEdited self.old text.now edits (answer reply self.new)) }
+        ensures ok { IfOk result (λ reply. IsEdited self.old.state text.now edits (answer reply self.new.state)) }
+        ensures seats { self.new.seats ≡ self.old.seats }
         ensures err { OnErr result (self.new ≡ self.old) }
     {
         let alloc = self.alloc;
@@ -117,7 +119,8 @@ impl Desk {
     /// The module of this name is taken away. The results of the other modules stay beside them.
     #[tactic(auto, using(crate::proofs::Staying::place_inside))]
     pub(crate) fn remove(&mut self, name: &[u8]) -> Result<Reply, Memory>
-        ensures ok { IfOk result (λ reply. answer reply self.new ≡ remove_answer self.old name.now) }
+        ensures ok { IfOk result (λ reply. answer reply self.new.state ≡ remove_answer self.old.state name.now) }
+        ensures seats { self.new.seats ≡ self.old.seats }
         ensures err { OnErr result (self.new ≡ self.old) }
     {
         let alloc = self.alloc;

@@ -31,9 +31,9 @@ pub fn replies_go_on()
 
 /// The present design of a desk is one that a text can give, and it has no fault; its script is one.
 pub fn desks_are_sound(desk: &Desk)
-    ensures readable { IsReadable desk.now.design }
-    ensures faultless { check_faults desk.now.design.modules ≡ [] }
-    ensures script { IsScript desk.now.script }
+    ensures readable { IsReadable desk.now.state.design }
+    ensures faultless { check_faults desk.now.state.design.modules ≡ [] }
+    ensures script { IsScript desk.now.state.script }
 {
     let _script = desk.script.as_slice();
     let _design = desk.design.design();

@@ -1,12 +1,18 @@
-//! A session on one thread: a design and a script that commands change, the results that are kept, and the replies.
+//! A session: a design and a script that commands change, the results that are kept and that workers build, and the
+//! replies.
 #![tactic(auto)]
 
 mod beside;
 mod changes;
 mod command;
+mod crew;
+mod crew_jobs;
+mod crew_run;
 mod desk;
 mod edit;
 mod kept;
+mod key_order;
+mod keys;
 pub mod laws;
 mod modules;
 mod named;
@@ -14,7 +20,9 @@ mod netlist;
 mod results;
 mod runs;
 mod simulate;
+mod summary;
 
+pub use crew::Crew;
 pub use desk::Desk;
 pub use desk_read::{Command, CommandReader, SimAsk};
 pub use reply_lines::Reply;

@@ -2,14 +2,17 @@
 
 ghost use Rattle.std.specs.Prelude.{◌≡◌, IfOk, OnErr, OnOk};
 ghost use Rattle.rtl_write.specs.Text.{text_of};
-ghost use Rattle.result_cache.specs.Filled.{filled_keys, with_keys};
+ghost use Rattle.result_cache.specs.Filled.{with_keys};
+ghost use Rattle.build_crew.specs.Kept.{HasStill, kept_by};
+ghost use Rattle.build_crew.specs.Rises.{RisesUpTo};
 ghost use Rattle.desk_core.specs.Answers.{print_answer, printed_reply, run_answer};
-ghost use Rattle.desk_core.specs.Builds.{HasStill, KeepsAll, RisesUpTo};
+ghost use Rattle.desk_core.specs.Builds.{BuildsOrReturns, HasClaims, KeepsAll, present_keys};
 ghost use Rattle.desk_core.specs.Netlist.{built_count, done_modules, key_texts};
 ghost use Rattle.desk_core.specs.Results.{AreFound, AreSound, outcomes_of, state_of};
 ghost use Rattle.desk_core.specs.State.{answer};
 ghost use Rattle.desk_core.specs.Told.{told_by, told_of};
 
+use crate::crew::Crew;
 use crate::desk::Desk;
 use crate::modules::module_count;
 use crate::netlist::{built_words, netlist_text, over_words};
@@ -19,6 +22,10 @@ use rtl_bits::{Memory, Steps, Text};
 use rtl_check::Checked;
 use script_core::Script;
 use std::alloc::Global;
+use std::marker::{Send, Sync};
+use std::sync::Wait;
+use std::thread::Threads;
+use work_crew::Gate;
 
 /// What is told where the netlist is needed.
 #[derive(Drop)]
@@ -44,8 +51,8 @@ fn told_by(over: Option<Text>, words: Text) -> Result<Told, Memory>
 
 /// Finds the results of all modules, and tells how many were built, or which module passes a limit.
 #[tactic(auto, using(crate::proofs::Told::told_is, crate::proofs::Told::told_over))]
-pub(crate) fn tell<L>(
-    alloc: Global,
+pub(crate) fn tell<R: Threads + Wait + Sync, G: Gate, L: Send>(
+    crew: &Crew<R, G>,
     design: &Checked,
     script: &Script,
     results: &mut Results,
@@ -54,13 +61,19 @@ pub(crate) fn tell<L>(
     requires sound { AreSound design.now.design script.now results.old }
     ensures sound { AreSound design.now.design script.now results.new }
     ensures told { IfOk result (λ told. told ≡ told_of (state_of design.now.design script.now results.old)) }
-    ensures filled { OnOk result (filled_keys results.new.shard ≡
-        with_keys (filled_keys results.old.shard) (key_texts script.now design.now.design.modules)) }
+    ensures filled { OnOk result (kept_by results.new.seats.items ≡
+        with_keys (kept_by results.old.seats.items) (key_texts script.now design.now.design.modules)) }
     ensures found { OnOk result (AreFound results.new) }
-    ensures err { OnErr result (HasStill (filled_keys results.old.shard) (filled_keys results.new.shard)) }
-    ensures ticks { RisesUpTo (built_count (state_of design.now.design script.now results.old)) meter.old meter.new }
+    ensures claims { OnOk result (HasClaims (key_texts script.now design.now.design.modules)
+        results.old.seats.items results.new.seats.items) }
+    ensures ticks { OnOk result (RisesUpTo (built_count (state_of design.now.design script.now results.old)) meter.old
+        meter.new) }
+    ensures err { OnErr result (HasStill (kept_by results.old.seats.items) (kept_by results.new.seats.items)) }
+    ensures returned { BuildsOrReturns (built_count (state_of design.now.design script.now results.old))
+        results.old.seats.items results.new.seats.items meter.old meter.new }
 {
-    let built = find_all(alloc, design, script, results, meter)?;
+    let alloc = crew.alloc;
+    let built = find_all(crew, design, script, results, meter)?;
     let words = built_words(alloc, built, module_count(design) as usize)?;
     let modules = design.design().modules.as_slice();
     let over = over_words(alloc, modules, results.found.as_slice())?;
@@ -83,18 +96,18 @@ fn printed(alloc: Global, design: &Checked, results: &Results, words: Text) -> R
 impl Desk {
     /// Builds what is not kept.
     #[tactic(auto, using(crate::proofs::Told::run_built, crate::proofs::Told::answer_over, crate::proofs::Told::all_are_kept, crate::proofs::Told::keeps_all))]
-    pub(crate) fn run<L>(&mut self, meter: &mut Steps<L>) -> Result<Reply, Memory>
-        ensures ok { IfOk result (λ reply. answer reply self.new ≡ run_answer self.old) }
-        ensures err { OnErr result (KeepsAll self.old self.new) }
-        ensures ticks { RisesUpTo (built_count self.old) meter.old meter.new }
+    pub(crate) fn run<R: Threads + Wait + Sync, G: Gate, L: Send>(
+        &mut self,
+        crew: &Crew<R, G>,
+        meter: &mut Steps<L>,
+    ) -> Result<Reply, Memory>
+        ensures ok { IfOk result (λ reply. answer reply self.new.state ≡ run_answer self.old.state) }
+        ensures claims { OnOk result (HasClaims (present_keys self.old.state) self.old.seats self.new.seats) }
+        ensures ticks { OnOk result (RisesUpTo (built_count self.old.state) meter.old meter.new) }
+        ensures err { OnErr result (KeepsAll self.old.state self.new.state) }
+        ensures returned { BuildsOrReturns (built_count self.old.state) self.old.seats self.new.seats meter.old meter.new }
     {
-        match tell(
-            self.alloc,
-            &self.design,
-            &self.script,
-            &mut self.results,
-            meter,
-        )? {
+        match tell(crew, &self.design, &self.script, &mut self.results, meter)? {
             Told::Built(words) => Ok(ok_reply(ok_line(self.alloc, words.as_slice())?)),
             Told::Over(words) => error_reply(self.alloc, words.as_slice()),
         }
@@ -102,18 +115,18 @@ impl Desk {
 
     /// As `run`, and then the netlist is written.
     #[tactic(auto, using(crate::proofs::Told::print_built, crate::proofs::Told::answer_over, crate::proofs::Told::all_are_kept, crate::proofs::Told::keeps_all, crate::proofs::Outcomes::outcomes_cold))]
-    pub(crate) fn print<L>(&mut self, meter: &mut Steps<L>) -> Result<Reply, Memory>
-        ensures ok { IfOk result (λ reply. answer reply self.new ≡ print_answer self.old) }
-        ensures err { OnErr result (KeepsAll self.old self.new) }
-        ensures ticks { RisesUpTo (built_count self.old) meter.old meter.new }
+    pub(crate) fn print<R: Threads + Wait + Sync, G: Gate, L: Send>(
+        &mut self,
+        crew: &Crew<R, G>,
+        meter: &mut Steps<L>,
+    ) -> Result<Reply, Memory>
+        ensures ok { IfOk result (λ reply. answer reply self.new.state ≡ print_answer self.old.state) }
+        ensures claims { OnOk result (HasClaims (present_keys self.old.state) self.old.seats self.new.seats) }
+        ensures ticks { OnOk result (RisesUpTo (built_count self.old.state) meter.old meter.new) }
+        ensures err { OnErr result (KeepsAll self.old.state self.new.state) }
+        ensures returned { BuildsOrReturns (built_count self.old.state) self.old.seats self.new.seats meter.old meter.new }
     {
-        match tell(
-            self.alloc,
-            &self.design,
-            &self.script,
-            &mut self.results,
-            meter,
-        )? {
+        match tell(crew, &self.design, &self.script, &mut self.results, meter)? {
             Told::Built(words) => printed(self.alloc, &self.design, &self.results, words),
             Told::Over(words) => error_reply(self.alloc, words.as_slice()),
         }

@@ -6,8 +6,12 @@ use rtl_bits::{Memory, Steps, Text};
 use script_core::default_script;
 use std::alloc::Global;
 use std::io;
+use std::marker::Sync;
 use std::process::ExitCode;
+use std::sync::Wait;
+use std::thread::Threads;
 use synth_io::{Source, StdSink, StdSource, read_input, write_reply};
+use work_crew::NoGate;
 
 /// The name of the counter of builds.
 struct Builds;
@@ -35,22 +39,24 @@ impl Session {
     }
 
     /// Answers a command, where there is one.
-    fn answer(
+    fn answer<R: Threads + Wait + Sync>(
         &mut self,
+        rt: &R,
         command: Option<Command>,
         meter: &mut Steps<Builds>,
     ) -> Result<(), Memory> {
         let Some(command) = command else {
             return Ok(());
         };
-        let reply = self.desk.command(&command, meter)?;
+        let reply = self.desk.command(rt, &command, &NoGate, meter)?;
         self.ended = reply.last;
         self.replies.extend(reply.text.as_slice())
     }
 
     /// Answers the commands of lines, each of which ends in LF.
-    fn answer_lines(
+    fn answer_lines<R: Threads + Wait + Sync>(
         &mut self,
+        rt: &R,
         alloc: Global,
         lines: &[u8],
         meter: &mut Steps<Builds>,
@@ -61,14 +67,15 @@ impl Session {
                 return Ok(());
             }
             let command = reader.feed(line)?;
-            self.answer(command, meter)?;
+            self.answer(rt, command, meter)?;
         }
-        self.answer(reader.finish(), meter)
+        self.answer(rt, reader.finish(), meter)
     }
 }
 
 /// The replies to the commands of an input.
-fn replies<S: Source>(
+fn replies<R: Threads + Wait + Sync, S: Source>(
+    rt: &R,
     alloc: Global,
     source: &mut S,
     meter: &mut Steps<Builds>,
@@ -77,13 +84,18 @@ fn replies<S: Source>(
         return Err(Memory);
     };
     let mut session = Session::make(alloc)?;
-    session.answer_lines(alloc, input.as_slice(), meter)?;
+    session.answer_lines(rt, alloc, input.as_slice(), meter)?;
     Ok(session.replies)
 }
 
 fn main(rt: HostRuntime) -> ExitCode {
     let mut meter = Steps::make(&Builds);
-    let answered = replies(rt.alloc(), &mut StdSource::make(rt.reader()), &mut meter);
+    let answered = replies(
+        &rt,
+        rt.alloc(),
+        &mut StdSource::make(rt.reader()),
+        &mut meter,
+    );
     meter.end(&Builds);
     let Ok(text) = answered else {
         return ExitCode::FAILURE;

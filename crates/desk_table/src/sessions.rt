@@ -1,10 +1,16 @@
 //! Sessions over a desk.
 
+ghost use Rattle.std.specs.Prelude.{◌≤◌};
+
 use desk_core::{Command, CommandReader, Desk, Reply};
 use rtl_bits::{Memory, Steps, Text};
 use script_core::{Script, ScriptFault, parse_script};
 use std::alloc::Global;
+use std::marker::Sync;
+use std::sync::Wait;
+use std::thread::Threads;
 use table_rows::str_of;
+use work_crew::NoGate;
 
 /// The name of the counter of builds.
 struct Builds;
@@ -25,20 +31,22 @@ impl Told {
 }
 
 /// Answers a command, where there is one.
-fn answer(
+fn answer<R: Threads + Wait + Sync>(
+    rt: &R,
     desk: &mut Desk,
     command: Option<Command>,
     told: &mut Told,
     meter: &mut Steps<Builds>,
 ) -> Result<(), Memory> {
     match command {
-        Some(command) => told.add(&desk.command(&command, meter)?),
+        Some(command) => told.add(&desk.command(rt, &command, &NoGate, meter)?),
         None => Ok(()),
     }
 }
 
 /// Answers the commands of the lines of a session.
-fn answer_lines(
+fn answer_lines<R: Threads + Wait + Sync>(
+    rt: &R,
     alloc: Global,
     desk: &mut Desk,
     lines: &[u8],
@@ -52,9 +60,9 @@ fn answer_lines(
             return Ok(told);
         }
         let command = reader.feed(line)?;
-        answer(desk, command, &mut told, meter)?;
+        answer(rt, desk, command, &mut told, meter)?;
     }
-    answer(desk, reader.finish(), &mut told, meter)?;
+    answer(rt, desk, reader.finish(), &mut told, meter)?;
     Ok(told)
 }
 
@@ -67,24 +75,52 @@ fn script_of(alloc: Global, text: &[u8]) -> Result<Option<Script>, Memory> {
     }
 }
 
-/// What a session is answered by a desk with this script, and how many builds it counts.
-fn session(alloc: Global, script: Script, lines: &[u8]) -> Result<(Told, u64), Memory> {
-    let mut desk = Desk::make(alloc, script, 1)?;
+/// What a session is answered by a desk with this script and so many workers, from 1 to 64, and how many builds it
+/// counts.
+fn session<R: Threads + Wait + Sync>(
+    rt: &R,
+    alloc: Global,
+    script: Script,
+    workers: u32,
+    lines: &[u8],
+) -> Result<(Told, u64), Memory>
+    requires some { 1 ≤ workers }
+    requires few { workers ≤ 64 }
+{
+    let mut desk = Desk::make(alloc, script, workers)?;
     let mut meter = Steps::make(&Builds);
-    let told = answer_lines(alloc, &mut desk, lines, &mut meter);
+    let told = answer_lines(rt, alloc, &mut desk, lines, &mut meter);
     let builds = meter.end(&Builds);
     Ok((told?, builds))
 }
 
-/// Whether the commands of a session are answered with these bytes, and so many builds are counted.
-pub fn is_answered(alloc: Global, fields: &[&[u8]]) -> Result<bool, Memory> {
+/// Whether a desk with so many workers answers the commands of a session with these bytes and counts so many builds.
+fn holds_by<R: Threads + Wait + Sync>(
+    rt: &R,
+    alloc: Global,
+    workers: u32,
+    fields: &[&[u8]],
+) -> Result<bool, Memory>
+    requires some { 1 ≤ workers }
+    requires few { workers ≤ 64 }
+{
     let [_, script, builds, lines, replies] = fields else {
         return Ok(false);
     };
     let Some(script) = script_of(alloc, script)? else {
         return Ok(false);
     };
-    let (told, counted) = session(alloc, script, lines)?;
+    let (told, counted) = session(rt, alloc, script, workers, lines)?;
     let is_counted = str_of(builds).parse::<u64>().ok() == Some(counted);
     Ok(is_counted && told.text.as_slice() == *replies)
+}
+
+/// Whether the commands of a session are answered with these bytes, and so many builds are counted, by one worker and by
+/// four.
+pub fn is_answered<R: Threads + Wait + Sync>(
+    rt: &R,
+    alloc: Global,
+    fields: &[&[u8]],
+) -> Result<bool, Memory> {
+    Ok(holds_by(rt, alloc, 1, fields)? && holds_by(rt, alloc, 4, fields)?)
 }

@@ -9,6 +9,7 @@ use std::rt::Env;
 use std::{env, io};
 use synth_io::{StdSink, StdSource};
 pub use synth_run::{Mode, Plan, Status, WordFault, read_words, run};
+use work_crew::NoGate;
 
 /// The program's arguments without its own name. One that is no text has no meaning.
 fn words_of(rt: &(impl Env + AllocGlobal)) -> Result<Vec<String>, Status> {
@@ -31,10 +32,12 @@ fn main(rt: HostRuntime) -> ExitCode {
     let mut meter = Steps::make(&Builds);
     let status = match words_of(&rt) {
         Ok(words) => run(
+            &rt,
             rt.alloc(),
             words.as_slice(),
             &mut StdSource::make(rt.reader()),
             &mut StdSink::make(io::writer(&rt)),
+            &NoGate,
             &mut meter,
         ),
         Err(status) => status,

@@ -2,9 +2,13 @@
 
 use rtl_bits::{Memory, Steps, Text};
 use std::alloc::Global;
+use std::marker::Sync;
+use std::sync::Wait;
+use std::thread::Threads;
 use synth_io::{MemSink, MemSource, Sink, Source};
 use synth_run::{Status, run};
 use table_rows::str_of;
+use work_crew::NoGate;
 
 /// The name of the counter of builds.
 pub struct Builds;
@@ -40,7 +44,7 @@ pub fn numbers_of(alloc: Global, field: &[u8]) -> Result<Vec<u64>, Memory> {
 }
 
 /// The words in a field.
-fn words_of(alloc: Global, field: &[u8]) -> Result<Vec<String>, Memory> {
+pub fn words_of(alloc: Global, field: &[u8]) -> Result<Vec<String>, Memory> {
     let mut words = Vec::new(alloc);
     for word in str_of(field).split(' ') {
         if !word.is_empty() {
@@ -51,24 +55,29 @@ fn words_of(alloc: Global, field: &[u8]) -> Result<Vec<String>, Memory> {
 }
 
 /// Makes a call over a source and a sink, and gives how it ended and how many builds it counted.
-pub fn count_builds<S: Source, K: Sink>(
+pub fn count_builds<R: Threads + Wait + Sync, S: Source, K: Sink>(
+    rt: &R,
     alloc: Global,
     words: &[String],
     source: &mut S,
     sink: &mut K,
 ) -> (Status, u64) {
     let mut meter = Steps::make(&Builds);
-    let status = run(alloc, words, source, sink, &mut meter);
+    let status = run(rt, alloc, words, source, sink, &NoGate, &mut meter);
     (status, meter.end(&Builds))
 }
 
 /// Makes the call over memory.
-pub fn make_call(alloc: Global, call: Call<'_>) -> Result<Ended, Memory> {
+pub fn make_call<R: Threads + Wait + Sync>(
+    rt: &R,
+    alloc: Global,
+    call: Call<'_>,
+) -> Result<Ended, Memory> {
     let words = words_of(alloc, call.words)?;
     let input = Text::from_slice(alloc, call.input)?;
     let mut source = MemSource::make(input, numbers_of(alloc, call.read)?);
     let mut sink = MemSink::make(alloc, ROOM, numbers_of(alloc, call.write)?)?;
-    let (status, builds) = count_builds(alloc, words.as_slice(), &mut source, &mut sink);
+    let (status, builds) = count_builds(rt, alloc, words.as_slice(), &mut source, &mut sink);
     Ok(Ended {
         status,
         builds,
@@ -82,7 +91,11 @@ pub fn has_code(status: Status, code: &[u8]) -> bool {
 }
 
 /// Whether a call ends with a status, writes these bytes, and counts so many builds, where that is told.
-pub fn is_answered(alloc: Global, fields: &[&[u8]]) -> Result<bool, Memory> {
+pub fn is_answered<R: Threads + Wait + Sync>(
+    rt: &R,
+    alloc: Global,
+    fields: &[&[u8]],
+) -> Result<bool, Memory> {
     let [_, words, read, write, builds, code, input, output] = fields else {
         return Ok(false);
     };
@@ -92,13 +105,17 @@ pub fn is_answered(alloc: Global, fields: &[&[u8]]) -> Result<bool, Memory> {
         write,
         input,
     };
-    let ended = make_call(alloc, call)?;
+    let ended = make_call(rt, alloc, call)?;
     let is_told = builds.is_empty() || str_of(builds).parse::<u64>().ok() == Some(ended.builds);
     Ok(is_told && has_code(ended.status, code) && ended.sink.bytes() == *output)
 }
 
 /// Whether so many lines of the netlist of an input begin with these bytes.
-pub fn has_lines(alloc: Global, fields: &[&[u8]]) -> Result<bool, Memory> {
+pub fn has_lines<R: Threads + Wait + Sync>(
+    rt: &R,
+    alloc: Global,
+    fields: &[&[u8]],
+) -> Result<bool, Memory> {
     let [_, start, count, input] = fields else {
         return Ok(false);
     };
@@ -108,7 +125,7 @@ pub fn has_lines(alloc: Global, fields: &[&[u8]]) -> Result<bool, Memory> {
         write: b"",
         input,
     };
-    let ended = make_call(alloc, call)?;
+    let ended = make_call(rt, alloc, call)?;
     let lines = ended.sink.bytes().split(|byte| *byte == b'\n');
     let found = lines.filter(|line| line.starts_with(start)).count();
     let is_counted = str_of(count).parse::<usize>().ok() == Some(found);

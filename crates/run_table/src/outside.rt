@@ -5,27 +5,35 @@ ghost use Rattle.synth_run.specs.Replies.{IsCompleted};
 use crate::calls::{Builds, count_builds};
 use rtl_bits::{Memory, Steps, Text};
 use std::alloc::Global;
+use std::marker::Sync;
+use std::sync::Wait;
+use std::thread::Threads;
 use synth_io::{MemSink, StdSink, StdSource, SureSink, SureSource};
 use synth_run::{Status, run};
+use work_crew::NoGate;
 
 /// How a call over so many spaces ends, and what it writes.
-fn ended_over(alloc: Global, count: usize) -> Result<(Status, MemSink), Memory> {
+fn ended_over<R: Threads + Wait + Sync>(
+    rt: &R,
+    alloc: Global,
+    count: usize,
+) -> Result<(Status, MemSink), Memory> {
     let spaces = vec![in alloc; b' '; count]?;
     let mut source = SureSource::make(Text::from_vec(spaces)?);
     let mut sink = MemSink::make(alloc, 100, Vec::new(alloc))?;
-    let (status, _builds) = count_builds(alloc, &[], &mut source, &mut sink);
+    let (status, _builds) = count_builds(rt, alloc, &[], &mut source, &mut sink);
     Ok((status, sink))
 }
 
 /// Whether as many spaces as an input can have are an empty text.
-pub fn is_longest(alloc: Global) -> Result<bool, Memory> {
-    let (status, sink) = ended_over(alloc, 67_108_864)?;
+pub fn is_longest<R: Threads + Wait + Sync>(rt: &R, alloc: Global) -> Result<bool, Memory> {
+    let (status, sink) = ended_over(rt, alloc, 67_108_864)?;
     Ok(status == Status::Done && sink.bytes().is_empty())
 }
 
 /// Whether one more is refused.
-pub fn is_too_long(alloc: Global) -> Result<bool, Memory> {
-    let (status, sink) = ended_over(alloc, 67_108_865)?;
+pub fn is_too_long<R: Threads + Wait + Sync>(rt: &R, alloc: Global) -> Result<bool, Memory> {
+    let (status, sink) = ended_over(rt, alloc, 67_108_865)?;
     Ok(status == Status::Refused && sink.bytes() == b"error 17 input\n".as_slice())
 }
 
@@ -33,26 +41,31 @@ pub fn is_too_long(alloc: Global) -> Result<bool, Memory> {
 const EMPTY: &[u8] = b"module \\e\nend\n";
 
 /// Over a source and a sink that never fail, no fault is answered.
-fn over_sure(alloc: Global, source: &mut SureSource, sink: &mut SureSink) -> Status
+fn over_sure<R: Threads + Wait + Sync>(
+    rt: &R,
+    alloc: Global,
+    source: &mut SureSource,
+    sink: &mut SureSink,
+) -> Status
     ensures complete { IsCompleted result }
 {
     let mut meter = Steps::make(&Builds);
-    let status = run(alloc, &[], source, sink, &mut meter);
+    let status = run(rt, alloc, &[], source, sink, &NoGate, &mut meter);
     meter.end(&Builds);
     status
 }
 
 /// Whether a call over a source and a sink that never fail is done.
-pub fn is_sure(alloc: Global) -> Result<bool, Memory> {
+pub fn is_sure<R: Threads + Wait + Sync>(rt: &R, alloc: Global) -> Result<bool, Memory> {
     let mut source = SureSource::make(Text::from_slice(alloc, EMPTY)?);
-    Ok(over_sure(alloc, &mut source, &mut SureSink::make()) == Status::Done)
+    Ok(over_sure(rt, alloc, &mut source, &mut SureSink::make()) == Status::Done)
 }
 
 /// Whether a call over a reader and a writer of std is done, writes the netlist, and counts a build.
-pub fn is_standard(alloc: Global) -> Result<bool, Memory> {
+pub fn is_standard<R: Threads + Wait + Sync>(rt: &R, alloc: Global) -> Result<bool, Memory> {
     let mut written = Vec::new(alloc);
     let mut source = StdSource::make(EMPTY);
     let mut sink = StdSink::make(&mut written);
-    let ended = count_builds(alloc, &[], &mut source, &mut sink);
+    let ended = count_builds(rt, alloc, &[], &mut source, &mut sink);
     Ok(ended == (Status::Done, 1) && written.as_slice() == EMPTY)
 }

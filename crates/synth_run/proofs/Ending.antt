@@ -1,6 +1,6 @@
 -- How a session ends, by whether it was held to its end or broke off.
-use Rattle.std.proofs.Common.{◌≡◌, ◌⊎◌, ℕ, List, [], Bool, true, false, Option, Some, None, Result, Ok, Err, inl, inr, refl, sym, subst, ◌∙◌}
-use Rattle.std.specs.Prelude.{IfErr, IfOk, IfSome, OnErr, OnOk}
+use Rattle.std.proofs.Common.{◌≡◌, ◌⊎◌, ℕ, List, Bool, true, false, Option, Some, None, Result, Ok, Err, inl, inr, refl, sym, subst, ◌∙◌}
+use Rattle.std.specs.Prelude.{IfErr, IfOk, IfSome, OnErr, OnOk, OnSome}
 use Rattle.std.specs.Io.KnownBytes.{Consumes}
 use Rattle.script_core.specs.declared.word.Word.{Word}
 use Rattle.script_core.specs.Words.{IsScript}
@@ -8,12 +8,13 @@ use Rattle.desk_core.specs.State.{first_state}
 use Rattle.synth_run.specs.declared.program.Status.{Status}
 use Rattle.synth_run.specs.declared.program.Status.TheVariants as statuses
 use Rattle.synth_run.specs.declared.words.Mode.{Mode}
-use Rattle.synth_run.specs.declared.words.Mode.TheVariants.{Session}
+use Rattle.synth_run.specs.declared.words.Mode.TheVariants.{Synth, Session, Generate}
 use Rattle.synth_run.specs.declared.words.Plan.{Plan}
 use Rattle.synth_run.specs.declared.session.Stop.{Stop}
 use Rattle.synth_run.specs.declared.session.Stop.TheVariants as halts
 use Rattle.synth_run.specs.Builds.{CountsTurns}
-use Rattle.synth_run.specs.Replies.{AnswersTaken, HasAnswered, HasBegun, HasRefined, IsPrintedSession, IsReadThrough, status_of}
+use Rattle.synth_run.specs.Refined.{IsRefinedBy}
+use Rattle.synth_run.specs.Replies.{AnswersTaken, HasAnswered, HasBegun, HasRefined, IsCompleted, IsPrintedSession, IsReadThrough, status_of}
 use Rattle.synth_run.specs.Taking.{Broken, Held}
 use Rattle.synth_run.proofs.Replying.{begun_none, broken_answers, broken_begun, broken_counted, held_answered, held_begins, held_counted, held_prints, held_through}
 
@@ -51,7 +52,7 @@ module _ (script : List Word) (good : IsScript script) (left rest had has : Opti
 
 -- nothing was read or written
 pub begun_nothing : (script : List Word) (left had : Option (List ℕ)) → IsScript script → HasBegun Session script left had had
-begun_nothing script left had good = begun_none Session script left had good (inr refl)
+begun_nothing script left had good = begun_none Session script left had good
 
 -- ---- the call
 
@@ -59,8 +60,11 @@ begun_nothing script left had good = begun_none Session script left had good (in
 pub begins : (mode : Mode) (script : List Word) (left had has : Option (List ℕ)) (r : Result Bool Stop) → IfOk r (λ error. HasAnswered mode script error left had has)
     → OnErr r (HasBegun mode script left had has) → HasBegun mode script left had has
 begins mode script left had has (Err stop) ok err = err
-begins mode script None had has (Ok error) ok err = tt
-begins mode script (Some input) had has (Ok error) ok err = (ok.0, ok.1, held_begins ok.0 had has ok.2)
+begins Synth script None had has (Ok error) ok err = tt
+begins Session script None had has (Ok error) ok err = tt
+begins Synth script (Some input) had has (Ok error) ok err = (ok.0, ok.1, held_begins ok.0 had has ok.2)
+begins Session script (Some input) had has (Ok error) ok err = (ok.0, ok.1, held_begins ok.0 had has ok.2)
+begins (Generate count) script left had has (Ok error) ok err = (ok.0, ok.1, held_begins ok.0 had has ok.2)
 
 -- of a plan that words have
 pub planned : (o : Option Plan) (plan : Plan) (P : Plan → Type 0) → o ≡ Some plan → P plan → IfSome o P
@@ -79,3 +83,70 @@ refined script (Some input) had has (Ok error) status is prints = λ _. prints
 refined script (Some input) had has (Err halts.Source) status is prints = λ e. absurd (not_done status statuses.ReadFault is (λ d. cc) (λ d. cc) e)
 refined script (Some input) had has (Err halts.Sink) status is prints = λ e. absurd (not_done status statuses.WriteFault is (λ d. cc) (λ d. cc) e)
 refined script (Some input) had has (Err halts.Memory) status is prints = λ e. absurd (not_done status statuses.Memory is (λ d. cc) (λ d. cc) e)
+
+-- the netlist of one text
+pub refined_text : (script : List Word) (left had has : Option (List ℕ)) (r : Result Bool Stop) (status : Status) → status ≡ status_of r
+    → (r ≡ Ok false → IfSome left (λ input. IsRefinedBy script input had has)) → IfSome left (λ input. HasRefined Synth status script input had has)
+refined_text script None had has r status is refines = tt
+refined_text script (Some input) had has (Ok false) status is refines = λ _. refines refl
+refined_text script (Some input) had has (Ok true) status is refines = λ done. let e : statuses.Refused ≡ statuses.Done = sym is ∙ done in absurd cc
+refined_text script (Some input) had has (Err halts.Source) status is refines = λ done. let e : statuses.ReadFault ≡ statuses.Done = sym is ∙ done in absurd cc
+refined_text script (Some input) had has (Err halts.Sink) status is refines = λ done. let e : statuses.WriteFault ≡ statuses.Done = sym is ∙ done in absurd cc
+refined_text script (Some input) had has (Err halts.Memory) status is refines = λ done. let e : statuses.Memory ≡ statuses.Done = sym is ∙ done in absurd cc
+
+-- what a status says of how a call was answered
+module _ (mode : Mode) (script : List Word) (left rest had has : Option (List ℕ)) (r : Result Bool Stop) (status : Status) (is : status ≡ status_of r)
+    (ok : IfOk r (λ error. HasAnswered mode script error left had has)) (through : OnOk r (IsReadThrough mode left rest)) where
+  pub done : status ≡ statuses.Done → HasAnswered mode script false left had has × IsReadThrough mode left rest
+  done e = by r (sym is ∙ e) ok through
+    where
+      by : (r : Result Bool Stop) → status_of r ≡ statuses.Done → IfOk r (λ error. HasAnswered mode script error left had has) → OnOk r (IsReadThrough mode left rest)
+          → HasAnswered mode script false left had has × IsReadThrough mode left rest
+      by (Ok false) e ok through = (ok, through)
+      by (Ok true) e ok through = absurd cc
+      by (Err halts.Source) e ok through = absurd cc
+      by (Err halts.Sink) e ok through = absurd cc
+      by (Err halts.Memory) e ok through = absurd cc
+
+  pub refused : status ≡ statuses.Refused → HasAnswered mode script true left had has × IsReadThrough mode left rest
+  refused e = by r (sym is ∙ e) ok through
+    where
+      by : (r : Result Bool Stop) → status_of r ≡ statuses.Refused → IfOk r (λ error. HasAnswered mode script error left had has) → OnOk r (IsReadThrough mode left rest)
+          → HasAnswered mode script true left had has × IsReadThrough mode left rest
+      by (Ok false) e ok through = absurd cc
+      by (Ok true) e ok through = (ok, through)
+      by (Err halts.Source) e ok through = absurd cc
+      by (Err halts.Sink) e ok through = absurd cc
+      by (Err halts.Memory) e ok through = absurd cc
+
+-- how a call ended, by its status
+pub was_memory : (r : Result Bool Stop) (status : Status) → status ≡ status_of r → status ≡ statuses.Memory → r ≡ Err halts.Memory
+was_memory (Ok false) status is e = let no : statuses.Done ≡ statuses.Memory = sym is ∙ e in absurd cc
+was_memory (Ok true) status is e = let no : statuses.Refused ≡ statuses.Memory = sym is ∙ e in absurd cc
+was_memory (Err halts.Source) status is e = let no : statuses.ReadFault ≡ statuses.Memory = sym is ∙ e in absurd cc
+was_memory (Err halts.Sink) status is e = let no : statuses.WriteFault ≡ statuses.Memory = sym is ∙ e in absurd cc
+was_memory (Err halts.Memory) status is e = refl
+
+pub was_source : (r : Result Bool Stop) (status : Status) → status ≡ status_of r → status ≡ statuses.ReadFault → r ≡ Err halts.Source
+was_source (Ok false) status is e = let no : statuses.Done ≡ statuses.ReadFault = sym is ∙ e in absurd cc
+was_source (Ok true) status is e = let no : statuses.Refused ≡ statuses.ReadFault = sym is ∙ e in absurd cc
+was_source (Err halts.Source) status is e = refl
+was_source (Err halts.Sink) status is e = let no : statuses.WriteFault ≡ statuses.ReadFault = sym is ∙ e in absurd cc
+was_source (Err halts.Memory) status is e = let no : statuses.Memory ≡ statuses.ReadFault = sym is ∙ e in absurd cc
+
+-- a call that reads nothing ends by its sink alone
+pub completed : (r : Result Bool Stop) (status : Status) (rose : Type 0) → status ≡ status_of r → (r ≡ Err halts.Source → ⊥) → (r ≡ Err halts.Sink → rose) → (rose → ⊥)
+    → IsCompleted status
+completed r status rose is source cause quiet = subst IsCompleted (sym is) (by r source cause)
+  where
+    by : (r : Result Bool Stop) → (r ≡ Err halts.Source → ⊥) → (r ≡ Err halts.Sink → rose) → IsCompleted (status_of r)
+    by (Ok false) source cause = tt
+    by (Ok true) source cause = tt
+    by (Err halts.Source) source cause = absurd (source refl)
+    by (Err halts.Sink) source cause = absurd (quiet (cause refl))
+    by (Err halts.Memory) source cause = tt
+
+-- what holds anyhow holds of a plan
+pub on_some : {A : Type 0} (o : Option A) (P : Type 0) → P → OnSome o P
+on_some None P p = tt
+on_some (Some a) P p = p

@@ -1,6 +1,5 @@
 -- How a session goes through bytes, line by line.
-use Rattle.std.proofs.Common.{◌≡◌, ℕ, List, [], ◌∷◌, ◌++◌, Bool, true, false, Option, Some, None, Result, Ok, Err, refl, sym, ap, subst, ◌∙◌, append-nil}
-use Rattle.std.specs.Prelude.{IfErr, IfOk, map}
+use Rattle.std.proofs.Common.{◌≡◌, ℕ, List, [], ◌∷◌, ◌++◌, Bool, true, false, Option, refl, sym, ap, subst, append-nil}
 use Rattle.std.proofs.lemmas.List.{map-append}
 use Rattle.std.specs.Io.BufRead.{strip_last}
 use Rattle.desk_read.specs.Taking.{OpenBlock}
@@ -9,7 +8,7 @@ use Rattle.synth_run.specs.Session.{Turn}
 use Rattle.synth_run.specs.Taking.{BeginsBytes, BeginsLines, Breaks, Speaks, TakesBytes, TakesLines}
 use Rattle.synth_run.specs.declared.session.Session.{Session}
 use Rattle.synth_run.specs.declared.session.Stop.{Stop}
-use Rattle.synth_run.proofs.LineLemmas.{LeavesBytes, leaves_all, leaves_begins, leaves_last, leaves_next, unended_both}
+use Rattle.synth_run.proofs.LineLemmas.{LeavesBytes, leaves_all, leaves_begins, leaves_last, leaves_next}
 use Rattle.synth_run.proofs.Speaking.{begins_both, breaks_both, lines_both, lines_none, speaks_both, speaks_none}
 
 -- a session took the front of bytes, of which this is left
@@ -88,9 +87,9 @@ module _ (start now held next : Session) (bytes left front behind : List ℕ) (h
   )
 
   -- the reply to the command of the line was not written whole
-  pub goes_broken : (stop : Stop) → (turns : List Turn) × BeginsLines held.reader (read_lines (held.line ∷ [])) turns × Breaks held.speaker.desk stop turns has hold n o
+  pub goes_broken : (stop : Stop) → (turns : List Turn) × BeginsLines held.reader (read_lines (held.line ∷ [])) turns × Breaks held.speaker.desk.state stop turns has hold n o
       → (lines : List (List ℕ)) × (turns : List Turn) × BeginsBytes start.line bytes lines × BeginsLines start.reader (read_lines lines) turns
-      × Breaks start.speaker.desk stop turns had hold m o
+      × Breaks start.speaker.desk.state stop turns had hold m o
   goes_broken stop line = (
     going.lines ++ held.line ∷ [],
     going.turns ++ line.0,
@@ -99,7 +98,7 @@ module _ (start now held next : Session) (bytes left front behind : List ℕ) (h
         (begins_both start.reader now.reader (read_lines going.lines) (read_lines (held.line ∷ [])) going.turns line.0 going.lines_are
         (subst (λ (r : Option OpenBlock). BeginsLines r (read_lines (held.line ∷ [])) line.0) reader_is line.1)),
     breaks_both start.speaker now.speaker stop going.turns line.0 had has hold m n o going.told
-        (subst (λ s. Breaks s stop line.0 has hold n o) (ap (λ (s : Session). s.speaker.desk) kept) line.2),
+        (subst (λ s. Breaks s stop line.0 has hold n o) (ap (λ (s : Session). s.speaker.desk.state) kept) line.2),
   )
 
 -- what is left has no LF
@@ -117,9 +116,9 @@ goes_last start now held bytes left had has m n going kept = (
 
 -- memory was wanting for the line
 pub goes_forgotten : (start now : Session) (bytes left : List ℕ) (had has : Option (List ℕ)) (m n : ℕ) (stop : Stop) → Goes start bytes now left had has m n
-    → (more : (turns : List Turn) × BeginsLines now.reader [] turns × Breaks now.speaker.desk stop turns has has n n)
+    → (more : (turns : List Turn) × BeginsLines now.reader [] turns × Breaks now.speaker.desk.state stop turns has has n n)
     → (lines : List (List ℕ)) × (turns : List Turn) × BeginsBytes start.line bytes lines × BeginsLines start.reader (read_lines lines) turns
-    × Breaks start.speaker.desk stop turns had has m n
+    × Breaks start.speaker.desk.state stop turns had has m n
 goes_forgotten start now bytes left had has m n stop going more = (
   going.lines,
   going.turns ++ more.0,

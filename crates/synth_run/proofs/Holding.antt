@@ -1,7 +1,6 @@
 -- A session over an input, from its start to its end or to where it breaks off.
-use Rattle.std.proofs.Common.{◌≡◌, ◌⊎◌, inl, inr, ℕ, ◌+◌, ◌≤◌, ◌<◌, List, [], ◌∷◌, ◌++◌, Bool, true, false, Option, Some, None, Result, Ok, Err, length, take, refl, sym, ap, subst, ◌∙◌, append_assoc, append-nil, arith, length-append, length-take-le}
+use Rattle.std.proofs.Common.{◌≡◌, inl, inr, ℕ, ◌+◌, ◌≤◌, ◌<◌, List, [], ◌++◌, Bool, true, false, Option, Some, None, Result, Ok, Err, length, take, refl, sym, ap, subst, ◌∙◌, append_assoc, append-nil, arith, length-append}
 use Rattle.std.specs.Prelude.{◌||◌, IfErr, IfOk, OnErr, if◌then◌else◌}
-use Rattle.std.specs.List.{list_any}
 use Rattle.std.specs.Io.BufRead.{strip_last}
 use Rattle.std.proofs.lemmas.List.{map-append, take_at}
 use Rattle.std.specs.Io.KnownBytes.{Appends, Consumes, IsAtEnd, Keeps}
@@ -9,20 +8,19 @@ use Rattle.std.proofs.KnownBytes.{Appends-trans, Consumes-trans}
 use Rattle.synth_io.specs.declared.input.TheConstants.{LIMIT}
 use Rattle.synth_io.specs.Taking.{TakesAtMost, TakesJust}
 use Rattle.desk_read.specs.declared.command.Command.{Command}
-use Rattle.desk_read.specs.Taking.{OpenBlock, commands_from}
-use Rattle.desk_core.specs.Builds.{RisesUpTo}
+use Rattle.desk_read.specs.Taking.{commands_from}
 use Rattle.desk_core.specs.State.{State}
 use Rattle.desk_core.proofs.Rises.{rises_more}
 use Rattle.synth_run.specs.Lines.{is_unended, last_line, lines_of, read_lines}
 use Rattle.synth_run.specs.Said.{too_long}
-use Rattle.synth_run.specs.Session.{AreTurns, Turn, all_commands, builds_in, commands_in, ended_commands, has_error, input_commands, is_overlong, is_quit, session_said, state_after, text_in, up_to_quit}
-use Rattle.synth_run.specs.Taking.{BeginWith, BeginsBytes, BeginsLines, Breaks, Broken, Finishes, Held, IsCut, Speaks, SpeaksFor, Stops, TakesBytes, TakesLines}
+use Rattle.synth_run.specs.Session.{AreTurns, Turn, all_commands, builds_in, commands_in, ended_commands, has_error, input_commands, is_overlong, text_in, up_to_quit}
+use Rattle.synth_run.specs.Taking.{BeginWith, BeginsBytes, BeginsLines, Breaks, Broken, Finishes, Held, Speaks, SpeaksFor, Stops, TakesBytes, TakesLines}
 use Rattle.synth_run.specs.declared.session.Session.{Session}
 use Rattle.synth_run.specs.declared.session.Stop.{Stop}
 use Rattle.synth_run.specs.declared.session.Stop.TheVariants as halts
 use Rattle.synth_run.proofs.Commanding.{all_are, all_first, at_end, bytes_begin, ended_are, input_begins, input_ends, lines_begin, never_over, past_limit, quit_taken}
 use Rattle.synth_run.proofs.LineLemmas.{begins_bytes, bytes_both}
-use Rattle.synth_run.proofs.Speaking.{take_both, after_both, appends_kept, appends_nothing, begins_both, breaks_both, builds_both, commands_both, errors_both, lines_both, lines_none, or_none, speaks_both, speaks_none, stops_none, text_both, turns_both}
+use Rattle.synth_run.proofs.Speaking.{take_both, begins_both, breaks_both, builds_both, commands_both, errors_both, lines_both, lines_none, speaks_both, speaks_none, text_both, turns_both}
 
 -- a session has taken so many bytes of an input
 pub record Stands (start now : Session) (left rest had has : Option (List ℕ)) (count m n : ℕ) : Type 0 where
@@ -108,7 +106,7 @@ module _ (start now next : Session) (piece : List ℕ) (left rest behind had has
 
   -- a `quit`
   pub stands_quit : start.speaker.refused ≡ false → (lines : List (List ℕ)) × (turns : List Turn) × BeginsBytes now.line piece lines × TakesLines now.reader (read_lines lines) turns next.reader
-      × Speaks now.speaker next.speaker true turns has hold n o → Held start.speaker.desk next.speaker.refused left behind had hold m o
+      × Speaks now.speaker next.speaker true turns has hold n o → Held start.speaker.desk.state next.speaker.refused left behind had hold m o
   stands_quit fresh t =
       let bytes = stands.bytes ++ piece in
       let lines = stands.lines ++ t.0 in
@@ -136,7 +134,7 @@ module _ (start now next : Session) (piece : List ℕ) (left rest behind had has
 
   -- a reply that was not written whole
   pub stands_broken : (stop : Stop) → (stop ≡ halts.Source → ⊥) → (lines : List (List ℕ)) × (turns : List Turn) × BeginsBytes now.line piece lines × BeginsLines now.reader (read_lines lines) turns
-      × Breaks now.speaker.desk stop turns has hold n o → Broken start.speaker.desk stop left behind had hold m o
+      × Breaks now.speaker.desk.state stop turns has hold n o → Broken start.speaker.desk.state stop left behind had hold m o
   stands_broken stop other t =
       let bytes = stands.bytes ++ piece in
       let lines = stands.lines ++ t.0 in
@@ -174,7 +172,7 @@ module _ (start now : Session) (left rest behind had has hold : Option (List ℕ
   whole_text = subst (Appends had has) (sym (take_whole (text_in stands.turns))) stands.told.written
 
   -- the source failed
-  pub stands_failed : Keeps rest behind → Broken start.speaker.desk halts.Source left behind had has m n
+  pub stands_failed : Keeps rest behind → Broken start.speaker.desk.state halts.Source left behind had has m n
   stands_failed kept = record {
     bytes = stands.bytes;
     turns = stands.turns;
@@ -191,8 +189,8 @@ module _ (start now : Session) (left rest behind had has hold : Option (List ℕ
 
   -- the end of the input: the last line, and what an open block makes
   pub stands_ended : start.speaker.refused ≡ false → (refused : Bool) → Keeps rest behind → IsAtEnd behind
-      → Finishes now.speaker.desk now.speaker.refused (commands_from now.reader (last_line now.line)) refused has hold n o
-      → Held start.speaker.desk refused left behind had hold m o
+      → Finishes now.speaker.desk.state now.speaker.refused (commands_from now.reader (last_line now.line)) refused has hold n o
+      → Held start.speaker.desk.state refused left behind had hold m o
   stands_ended fresh refused kept ended f =
       let bytes = stands.bytes in
       let turns = stands.turns ++ f.turns in
@@ -206,7 +204,7 @@ module _ (start now : Session) (left rest behind had has hold : Option (List ℕ
         turns = turns;
         over = false;
         taken = taken_here kept;
-        steps = turns_both start.speaker.desk stands.turns f.turns stands.told.steps (subst (λ (s : State). AreTurns s f.turns) (sym stands.told.last) f.steps);
+        steps = turns_both start.speaker.desk.state stands.turns f.turns stands.told.steps (subst (λ (s : State). AreTurns s f.turns) (sym stands.told.last) f.steps);
         session = λ more e.
             let none : more ≡ [] = at_end_none behind more ended e in
             let same : bytes ++ more ≡ bytes = ap (λ (l : List ℕ). bytes ++ l) none ∙ append-nil bytes in
@@ -222,8 +220,8 @@ module _ (start now : Session) (left rest behind had has hold : Option (List ℕ
 
   -- the reply to the last command was not written whole
   pub stands_cut : (stop : Stop) → (stop ≡ halts.Source → ⊥) → Keeps rest behind → IsAtEnd behind
-      → (turns : List Turn) × BeginWith (commands_from now.reader (last_line now.line)) turns × Breaks now.speaker.desk stop turns has hold n o
-      → Broken start.speaker.desk stop left behind had hold m o
+      → (turns : List Turn) × BeginWith (commands_from now.reader (last_line now.line)) turns × Breaks now.speaker.desk.state stop turns has hold n o
+      → Broken start.speaker.desk.state stop left behind had hold m o
   stands_cut stop other kept ended t =
       let bytes = stands.bytes in
       let turns = stands.turns ++ t.0 in
@@ -255,14 +253,14 @@ module _ (start now : Session) (left rest behind had has hold : Option (List ℕ
 
   -- the end of the input, whatever comes of it
   pub ended_all : start.speaker.refused ≡ false → Keeps rest behind → IsAtEnd behind → (r : Result Bool Stop)
-      → IfOk r (λ refused. Finishes now.speaker.desk now.speaker.refused (commands_from now.reader (last_line now.line)) refused has hold n o)
-      → IfOk r (λ refused. Held start.speaker.desk refused left behind had hold m o)
+      → IfOk r (λ refused. Finishes now.speaker.desk.state now.speaker.refused (commands_from now.reader (last_line now.line)) refused has hold n o)
+      → IfOk r (λ refused. Held start.speaker.desk.state refused left behind had hold m o)
   ended_all fresh kept ended (Ok refused) f = stands_ended fresh refused kept ended f
   ended_all fresh kept ended (Err stop) f = tt
 
   pub ended_cut : Keeps rest behind → IsAtEnd behind → (r : Result Bool Stop) → (r ≡ Err halts.Source → ⊥)
-      → IfErr r (λ stop. (turns : List Turn) × BeginWith (commands_from now.reader (last_line now.line)) turns × Breaks now.speaker.desk stop turns has hold n o)
-      → IfErr r (λ stop. Broken start.speaker.desk stop left behind had hold m o)
+      → IfErr r (λ stop. (turns : List Turn) × BeginWith (commands_from now.reader (last_line now.line)) turns × Breaks now.speaker.desk.state stop turns has hold n o)
+      → IfErr r (λ stop. Broken start.speaker.desk.state stop left behind had hold m o)
   ended_cut kept ended (Ok refused) source t = tt
   ended_cut kept ended (Err stop) source t = stands_cut stop (λ e. source (ap Err e)) kept ended t
 
@@ -290,7 +288,7 @@ module _ (start now : Session) (left rest behind had has hold : Option (List ℕ
         (begins_bytes [] stands.bytes past.0 stands.lines [] now.line stands.bytes_are (λ more. (lines_of (now.line ++ (past.0 ++ more)), refl))) begins_here stands.told.stops
 
     -- an input that is too long
-    pub stands_past : start.speaker.refused ≡ false → Appends has hold too_long.text → Held start.speaker.desk true left behind had hold m n
+    pub stands_past : start.speaker.refused ≡ false → Appends has hold too_long.text → Held start.speaker.desk.state true left behind had hold m n
     stands_past fresh written = record {
       bytes = bytes_past;
       turns = stands.turns;
@@ -306,7 +304,7 @@ module _ (start now : Session) (left rest behind had has hold : Option (List ℕ
     }
 
     -- its reply was not written whole
-    pub stands_past_cut : (stop : Stop) → (stop ≡ halts.Source → ⊥) → (size : ℕ) × Appends has hold (take size too_long.text) → Broken start.speaker.desk stop left behind had hold m n
+    pub stands_past_cut : (stop : Stop) → (stop ≡ halts.Source → ⊥) → (size : ℕ) × Appends has hold (take size too_long.text) → Broken start.speaker.desk.state stop left behind had hold m n
     stands_past_cut stop other front = record {
       bytes = bytes_past;
       turns = stands.turns;
@@ -327,12 +325,12 @@ module _ (start now : Session) (left rest behind had has hold : Option (List ℕ
 
     -- whatever comes of its reply
     pub past_all : start.speaker.refused ≡ false → (r : Result Bool Stop) → IfOk r (λ error. (error ≡ true) × Appends has hold too_long.text)
-        → IfOk r (λ refused. Held start.speaker.desk refused left behind had hold m n)
-    past_all fresh (Ok error) t = subst (λ (b : Bool). Held start.speaker.desk b left behind had hold m n) (sym t.0) (stands_past fresh t.1)
+        → IfOk r (λ refused. Held start.speaker.desk.state refused left behind had hold m n)
+    past_all fresh (Ok error) t = subst (λ (b : Bool). Held start.speaker.desk.state b left behind had hold m n) (sym t.0) (stands_past fresh t.1)
     past_all fresh (Err stop) t = tt
 
     pub past_cut : (r : Result Bool Stop) → (r ≡ Err halts.Source → ⊥) → OnErr r ((size : ℕ) × Appends has hold (take size too_long.text))
-        → IfErr r (λ stop. Broken start.speaker.desk stop left behind had hold m n)
+        → IfErr r (λ stop. Broken start.speaker.desk.state stop left behind had hold m n)
     past_cut (Ok error) source front = tt
     past_cut (Err stop) source front = stands_past_cut stop (λ e. source (ap Err e)) front
 

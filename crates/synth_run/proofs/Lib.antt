@@ -13,5 +13,6 @@ pub mod Synthesising
 pub mod Valuing
 pub mod Numbers
 pub mod Reading
+pub mod Generating
 pub mod Ending
 pub mod Only

@@ -1,7 +1,7 @@
 -- Lines, byte by byte.
-use Rattle.std.proofs.Common.{◌≡◌, ℕ, List, [], ◌∷◌, ◌++◌, Bool, true, false, refl, sym, ap, subst, ◌∙◌, true≢false, append_assoc}
+use Rattle.std.proofs.Common.{◌≡◌, ℕ, List, [], ◌∷◌, ◌++◌, Bool, true, false, refl, sym, ap, ◌∙◌, true≢false, append_assoc}
 use Rattle.std.specs.Prelude.{◌==◌, ◌&&◌, not}
-use Rattle.synth_run.specs.Lines.{Lines, is_unended, lines_of, onto_first, with_byte}
+use Rattle.synth_run.specs.Lines.{Lines, is_unended, lines_of, with_byte}
 use Rattle.synth_run.specs.Taking.{BeginsBytes, TakesBytes, lines_before}
 
 -- where LF comes after bytes without one, they are a line

@@ -1,5 +1,5 @@
 -- Each command has one answer in a state, so each input has one reply.
-use Rattle.std.proofs.Common.{◌≡◌, ◌⊎◌, inl, inr, ℕ, zero, suc, ◌+◌, ◌≤◌, ◌<◌, List, [], ◌∷◌, ◌++◌, Bool, true, false, length, take, refl, sym, ap, subst, ◌∙◌, arith, add-one}
+use Rattle.std.proofs.Common.{◌≡◌, ◌⊎◌, inl, inr, ℕ, zero, suc, ◌+◌, ◌≤◌, ◌<◌, List, [], ◌∷◌, ◌++◌, Bool, true, false, length, take, refl, sym, ap, subst, ◌∙◌, arith}
 use Rattle.std.specs.Prelude.{codes, if◌then◌else◌}
 use Rattle.std.specs.Str.{bytes_eq}
 use Rattle.rtl_ir.specs.declared.module.Design.{Design}
@@ -9,7 +9,6 @@ use Rattle.rtl_lex.specs.Items.{Seen}
 use Rattle.rtl_lex.specs.Place.{place_text, start}
 use Rattle.rtl_lex.proofs.ItemLemmas.{same_items}
 use Rattle.rtl_read.specs.declared.read_fault.ReadFault.{ReadFault}
-use Rattle.rtl_read.specs.Reads.{Reads, IsFirstFault, AreItemsOf}
 use Rattle.rtl_read.proofs.Unique.{not_both, one_design, one_fault}
 use Rattle.script_core.specs.declared.word.Word.{Word}
 use Rattle.desk_read.specs.declared.command.Command.{Command}
@@ -25,7 +24,7 @@ use Rattle.synth_run.specs.declared.words.Mode.{Mode}
 use Rattle.synth_run.specs.declared.words.Mode.TheVariants.{Synth, Session, Generate}
 use Rattle.synth_run.specs.Replies.{IsReply}
 use Rattle.synth_run.specs.Said.{Said, said_of}
-use Rattle.synth_run.specs.Session.{AreTurns, IsSession, Turn, commands_in, is_long, is_overlong, session_said}
+use Rattle.synth_run.specs.Session.{AreTurns, Turn, commands_in, is_long, is_overlong, session_said}
 use Rattle.synth_run.specs.Synth.{IsInputReply, IsTextReply, design_said}
 
 -- ---- one text
@@ -158,4 +157,4 @@ pub same_reply : (mode : Mode) (script : List Word) (input : List ℕ) (said oth
 same_reply Synth script input said other f g = same_input (is_long input) script input said other f g
 same_reply Session script input said other (ts, f, is) (us, g, is') =
     is ∙ ap (session_said (is_overlong input)) (same_turns (first_state script) ts us f.steps g.steps (f.commands ∙ sym g.commands)) ∙ sym is'
-same_reply (Generate count) script input said other f g = absurd f
+same_reply (Generate count) script input said other f g = f ∙ sym g

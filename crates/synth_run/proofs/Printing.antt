@@ -1,7 +1,6 @@
 -- Netlists that are written.
-use Rattle.std.proofs.Common.{◌≡◌, ℕ, List, [], ◌∷◌, ◌++◌, Bool, true, false, Option, Some, None, refl, sym, ap, subst, ◌∙◌, true≢false}
+use Rattle.std.proofs.Common.{◌≡◌, ℕ, List, [], ◌∷◌, true, false, Option, Some, None, refl, sym, ap, subst, ◌∙◌, true≢false}
 use Rattle.rtl_ir.specs.declared.module.Design.{Design}
-use Rattle.rtl_ir.specs.Faults.{check_faults}
 use Rattle.rtl_write.proofs.Trip.{reads_design}
 use Rattle.rtl_write.specs.Text.{text_of}
 use Rattle.script_core.specs.Cold.{IsNetlist, cold, outcome_of}

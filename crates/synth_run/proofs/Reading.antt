@@ -1,6 +1,6 @@
 -- One text, as a whole input.
-use Rattle.std.proofs.Common.{◌≡◌, ◌⊎◌, inl, inr, ℕ, ◌+◌, ◌≤◌, ◌<◌, List, [], ◌++◌, Bool, true, false, Option, Some, None, Result, Ok, Err, length, take, refl, sym, ap, subst, ◌∙◌, append-nil, arith, length-append}
-use Rattle.std.specs.Prelude.{IfErr, IfOk, IfSome, OnErr, OnOk}
+use Rattle.std.proofs.Common.{◌≡◌, ◌⊎◌, inl, inr, ℕ, ◌+◌, ◌≤◌, ◌<◌, List, ◌++◌, Bool, true, Option, Some, None, Result, Ok, Err, length, take, refl, sym, ap, subst, ◌∙◌, append-nil, arith, length-append}
+use Rattle.std.specs.Prelude.{IfOk, IfSome, OnErr}
 use Rattle.std.specs.Io.KnownBytes.{Appends, Consumes, IsAtEnd, Keeps}
 use Rattle.synth_io.specs.declared.input.TheConstants.{LIMIT}
 use Rattle.synth_io.specs.Taking.{TakesJust}
@@ -8,9 +8,9 @@ use Rattle.script_core.specs.declared.word.Word.{Word}
 use Rattle.synth_run.specs.declared.words.Mode.TheVariants.{Synth}
 use Rattle.synth_run.specs.declared.session.Stop.{Stop}
 use Rattle.synth_run.specs.declared.session.Stop.TheVariants as halts
-use Rattle.synth_run.specs.Replies.{HasAnswered, HasBegun, IsReply}
+use Rattle.synth_run.specs.Builds.{CountsBuilds}
+use Rattle.synth_run.specs.Replies.{HasAnswered, HasBegun}
 use Rattle.synth_run.specs.Said.{Said, too_long}
-use Rattle.synth_run.specs.Session.{is_long}
 use Rattle.synth_run.specs.Synth.{IsInputReply, IsSynthReply, IsTextReply}
 use Rattle.synth_run.proofs.Commanding.{is_past, not_long}
 use Rattle.synth_run.proofs.Replying.{synth_said}
@@ -39,6 +39,12 @@ long_said script input (Some more) t =
 pub kept_begun : (script : List Word) (left had has : Option (List ℕ)) → Keeps had has → HasBegun Synth script left had has
 kept_begun script None had has kept = tt
 kept_begun script (Some input) had has kept = let found = synth_said script input in (found.0, found.1, (0, appends_kept had has kept))
+
+-- the builds for it are those for the input
+pub text_counts : (script : List Word) (left rest : Option (List ℕ)) (text : List ℕ) (m n : ℕ) → Consumes left rest text → IsAtEnd rest → CountsBuilds script text m n
+    → IfSome left (λ input. CountsBuilds script input m n)
+text_counts script None rest text m n taken ended counts = tt
+text_counts script (Some input) rest text m n taken ended counts = subst (λ (l : List ℕ). CountsBuilds script l m n) (text_is input text rest taken ended) counts
 
 module _ (script : List Word) (rest had has : Option (List ℕ)) where
   pub text_answered : (left : Option (List ℕ)) (text : List ℕ) (r : Result Bool Stop) → Consumes left rest text → IsAtEnd rest → length text ≤ LIMIT

@@ -1,11 +1,9 @@
 -- What a session wrote is its reply, or a front of it.
-use Rattle.std.proofs.Common.{◌≡◌, ◌⊎◌, inl, inr, ℕ, ◌+◌, ◌≤◌, ◌<◌, List, [], ◌∷◌, ◌++◌, Bool, true, false, Option, Some, None, length, min, take, refl, sym, ap, subst, ◌∙◌, append_assoc, append-nil, arith}
-use Rattle.std.specs.Prelude.{IfSome, nat_lt}
-use Rattle.std.specs.List.{list_any}
-use Rattle.std.specs.Io.KnownBytes.{Appends, Consumes, IsAtEnd, Keeps}
+use Rattle.std.proofs.Common.{◌≡◌, ◌⊎◌, inl, inr, ℕ, List, [], ◌++◌, Bool, true, false, Option, Some, None, length, min, take, refl, sym, ap, subst, ◌∙◌, append_assoc, arith}
+use Rattle.std.specs.Prelude.{IfSome}
+use Rattle.std.specs.Io.KnownBytes.{Appends, Consumes}
 use Rattle.std.proofs.lemmas.List.{take-append-le, take_min}
 use Rattle.std.proofs.Math.Seq.{take-length}
-use Rattle.synth_io.specs.declared.input.TheConstants.{LIMIT}
 use Rattle.rtl_ir.specs.declared.module.Design.{Design}
 use Rattle.rtl_read.specs.declared.read_fault.ReadFault.{ReadFault}
 use Rattle.rtl_read.specs.Reads.{Reads, IsFirstFault}
@@ -19,15 +17,16 @@ use Rattle.synth_run.specs.declared.words.Mode.{Mode}
 use Rattle.synth_run.specs.declared.words.Mode.TheVariants.{Synth, Session, Generate}
 use Rattle.synth_run.specs.declared.session.Stop.{Stop}
 use Rattle.synth_run.specs.declared.session.Stop.TheVariants as halts
-use Rattle.synth_run.specs.Builds.{CountsTurns, HasCounted}
+use Rattle.synth_run.specs.Builds.{CountsTurns}
+use Rattle.synth_run.specs.Generated.{generated_said}
 use Rattle.synth_run.specs.Replies.{AnswersTaken, HasAnswered, HasBegun, IsPrintedSession, IsReadThrough, IsReply}
 use Rattle.synth_run.specs.Said.{Said, said_of, too_long}
 use Rattle.synth_run.specs.Session.{AreTurns, IsSession, Turn, commands_in, input_commands, is_long, is_overlong, session_said, state_after, text_in}
 use Rattle.synth_run.specs.Synth.{IsInputReply, IsSynthReply, IsTextReply, design_said}
-use Rattle.synth_run.specs.Taking.{BeginWith, Broken, Held, IsCut, SpeaksFor}
+use Rattle.synth_run.specs.Taking.{Broken, Held, IsCut, SpeaksFor}
 use Rattle.synth_run.proofs.Printing.{turns_print}
 use Rattle.synth_run.proofs.Speaking.{appends_nothing, commands_both, text_both, turns_both}
-use Rattle.synth_run.proofs.Stepping.{IsGood, first_good, some_turns, turns_good}
+use Rattle.synth_run.proofs.Stepping.{first_good, some_turns, turns_good}
 
 -- ---- each input has a reply
 
@@ -47,20 +46,26 @@ session_turns script input is =
     let found = some_turns (input_commands input) (first_state script) (first_good script is) in
     (found.0, record { steps = found.1; commands = found.2 })
 
-pub some_reply : (mode : Mode) (script : List Word) (input : List ℕ) → IsScript script → (mode ≡ Synth) ⊎ (mode ≡ Session) → (said : Said) × IsReply mode script input said
-some_reply Synth script input is mode = synth_said script input
-some_reply Session script input is mode =
+pub some_reply : (mode : Mode) (script : List Word) (input : List ℕ) → IsScript script → (said : Said) × IsReply mode script input said
+some_reply Synth script input is = synth_said script input
+some_reply Session script input is =
     let found = session_turns script input is in
     (session_said (is_overlong input) found.0, (found.0, found.1, refl))
-some_reply (Generate count) script input is (inl mode) = absurd cc
-some_reply (Generate count) script input is (inr mode) = absurd cc
+some_reply (Generate count) script input is = (generated_said script count, refl)
 
 -- nothing is a front of the reply
-pub begun_none : (mode : Mode) (script : List Word) (before had : Option (List ℕ)) → IsScript script → (mode ≡ Synth) ⊎ (mode ≡ Session) → HasBegun mode script before had had
-begun_none mode script None had is modes = tt
-begun_none mode script (Some input) had is modes =
-    let found = some_reply mode script input is modes in
+front_of : (mode : Mode) (script : List Word) (input : List ℕ) (had : Option (List ℕ)) → IsScript script
+    → (said : Said) × IsReply mode script input said × ((n : ℕ) × Appends had had (take n said.text))
+front_of mode script input had is =
+    let found = some_reply mode script input is in
     (found.0, found.1, (0, appends_nothing had))
+
+pub begun_none : (mode : Mode) (script : List Word) (before had : Option (List ℕ)) → IsScript script → HasBegun mode script before had had
+begun_none Synth script None had is = tt
+begun_none Session script None had is = tt
+begun_none Synth script (Some input) had is = front_of Synth script input had is
+begun_none Session script (Some input) had is = front_of Session script input had is
+begun_none (Generate count) script before had is = front_of (Generate count) script [] had is
 
 -- ---- a session to its end
 

@@ -1,20 +1,21 @@
 -- Turns, one after another.
-use Rattle.std.proofs.Common.{◌≡◌, ℕ, suc, ◌+◌, ◌≤◌, List, [], ◌∷◌, ◌++◌, Bool, true, false, cond, Option, Some, None, length, take, refl, sym, ap, subst, ◌∙◌, true≢false, append_assoc, append-nil, arith}
-use Rattle.std.specs.Prelude.{◌&&◌, ◌||◌, map, if◌then◌else◌}
-use Rattle.std.specs.List.{flat_map, list_all, list_any}
+use Rattle.std.proofs.Common.{◌≡◌, ℕ, suc, ◌+◌, List, [], ◌∷◌, ◌++◌, Bool, true, false, Option, Some, None, length, take, refl, sym, ap, subst, ◌∙◌, true≢false, append_assoc, append-nil, arith}
+use Rattle.std.specs.Prelude.{◌&&◌, ◌||◌, if◌then◌else◌}
+use Rattle.std.specs.List.{list_all, list_any}
 use Rattle.std.specs.Io.KnownBytes.{Appends, Keeps}
 use Rattle.std.proofs.KnownBytes.{Appends-trans}
-use Rattle.std.proofs.lemmas.List.{map-append, take-append-le, take_at}
+use Rattle.std.proofs.lemmas.List.{map-append}
 use Rattle.std.proofs.lemmas.Grind.{flat_map-append}
 use Rattle.desk_read.specs.declared.command.Command.{Command}
 use Rattle.desk_read.specs.Taking.{OpenBlock, commands_from}
-use Rattle.desk_core.specs.Builds.{RisesUpTo, builds_of}
+use Rattle.build_crew.specs.Rises.{RisesUpTo}
+use Rattle.desk_core.specs.Builds.{builds_of}
 use Rattle.desk_core.specs.State.{State}
 use Rattle.desk_core.specs.Step.{IsStep}
 use Rattle.desk_core.proofs.Rises.{rises_more, rises_none, rises_within}
 use Rattle.reply_lines.specs.declared.reply.Reply.{Reply}
 use Rattle.synth_run.specs.Session.{AreTurns, Turn, builds_in, commands_in, has_error, is_quit, is_whole, state_after, text_in, up_to_quit}
-use Rattle.synth_run.specs.Taking.{BeginWith, Breaks, Speaks, Stops, TakesLines, BeginsLines}
+use Rattle.synth_run.specs.Taking.{Breaks, Speaks, Stops, TakesLines, BeginsLines}
 use Rattle.synth_run.specs.declared.session.Speaker.{Speaker}
 use Rattle.synth_run.specs.declared.session.Stop.{Stop}
 use Rattle.synth_run.specs.declared.session.Stop.TheVariants as halts
@@ -115,24 +116,24 @@ speaks_none a had n = record {
 }
 
 -- one turn
-pub speaks_one : (a b : Speaker) (command : Command) (reply : Reply) (had has : Option (List ℕ)) (m n : ℕ) → IsStep command a.desk reply b.desk
-    → b.refused ≡ (a.refused || reply.error) → Appends had has reply.text → RisesUpTo (builds_of command a.desk) m n
-    → Speaks a b (is_quit command) (record { command = command; before = a.desk; reply = reply; after = b.desk } ∷ []) had has m n
+pub speaks_one : (a b : Speaker) (command : Command) (reply : Reply) (had has : Option (List ℕ)) (m n : ℕ) → IsStep command a.desk.state reply b.desk.state
+    → b.refused ≡ (a.refused || reply.error) → Appends had has reply.text → RisesUpTo (builds_of command a.desk.state) m n
+    → Speaks a b (is_quit command) (record { command = command; before = a.desk.state; reply = reply; after = b.desk.state } ∷ []) had has m n
 speaks_one a b command reply had has m n step refused written builds = record {
   steps = (refl, step, tt);
   last = refl;
   stops = stops_one command;
   refused = refused ∙ ap (λ (t : Bool). a.refused || t) (sym (or_none reply.error));
   written = subst (Appends had has) (sym (append-nil reply.text)) written;
-  builds = rises_within (builds_of command a.desk) (builds_of command a.desk + 0) m n builds (omega arith);
+  builds = rises_within (builds_of command a.desk.state) (builds_of command a.desk.state + 0) m n builds (omega arith);
 }
 
 -- turns without a `quit`, and then others
 pub speaks_both : (a b c : Speaker) (ended : Bool) (ts us : List Turn) (had has hold : Option (List ℕ)) (m n o : ℕ)
     → Speaks a b false ts had has m n → Speaks b c ended us has hold n o → Speaks a c ended (ts ++ us) had hold m o
 speaks_both a b c ended ts us had has hold m n o f g = record {
-  steps = turns_both a.desk ts us f.steps (subst (λ (s : State). AreTurns s us) (sym f.last) g.steps);
-  last = after_both a.desk ts us ∙ ap (λ (s : State). state_after s us) f.last ∙ g.last;
+  steps = turns_both a.desk.state ts us f.steps (subst (λ (s : State). AreTurns s us) (sym f.last) g.steps);
+  last = after_both a.desk.state ts us ∙ ap (λ (s : State). state_after s us) f.last ∙ g.last;
   stops = subst (Stops ended) (sym (commands_both ts us)) (stops_both ended (commands_in ts) (commands_in us) f.stops g.stops);
   refused =
       g.refused ∙ ap (λ (t : Bool). t || has_error us) f.refused ∙ or_assoc a.refused (has_error ts) (has_error us)
@@ -169,9 +170,9 @@ breaks_one s t command reply had has size m n step written builds = record {
 
 -- turns without a `quit`, and then others that were begun
 pub breaks_both : (a b : Speaker) (stop : Stop) (ts us : List Turn) (had has hold : Option (List ℕ)) (m n o : ℕ)
-    → Speaks a b false ts had has m n → Breaks b.desk stop us has hold n o → Breaks a.desk stop (ts ++ us) had hold m o
+    → Speaks a b false ts had has m n → Breaks b.desk.state stop us has hold n o → Breaks a.desk.state stop (ts ++ us) had hold m o
 breaks_both a b stop ts us had has hold m n o f g = record {
-  steps = turns_both a.desk ts us f.steps (subst (λ (s : State). AreTurns s us) (sym f.last) g.steps);
+  steps = turns_both a.desk.state ts us f.steps (subst (λ (s : State). AreTurns s us) (sym f.last) g.steps);
   ended = g.ended;
   stops = subst (Stops g.ended) (sym (commands_both ts us)) (stops_both g.ended (commands_in ts) (commands_in us) f.stops g.stops);
   size = length (text_in ts) + g.size;

@@ -1,6 +1,6 @@
 -- Each command has an answer in each state of a session, and the state after it is one of a session again.
-use Rattle.std.proofs.Common.{◌≡◌, ◌⊎◌, inl, inr, ℕ, zero, suc, ◌+◌, ◌≤◌, ◌<◌, List, [], ◌∷◌, ◌++◌, Bool, true, false, cond, Option, Some, None, Result, Ok, Err, length, take, refl, sym, ap, subst, ◌∙◌, arith, add-one}
-use Rattle.std.specs.Prelude.{map, nat_lt, not, ◌&&◌, ◌||◌, ◌==◌, filter_map, codes, if◌then◌else◌}
+use Rattle.std.proofs.Common.{◌≡◌, ◌⊎◌, inl, inr, ℕ, suc, ◌≤◌, ◌<◌, List, [], ◌∷◌, ◌++◌, Bool, true, false, Option, Some, None, Result, Ok, Err, length, refl, sym, ap, subst, ◌∙◌, arith, add-one}
+use Rattle.std.specs.Prelude.{nat_lt, not, ◌&&◌, ◌||◌, ◌==◌, filter_map, codes, if◌then◌else◌}
 use Rattle.std.specs.Option.{is_some, option_map_or}
 use Rattle.std.specs.List.{IsDistinct}
 use Rattle.std.specs.Str.{bytes_eq}
@@ -26,15 +26,14 @@ use Rattle.script_core.specs.Words.{IsScript, bad_from, first_bad, is_bad, scrip
 use Rattle.script_core.proofs.ParseLemmas.{are_script}
 use Rattle.desk_read.specs.declared.command.Command.{Command}
 use Rattle.desk_read.specs.declared.command.Command.TheVariants.{Load, Edit, Remove, Script, Run, Print, Show, SimSource, SimNetlist, Quit, Bad, Unclosed}
-use Rattle.reply_lines.specs.declared.reply.Reply.{Reply}
 use Rattle.reply_lines.specs.Lines.{last_reply, read_words}
 use Rattle.design_edit.specs.Modules.{PassesAt, has_module, with_module, with_modules, without_module}
 use Rattle.design_edit.specs.Places.{module_place}
 use Rattle.design_edit.proofs.Readings.{readable_edits, readable_without}
-use Rattle.desk_core.specs.Answers.{IsEditAnswer, IsEdited, IsLoadAnswer, IsTextAnswer, by_module, by_stimulus, checked_answer, design_answer, netlist_run_answer, print_answer, refusal, remove_answer, run_answer, script_answer, script_answer_by, show_answer, source_answer, unchanged}
+use Rattle.desk_core.specs.Answers.{IsEdited, IsTextAnswer, by_stimulus, checked_answer, design_answer, netlist_run_answer, print_answer, refusal, remove_answer, run_answer, script_answer, script_answer_by, show_answer, source_answer, unchanged}
 use Rattle.desk_core.specs.Netlist.{all_kept}
 use Rattle.desk_core.specs.State.{Answer, State, answer, first_state}
-use Rattle.desk_core.specs.Step.{IsAnswer, IsStep}
+use Rattle.desk_core.specs.Step.{IsAnswer}
 use Rattle.synth_run.specs.Session.{AreTurns, Turn, commands_in, state_after}
 use Rattle.rtl_lex.specs.Place.{place_text}
 

@@ -1,13 +1,12 @@
 -- One text, by the replies of a desk to `load` and `print`.
-use Rattle.std.proofs.Common.{◌≡◌, ◌⊎◌, inl, inr, ℕ, zero, suc, ◌+◌, ◌-◌, ◌*◌, ◌<◌, ◌≤◌, List, [], ◌∷◌, ◌++◌, Bool, true, false, cond, Option, Some, None, Result, Ok, Err, length, take, refl, sym, ap, subst, ◌∙◌, true≢false, append_assoc, arith}
+use Rattle.std.proofs.Common.{◌≡◌, inl, inr, ℕ, zero, suc, ◌-◌, ◌<◌, List, [], ◌∷◌, ◌++◌, Bool, true, false, Option, Some, None, Result, Ok, Err, length, take, refl, sym, ap, subst, ◌∙◌, true≢false, append_assoc, arith}
 use Rattle.std.specs.Prelude.{◌==◌, ◌&&◌, ◌/◌, ◌%◌, IfOk, not, codes, if◌then◌else◌}
 use Rattle.std.specs.Fmt.{decimal, digit_glyph, digits, digits_onto}
 use Rattle.std.specs.Io.KnownBytes.{Appends}
 use Rattle.std.proofs.lemmas.Bool.Decides.{nat_tests}
 use Rattle.rtl_ir.specs.declared.module.Design.{Design}
 use Rattle.rtl_ir.specs.Faults.{check_faults}
-use Rattle.rtl_read.specs.declared.read_fault.ReadFault.{ReadFault}
-use Rattle.rtl_read.specs.Reads.{Reads, IsFirstFault}
+use Rattle.rtl_read.specs.Reads.{Reads}
 use Rattle.rtl_check.specs.declared.fault.CheckFault.{CheckFault}
 use Rattle.rtl_check.specs.Finds.{first_answer}
 use Rattle.rtl_write.specs.Text.{text_of}
@@ -17,10 +16,10 @@ use Rattle.script_core.specs.Words.{IsScript}
 use Rattle.script_core.specs.Cold.{cold}
 use Rattle.desk_read.specs.declared.command.Command.TheVariants.{Load, Print}
 use Rattle.reply_lines.specs.declared.reply.Reply.{Reply}
-use Rattle.reply_lines.specs.Lines.{check_words, counted, error_reply, ok_line, ok_reply, read_words}
-use Rattle.desk_core.specs.Answers.{checked_answer, design_answer, print_answer, printed_reply, refusal}
+use Rattle.reply_lines.specs.Lines.{counted, ok_line}
+use Rattle.desk_core.specs.Answers.{checked_answer, design_answer, print_answer, printed_reply}
 use Rattle.rtl_bits.specs.Counts.{risen}
-use Rattle.desk_core.specs.Builds.{RisesUpTo}
+use Rattle.build_crew.specs.Rises.{RisesUpTo}
 use Rattle.desk_core.proofs.Rises.{rises_more}
 use Rattle.desk_core.specs.Netlist.{built_count, built_words, netlist_of, over_words, unless_over}
 use Rattle.desk_core.specs.State.{Answer, State, answer, first_state}

@@ -9,7 +9,8 @@ use Rattle.desk_read.specs.Commands.{block_command, block_of, commands_by, comma
 use Rattle.desk_read.specs.Heads.{head_by}
 use Rattle.desk_read.specs.Taking.{OpenBlock, Takes, commands_from}
 use Rattle.desk_read.specs.Words.{words_of}
-use Rattle.desk_core.specs.Builds.{RisesUpTo, builds_of}
+use Rattle.build_crew.specs.Rises.{RisesUpTo}
+use Rattle.desk_core.specs.Builds.{builds_of}
 use Rattle.desk_core.specs.State.{State}
 use Rattle.desk_core.specs.Step.{IsStep}
 use Rattle.reply_lines.specs.declared.reply.Reply.{Reply}
@@ -23,13 +24,13 @@ use Rattle.synth_run.proofs.Speaking.{breaks_both, breaks_none, breaks_one, comm
 -- ---- commands
 
 -- a command was answered
-pub answered : (a b : Speaker) (command : Command) (reply : Reply) (ended : Bool) (had has : Option (List ℕ)) (m n : ℕ) → IsStep command a.desk reply b.desk
-    → b.refused ≡ (a.refused || reply.error) → Appends had has reply.text → RisesUpTo (builds_of command a.desk) m n → ended ≡ is_quit command
+pub answered : (a b : Speaker) (command : Command) (reply : Reply) (ended : Bool) (had has : Option (List ℕ)) (m n : ℕ) → IsStep command a.desk.state reply b.desk.state
+    → b.refused ≡ (a.refused || reply.error) → Appends had has reply.text → RisesUpTo (builds_of command a.desk.state) m n → ended ≡ is_quit command
     → (turns : List Turn) × (commands_in turns ≡ command ∷ []) × Speaks a b ended turns had has m n
 answered a b command reply ended had has m n step refused written builds quits = (
-  record { command = command; before = a.desk; reply = reply; after = b.desk } ∷ [],
+  record { command = command; before = a.desk.state; reply = reply; after = b.desk.state } ∷ [],
   refl,
-  subst (λ (t : Bool). Speaks a b t (record { command = command; before = a.desk; reply = reply; after = b.desk } ∷ []) had has m n) (sym quits)
+  subst (λ (t : Bool). Speaks a b t (record { command = command; before = a.desk.state; reply = reply; after = b.desk.state } ∷ []) had has m n) (sym quits)
       (speaks_one a b command reply had has m n step refused written builds),
 )
 
@@ -201,7 +202,7 @@ none_left (byte ∷ line) e = absurd (omega (arith, e))
 -- ---- the end of an input
 
 -- the last line ended the session
-pub finished_early : (desk : State) (a b : Speaker) (before after : Option OpenBlock) (lines : List (List ℕ)) (had has : Option (List ℕ)) (m n : ℕ) → a.desk ≡ desk
+pub finished_early : (desk : State) (a b : Speaker) (before after : Option OpenBlock) (lines : List (List ℕ)) (had has : Option (List ℕ)) (m n : ℕ) → a.desk.state ≡ desk
     → (turns : List Turn) × TakesLines before lines turns after × Speaks a b true turns had has m n
     → Finishes desk a.refused (commands_from before lines) b.refused had has m n
 finished_early desk a b before after lines had has m n same t = record {
@@ -223,7 +224,7 @@ up_to_none rest ended turns same stops =
 
 -- the last line and the end of the input
 pub finished : (desk : State) (a b c : Speaker) (before after : Option OpenBlock) (lines : List (List ℕ)) (last : Option Command) (had has hold : Option (List ℕ)) (m n o : ℕ) (ended : Bool)
-    → a.desk ≡ desk → (turns : List Turn) × TakesLines before lines turns after × Speaks a b false turns had has m n → option_to_list last ≡ commands_from after []
+    → a.desk.state ≡ desk → (turns : List Turn) × TakesLines before lines turns after × Speaks a b false turns had has m n → option_to_list last ≡ commands_from after []
     → (turns : List Turn) × (commands_in turns ≡ option_to_list last) × Speaks b c ended turns has hold n o
     → Finishes desk a.refused (commands_from before lines) c.refused had hold m o
 finished desk a b c before after lines last had has hold m n o ended same t is u =
@@ -243,8 +244,8 @@ finished desk a b c before after lines last had has hold m n o ended same t is u
 -- the reply to what the end of the input makes was not written whole
 pub finish_broken : (a b : Speaker) (stop : Stop) (before after : Option OpenBlock) (lines : List (List ℕ)) (last : Option Command) (had has hold : Option (List ℕ)) (m n o : ℕ)
     → (turns : List Turn) × TakesLines before lines turns after × Speaks a b false turns had has m n → option_to_list last ≡ commands_from after []
-    → (turns : List Turn) × BeginWith (option_to_list last) turns × Breaks b.desk stop turns has hold n o
-    → (turns : List Turn) × BeginWith (commands_from before lines) turns × Breaks a.desk stop turns had hold m o
+    → (turns : List Turn) × BeginWith (option_to_list last) turns × Breaks b.desk.state stop turns has hold n o
+    → (turns : List Turn) × BeginWith (commands_from before lines) turns × Breaks a.desk.state stop turns had hold m o
 finish_broken a b stop before after lines last had has hold m n o t is u = (
   t.0 ++ u.0,
   (

@@ -6,13 +6,14 @@ use Rattle.rtl_ir.specs.declared.module.Design.{Design}
 use Rattle.rtl_ir.specs.Faults.{check_faults}
 use Rattle.rtl_read.specs.Reads.{Reads}
 use Rattle.script_core.specs.declared.word.Word.{Word}
-use Rattle.desk_core.specs.Builds.{RisesUpTo}
+use Rattle.build_crew.specs.Rises.{RisesUpTo}
 use Rattle.desk_core.specs.Netlist.{built_count}
 use Rattle.desk_core.specs.State.{first_state}
 use Rattle.synth_run.specs.declared.program.Status.{Status}
 use Rattle.synth_run.specs.declared.program.Status.TheVariants as statuses
 use Rattle.synth_run.specs.declared.words.Mode.{Mode}
 use Rattle.synth_run.specs.declared.words.Mode.TheVariants.{Synth, Session, Generate}
+use Rattle.synth_run.specs.Generated.{generated_state}
 use Rattle.synth_run.specs.Session.{AreTurns, Turn, all_commands, builds_in, commands_in, up_to_quit}
 use Rattle.synth_run.specs.Synth.{fresh_state}
 
@@ -36,9 +37,11 @@ pub record CountsTurns (script : List Word) (bytes : List ℕ) (before after : �
   pub commands : up_to_quit (all_commands bytes) ≡ commands_in turns ++ more
   pub builds : RisesUpTo (builds_in turns) before after
 
--- the builds of a call that went from one input to what is left of it; those of a session are not counted where memory was wanting
+-- the builds of a call that went from one input to what is left of it, unless memory was wanting
 abbrev pub HasCounted : Mode → Status → List Word → Option (List ℕ) → Option (List ℕ) → ℕ → ℕ → Type 0
-HasCounted Synth status script left rest before after = IfSome left (λ input. CountsBuilds script input before after)
+HasCounted Synth status script left rest before after =
+    (status ≡ statuses.Memory → ⊥) → IfSome left (λ input. CountsBuilds script input before after)
 HasCounted Session status script left rest before after =
     (status ≡ statuses.Memory → ⊥) → (bytes : List ℕ) × Consumes left rest bytes × CountsTurns script bytes before after
-HasCounted (Generate count) status script left rest before after = ⊥
+HasCounted (Generate count) status script left rest before after =
+    (status ≡ statuses.Memory → ⊥) → RisesUpTo (built_count (generated_state script count)) before after

@@ -7,6 +7,7 @@ pub mod Lines
 pub mod Session
 pub mod Synth
 pub mod Refined
+pub mod Generated
 pub mod Taking
 pub mod Builds
 pub mod Replies

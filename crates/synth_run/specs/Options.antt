@@ -3,16 +3,17 @@ use Rattle.std.specs.Prelude.{ℕ, ◌==◌, ◌&&◌, Bool, true, false, not, L
 use Rattle.std.specs.List.{after_first, before_first, position_or_len}
 use Rattle.std.specs.Str.{bytes_eq}
 use Rattle.synth_run.specs.declared.options.Name.{Name}
-use Rattle.synth_run.specs.declared.options.Name.TheVariants.{Script, Workers}
+use Rattle.synth_run.specs.declared.options.Name.TheVariants.{Script, Workers, Generate}
 
 -- the options of a call: whether it is a session, and the values of those that have one
 pub record Given : Type 0 where
   pub session : Bool
   pub script : Option (List ℕ)
   pub workers : Option (List ℕ)
+  pub generate : Option (List ℕ)
 
 abbrev pub nothing_given : Given
-nothing_given = record { session = false; script = None; workers = None }
+nothing_given = record { session = false; script = None; workers = None; generate = None }
 
 -- a value is not empty and does not begin with `-`
 abbrev pub is_value : List ℕ → Bool
@@ -28,6 +29,8 @@ with_value Script value given =
     if is_value value && not (is_some given.script) then Some (record given { script = Some value }) else None
 with_value Workers value given =
     if is_value value && not (is_some given.workers) then Some (record given { workers = Some value }) else None
+with_value Generate value given =
+    if is_value value && not (is_some given.generate) then Some (record given { generate = Some value }) else None
 
 -- what a word of a call is: `--session`, an option whose value is the next word, an option with its value, or nothing
 pub data Form : Type 0 where
@@ -45,6 +48,7 @@ abbrev pub holds_by : List ℕ → List ℕ → Form
 holds_by name value =
     if bytes_eq name (codes "--script") then holds Script value
     else if bytes_eq name (codes "--workers") then holds Workers value
+    else if bytes_eq name (codes "--gen") then holds Generate value
     else nothing
 
 -- an option with its value in one word: they stand before and after the first `=`
@@ -58,6 +62,7 @@ form_of word =
     if bytes_eq word (codes "--session") then session
     else if bytes_eq word (codes "--script") then before Script
     else if bytes_eq word (codes "--workers") then before Workers
+    else if bytes_eq word (codes "--gen") then before Generate
     else one_word word
 
 -- the options after a word of this form: `more` takes the words after it, and `value` the value of an option before them

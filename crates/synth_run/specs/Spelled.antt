@@ -12,6 +12,7 @@ given_as given = record {
   session = given.session;
   script = option_map (λ value. value.now) given.script;
   workers = option_map (λ value. value.now) given.workers;
+  generate = option_map (λ value. value.now) given.generate;
 }
 
 abbrev pub form_as : Form → options.Form

@@ -5,7 +5,7 @@ use Rattle.std.specs.Io.KnownBytes.{Appends, Consumes, IsAtEnd}
 use Rattle.synth_io.specs.declared.input.TheConstants.{LIMIT}
 use Rattle.desk_read.specs.declared.command.Command.{Command}
 use Rattle.desk_read.specs.Taking.{OpenBlock, commands_from}
-use Rattle.desk_core.specs.Builds.{RisesUpTo}
+use Rattle.build_crew.specs.Rises.{RisesUpTo}
 use Rattle.desk_core.specs.State.{State}
 use Rattle.synth_run.specs.Lines.{Lines, is_unended, lines_of, read_lines}
 use Rattle.synth_run.specs.Session.{AreTurns, Turn, all_commands, builds_in, commands_in, ended_commands, has_error, input_commands, is_overlong, is_quit, is_whole, session_said, state_after, text_in, up_to_quit}
@@ -20,8 +20,8 @@ pub record Stops (ended : Bool) (commands : List Command) : Type 0 where
 
 -- a desk made these turns, and their replies were written whole; the counter of builds rose by no more than they build
 pub record Speaks (before after : Speaker) (ended : Bool) (turns : List Turn) (had has : Option (List ℕ)) (old new : ℕ) : Type 0 where
-  pub steps : AreTurns before.desk turns
-  pub last : state_after before.desk turns ≡ after.desk
+  pub steps : AreTurns before.desk.state turns
+  pub last : state_after before.desk.state turns ≡ after.desk.state
   pub stops : Stops ended (commands_in turns)
   pub refused : after.refused ≡ (before.refused || has_error turns)
   pub written : Appends had has (text_in turns)

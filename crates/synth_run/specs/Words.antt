@@ -1,5 +1,6 @@
 -- What the words of a call ask for.
 use Rattle.std.specs.Prelude.{ℕ, ◌==◌, ◌&&◌, Bool, true, false, not, nat_le, List, [], ◌∷◌, Option, Some, None, option_and_then, if◌then◌else◌}
+use Rattle.std.specs.Option.{option_map}
 use Rattle.std.specs.Result.{result_ok}
 use Rattle.std.specs.Char.{is_ascii_digit}
 use Rattle.std.specs.List.{list_all}
@@ -7,7 +8,7 @@ use Rattle.std.specs.Str.Parse.{digits_value}
 use Rattle.script_core.specs.declared.word.Word.{Word}
 use Rattle.script_core.specs.Words.{default_script, script_of}
 use Rattle.synth_run.specs.declared.words.Mode.{Mode}
-use Rattle.synth_run.specs.declared.words.Mode.TheVariants.{Synth, Session}
+use Rattle.synth_run.specs.declared.words.Mode.TheVariants.{Synth, Session, Generate}
 use Rattle.synth_run.specs.declared.words.Plan.{Plan}
 use Rattle.synth_run.specs.Options.{Given, given_from, nothing_given}
 
@@ -32,18 +33,26 @@ abbrev pub given_workers : Option (List ℕ) → Option ℕ
 given_workers None = Some 4
 given_workers (Some text) = number_of 64 text
 
-abbrev pub mode_of : Bool → Mode
-mode_of false = Synth
-mode_of true = Session
+-- a design is made of as many modules as a text writes
+abbrev pub made_mode : List ℕ → Option Mode
+made_mode text = option_map Generate (number_of 4096 text)
 
--- what options ask for, with the script and the number of workers that they give, where they give both
-abbrev pub plan_with : Bool → Option (List Word) → Option ℕ → Option Plan
-plan_with session (Some script) (Some workers) = Some (record { mode = mode_of session; script = script; workers = workers })
-plan_with session (Some script) None = None
-plan_with session None workers = None
+-- what is done, by whether a session is asked for, and the text of `--gen`: one of these excludes the other
+abbrev pub mode_of : Bool → Option (List ℕ) → Option Mode
+mode_of false None = Some Synth
+mode_of true None = Some Session
+mode_of false (Some text) = made_mode text
+mode_of true (Some text) = None
+
+-- what options ask for, by what is done, the script and the number of workers, where they give all three
+abbrev pub plan_with : Option Mode → Option (List Word) → Option ℕ → Option Plan
+plan_with (Some mode) (Some script) (Some workers) = Some (record { mode = mode; script = script; workers = workers })
+plan_with (Some mode) (Some script) None = None
+plan_with (Some mode) None workers = None
+plan_with None script workers = None
 
 abbrev pub plan_by : Given → Option Plan
-plan_by given = plan_with given.session (given_script given.script) (given_workers given.workers)
+plan_by given = plan_with (mode_of given.session given.generate) (given_script given.script) (given_workers given.workers)
 
 -- what the words of a call ask for; None where they have no meaning
 abbrev pub plan_of : List (List ℕ) → Option Plan

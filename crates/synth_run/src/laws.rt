@@ -1,11 +1,10 @@
 //! Laws of the definitions.
 
-ghost use Rattle.std.specs.Prelude.{◌≡◌, ◌⊎◌, List, ℕ};
+ghost use Rattle.std.specs.Prelude.{◌≡◌, List, ℕ};
 ghost use Rattle.script_core.specs.declared.word.Word.{Word};
 ghost use Rattle.script_core.specs.Words.{IsScript};
 ghost use Rattle.desk_core.specs.State.{first_state};
 ghost use Rattle.synth_run.specs.declared.words.Mode.{Mode};
-ghost use Rattle.synth_run.specs.declared.words.Mode.TheVariants.{Session, Synth};
 ghost use Rattle.synth_run.specs.Refined.{PrintNetlists};
 ghost use Rattle.synth_run.specs.Replies.{IsReply};
 ghost use Rattle.synth_run.specs.Said.{Said};
@@ -15,7 +14,7 @@ ghost use Rattle.synth_run.specs.Session.{AreTurns, Turn};
 #[tactic(auto, using(crate::proofs::Replying::some_reply, crate::proofs::Only::same_reply))]
 pub fn one_reply()
     ensures some { (mode : Mode) (script : List Word) (input : List ℕ) → IsScript script →
-        (mode ≡ Synth) ⊎ (mode ≡ Session) → (said : Said) × IsReply mode script input said }
+        (said : Said) × IsReply mode script input said }
     ensures same { (mode : Mode) (script : List Word) (input : List ℕ) (said other : Said) →
         IsReply mode script input said → IsReply mode script input other → said ≡ other }
 {}

@@ -1,6 +1,7 @@
 //! The top call: a text is synthesised, or the commands of a session are answered, from a source and into a sink.
 #![tactic(auto)]
 
+mod generate;
 pub mod laws;
 mod lines;
 mod options;

@@ -11,6 +11,7 @@ ghost use Rattle.synth_run.specs.Spelled.{form_as, given_as};
 pub(crate) enum Name {
     Script,
     Workers,
+    Generate,
 }
 
 /// What a word of a call is.
@@ -36,6 +37,8 @@ fn form_of(word: &str) -> Form<'_>
         Form::Before(Name::Script)
     } else if word == "--workers" {
         Form::Before(Name::Workers)
+    } else if word == "--gen" {
+        Form::Before(Name::Generate)
     } else {
         one_word(word)
     }
@@ -60,6 +63,8 @@ fn holds_by<'a>(name: &str, value: &'a str) -> Form<'a>
         Form::Holds(Name::Script, value)
     } else if name == "--workers" {
         Form::Holds(Name::Workers, value)
+    } else if name == "--gen" {
+        Form::Holds(Name::Generate, value)
     } else {
         Form::Nothing
     }
@@ -84,6 +89,8 @@ pub(crate) struct Given<'a> {
     pub(crate) script: Option<&'a str>,
     /// The text of the number of workers.
     pub(crate) workers: Option<&'a str>,
+    /// The text of the number of modules that are made.
+    pub(crate) generate: Option<&'a str>,
 }
 
 impl<'a> Given<'a> {
@@ -95,6 +102,7 @@ impl<'a> Given<'a> {
             session: false,
             script: None,
             workers: None,
+            generate: None,
         }
     }
 
@@ -122,6 +130,10 @@ impl<'a> Given<'a> {
             }),
             Name::Workers if is_value(value) && self.workers.is_none() => Some(Given {
                 workers: Some(value),
+                ..self
+            }),
+            Name::Generate if is_value(value) && self.generate.is_none() => Some(Given {
+                generate: Some(value),
                 ..self
             }),
             _ => None,

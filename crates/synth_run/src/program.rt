@@ -2,22 +2,29 @@
 
 ghost use Rattle.std.specs.Prelude.{◌≡◌, ◌≤◌, ◌+◌, ◌⊎◌, ℕ, List, map, string_bytes, Err, IfOk, IfSome, None, OnErr};
 ghost use Rattle.std.specs.Prelude.{OnOk, OnSome, false, true};
-ghost use Rattle.std.specs.Io.KnownBytes.{Consumes, Keeps};
+ghost use Rattle.std.specs.Io.KnownBytes.{Consumes};
 ghost use Rattle.script_core.specs.Words.{IsScript};
 ghost use Rattle.synth_io.specs.Counts.{HasRisen};
 ghost use Rattle.synth_io.specs.Taking.{TakesAtMost};
 ghost use Rattle.synth_io.specs.declared.input.TheConstants.{LIMIT};
 ghost use Rattle.synth_run.specs.Builds.{CountsTurns, HasCounted};
-ghost use Rattle.synth_run.specs.Replies.{AnswersTaken, HasAnswered, HasAnsweredTaken, HasBegun, HasRefined};
-ghost use Rattle.synth_run.specs.Replies.{IsCompleted, IsPrintedSession, IsReadThrough, exit_code, status_of};
+ghost use Rattle.synth_run.specs.Replies.{AnswersTaken, HasAnswered, HasAnsweredTaken, HasBegun, HasKept, HasRefined};
+ghost use Rattle.synth_run.specs.Replies.{IsCompleted, IsPrintedSession, IsReadThrough, OfInput, exit_code};
+ghost use Rattle.synth_run.specs.Replies.{status_of};
 ghost use Rattle.synth_run.specs.Words.{plan_of};
 
+use crate::generate::generate;
 use crate::session::{Session, Stop, piece_of};
 use crate::synth::synthesise;
 use crate::words::{Mode, Plan, WordFault, read_words};
+use desk_core::Crew;
 use rtl_bits::Steps;
 use std::alloc::Global;
+use std::marker::{Send, Sync};
+use std::sync::Wait;
+use std::thread::Threads;
 use synth_io::{Sink, Source};
+use work_crew::Gate;
 
 /// How a call ended.
 #[derive(Clone, Copy, Debug, PartialEq, Eq)]
@@ -66,8 +73,8 @@ fn status_of(answered: Result<bool, Stop>) -> Status
 }
 
 /// Answers the commands of an input. Whether an error was answered.
-fn converse<S: Source, K: Sink, L: Send>(
-    alloc: Global,
+fn converse<R: Threads + Wait + Sync, S: Source, K: Sink, G: Gate, L: Send>(
+    crew: &Crew<R, G>,
     plan: Plan,
     source: &mut S,
     sink: &mut K,
@@ -94,28 +101,32 @@ fn converse<S: Source, K: Sink, L: Send>(
     ensures source_count { (result ≡ Err Stop.Source → ⊥) → S.faults source.new ≡ S.faults source.old }
     ensures sink_count { (result ≡ Err Stop.Sink → ⊥) → K.faults sink.new ≡ K.faults sink.old }
 {
-    let Ok(session) = Session::make(alloc, plan) else {
+    let Ok(session) = Session::make(crew.alloc, plan) else {
         return Err(Stop::Memory);
     };
-    let Ok(mut piece) = piece_of(alloc) else {
+    let Ok(mut piece) = piece_of(crew.alloc) else {
         return Err(Stop::Memory);
     };
-    session.answer_all(&mut piece, source, sink, meter)
+    session.answer_all(crew, &mut piece, source, sink, meter)
 }
 
 /// Does what the words ask for, over the source and into the sink.
 ///
 /// At most 67,108,865 bytes are taken, in pieces of at most 65,536; each read but the last takes at least one. Each
 /// reply is written in pieces of 4,096 bytes, of which the last may be shorter. In a session each command is answered
-/// when its last line has come, before more is read. Each build of a module is a step of the meter.
-pub fn run<S: Source, K: Sink, L: Send>(
+/// when its last line has come, before more is read. Where a design is made, nothing is read. Each build of a module is a
+/// step of the meter. The workers run in threads, as many as the words say, and a worker calls the gate before and after the
+/// job of each module.
+pub fn run<R: Threads + Wait + Sync, S: Source, K: Sink, G: Gate, L: Send>(
+    rt: &R,
     alloc: Global,
     words: &[String],
     source: &mut S,
     sink: &mut K,
+    gate: &G,
     meter: &mut Steps<L>,
 ) -> Status
-    // The whole reply was written, and no error is in it; the input was read through.
+    // The whole reply was written, and no error is in it; the input was read through, or no input is read.
     ensures done { result ≡ Status.Done → IfSome (plan_of (map string_bytes words.now)) (λ plan.
         HasAnswered plan.mode plan.script false (S.left source.old) (K.held sink.old) (K.held sink.new)
         × IsReadThrough plan.mode (S.left source.old) (S.left source.new)) }
@@ -130,6 +141,9 @@ pub fn run<S: Source, K: Sink, L: Send>(
         (result ≡ Status.Usage) ⊎ (result ≡ Status.Memory) }
     ensures untouched { plan_of (map string_bytes words.now) ≡ None →
         (source.new ≡ source.old) × (sink.new ≡ sink.old) }
+    // Where a design is made, no input is read.
+    ensures unread { IfSome (plan_of (map string_bytes words.now)) (λ plan.
+        (count : ℕ) → plan.mode ≡ Mode.Generate count → source.new ≡ source.old) }
 
     // Whatever the answer, what was written is a front of the reply.
     ensures begun { IfSome (plan_of (map string_bytes words.now)) (λ plan.
@@ -139,8 +153,9 @@ pub fn run<S: Source, K: Sink, L: Send>(
         × IfSome (plan_of (map string_bytes words.now)) (λ plan.
         HasAnsweredTaken plan.mode plan.script (S.left source.old) (S.left source.new) (K.held sink.old) (K.held sink.new)) }
     ensures write_fault { result ≡ Status.WriteFault → HasRisen (K.faults sink.old) (K.faults sink.new) }
+    // Where memory is wanting, nothing was written, but in a session.
     ensures memory { result ≡ Status.Memory → IfSome (plan_of (map string_bytes words.now)) (λ plan.
-        plan.mode ≡ Mode.Synth → Keeps (K.held sink.old) (K.held sink.new)) }
+        HasKept plan.mode (K.held sink.old) (K.held sink.new)) }
     // No other answer comes where a count changed.
     ensures source_count { (result ≡ Status.ReadFault → ⊥) → S.faults source.new ≡ S.faults source.old }
     ensures sink_count { (result ≡ Status.WriteFault → ⊥) → K.faults sink.new ≡ K.faults sink.old }
@@ -150,11 +165,12 @@ pub fn run<S: Source, K: Sink, L: Send>(
         ((HasRisen (S.faults source.old) (S.faults source.new) → ⊥)
         → (HasRisen (K.faults sink.old) (K.faults sink.new) → ⊥) → IsCompleted result) }
 
-    // Each netlist that is written is what the script makes of the design that was present then. No known output bit of
-    // any module is lost in it, whatever the stimulus, and its text reads as it.
-    ensures refines { IfSome (plan_of (map string_bytes words.now)) (λ plan. IfSome (S.left source.old) (λ input.
+    // Each netlist that is written, or whose cells are counted, is what the script makes of the design that was present
+    // then. No known output bit of any module is lost in it, whatever the stimulus, and its text reads as it.
+    ensures refines { IfSome (plan_of (map string_bytes words.now)) (λ plan. OfInput plan.mode (S.left source.old) (λ input.
         HasRefined plan.mode result plan.script input (K.held sink.old) (K.held sink.new))) }
-    // The meter rises by at most the number of different keys that the commands need and that are not kept.
+    // Where memory is not wanting, the meter rises by at most the number of different keys that the commands need and that
+    // are not kept.
     ensures builds { IfSome (plan_of (map string_bytes words.now)) (λ plan.
         HasCounted plan.mode result plan.script (S.left source.old) (S.left source.new) meter.old meter.new) }
     ensures idle { plan_of (map string_bytes words.now) ≡ None → meter.new ≡ meter.old }
@@ -164,10 +180,10 @@ pub fn run<S: Source, K: Sink, L: Send>(
         Err(WordFault::Usage) => return Status::Usage,
         Err(WordFault::Memory) => return Status::Memory,
     };
+    let crew = Crew { rt, alloc, gate };
     match plan.mode {
-        Mode::Synth => status_of(synthesise(alloc, plan, source, sink, meter)),
-        Mode::Session => status_of(converse(alloc, plan, source, sink, meter)),
-        // No words have this meaning yet.
-        Mode::Generate(_) => Status::Usage,
+        Mode::Synth => status_of(synthesise(&crew, plan, source, sink, meter)),
+        Mode::Session => status_of(converse(&crew, plan, source, sink, meter)),
+        Mode::Generate(count) => status_of(generate(&crew, plan, count, sink, meter)),
     }
 }

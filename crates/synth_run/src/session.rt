@@ -18,12 +18,16 @@ ghost use Rattle.synth_run.specs.Taking.{TakesBytes, TakesLines};
 
 use crate::lines::{split_line, without_cr};
 use crate::words::Plan;
-use desk_core::{Command, CommandReader, Desk};
+use desk_core::{Command, CommandReader, Crew, Desk};
 use reply_lines::error_reply;
 use rtl_bits::{Memory, Steps, Text};
 use std::alloc::Global;
+use std::marker::{Send, Sync};
 use std::mem;
+use std::sync::Wait;
+use std::thread::Threads;
 use synth_io::{Failed, Next, Sink, Source, read_next, write_reply};
+use work_crew::Gate;
 
 /// The most bytes that are asked for at once.
 const PIECE: usize = 65_536;
@@ -62,8 +66,9 @@ fn is_quit(command: &Command) -> bool
 
 impl Speaker {
     /// Answers the command, and writes the reply. Whether it ends the session.
-    fn answer<K: Sink, L: Send>(
+    fn answer<R: Threads + Wait + Sync, K: Sink, G: Gate, L: Send>(
         &mut self,
+        crew: &Crew<R, G>,
         command: &Command,
         sink: &mut K,
         meter: &mut Steps<L>,
@@ -71,12 +76,12 @@ impl Speaker {
         ensures ok { IfOk result (λ ended. (turns : List Turn) × (commands_in turns ≡ command.now ∷ [])
             × Speaks self.old self.new ended turns (K.held sink.old) (K.held sink.new) meter.old meter.new) }
         ensures err { IfErr result (λ stop. (turns : List Turn) × BeginWith (command.now ∷ []) turns
-            × Breaks self.old.desk stop turns (K.held sink.old) (K.held sink.new) meter.old meter.new) }
+            × Breaks self.old.desk.state stop turns (K.held sink.old) (K.held sink.new) meter.old meter.new) }
         ensures cause { result ≡ Err Stop.Sink → HasRisen (K.faults sink.old) (K.faults sink.new) }
         ensures same { (result ≡ Err Stop.Sink → ⊥) → K.faults sink.new ≡ K.faults sink.old }
         ensures source { result ≡ Err Stop.Source → ⊥ }
     {
-        let Ok(reply) = self.desk.command(command, meter) else {
+        let Ok(reply) = self.desk.command(crew.rt, command, crew.gate, meter) else {
             return Err(Stop::Memory);
         };
         let Ok(()) = write_reply(sink, reply.text.as_slice()) else {
@@ -88,8 +93,9 @@ impl Speaker {
 
     /// Answers the command, where there is one.
     #[tactic(auto, using(crate::proofs::Turning::silent))]
-    fn answer_any<K: Sink, L: Send>(
+    fn answer_any<R: Threads + Wait + Sync, K: Sink, G: Gate, L: Send>(
         &mut self,
+        crew: &Crew<R, G>,
         command: Option<Command>,
         sink: &mut K,
         meter: &mut Steps<L>,
@@ -97,14 +103,14 @@ impl Speaker {
         ensures ok { IfOk result (λ ended. (turns : List Turn) × (commands_in turns ≡ option_to_list command)
             × Speaks self.old self.new ended turns (K.held sink.old) (K.held sink.new) meter.old meter.new) }
         ensures err { IfErr result (λ stop. (turns : List Turn) × BeginWith (option_to_list command) turns
-            × Breaks self.old.desk stop turns (K.held sink.old) (K.held sink.new) meter.old meter.new) }
+            × Breaks self.old.desk.state stop turns (K.held sink.old) (K.held sink.new) meter.old meter.new) }
         ensures cause { result ≡ Err Stop.Sink → HasRisen (K.faults sink.old) (K.faults sink.new) }
         ensures same { (result ≡ Err Stop.Sink → ⊥) → K.faults sink.new ≡ K.faults sink.old }
         ensures source { result ≡ Err Stop.Source → ⊥ }
     {
         match command {
             None => Ok(false),
-            Some(command) => self.answer(&command, sink, meter),
+            Some(command) => self.answer(crew, &command, sink, meter),
         }
     }
 }
@@ -114,7 +120,7 @@ impl Session {
     pub(crate) fn make(alloc: Global, plan: Plan) -> Result<Session, Memory>
         requires some { 1 ≤ plan.workers }
         requires few { plan.workers ≤ 64 }
-        ensures desk { IfOk result (λ session. session.speaker.desk ≡ first_state plan.script) }
+        ensures desk { IfOk result (λ session. session.speaker.desk.state ≡ first_state plan.script) }
         ensures fresh { IfOk result (λ session. (session.speaker.refused ≡ false) × (session.reader ≡
             None) × (session.line ≡ [])) }
     {
@@ -130,8 +136,9 @@ impl Session {
     }
 
     /// Takes a line, and answers the command that it completes. Whether that ends the session.
-    fn take_line<K: Sink, L: Send>(
+    fn take_line<R: Threads + Wait + Sync, K: Sink, G: Gate, L: Send>(
         &mut self,
+        crew: &Crew<R, G>,
         line: &[u8],
         sink: &mut K,
         meter: &mut Steps<L>,
@@ -140,21 +147,22 @@ impl Session {
             []) turns self.new.reader
             × Speaks self.old.speaker self.new.speaker ended turns (K.held sink.old) (K.held sink.new) meter.old meter.new) }
         ensures err { IfErr result (λ stop. (turns : List Turn) × BeginsLines self.old.reader (line.now ∷ []) turns
-            × Breaks self.old.speaker.desk stop turns (K.held sink.old) (K.held sink.new) meter.old meter.new) }
+            × Breaks self.old.speaker.desk.state stop turns (K.held sink.old) (K.held sink.new) meter.old meter.new) }
         ensures line { self.new.line ≡ self.old.line }
         ensures cause { result ≡ Err Stop.Sink → HasRisen (K.faults sink.old) (K.faults sink.new) }
         ensures same { (result ≡ Err Stop.Sink → ⊥) → K.faults sink.new ≡ K.faults sink.old }
         ensures source { result ≡ Err Stop.Source → ⊥ }
     {
         match self.reader.feed(line) {
-            Ok(command) => self.speaker.answer_any(command, sink, meter),
+            Ok(command) => self.speaker.answer_any(crew, command, sink, meter),
             Err(Memory) => Err(Stop::Memory),
         }
     }
 
     /// Takes the line whose end has come. Whether that ends the session.
-    fn end_line<K: Sink, L: Send>(
+    fn end_line<R: Threads + Wait + Sync, K: Sink, G: Gate, L: Send>(
         &mut self,
+        crew: &Crew<R, G>,
         sink: &mut K,
         meter: &mut Steps<L>,
     ) -> Result<bool, Stop>
@@ -163,7 +171,7 @@ impl Session {
             × Speaks self.old.speaker self.new.speaker ended turns (K.held sink.old) (K.held sink.new) meter.old meter.new) }
         ensures err { IfErr result (λ stop.
             (turns : List Turn) × BeginsLines self.old.reader (read_lines (self.old.line ∷ [])) turns
-            × Breaks self.old.speaker.desk stop turns (K.held sink.old) (K.held sink.new) meter.old meter.new) }
+            × Breaks self.old.speaker.desk.state stop turns (K.held sink.old) (K.held sink.new) meter.old meter.new) }
         ensures line { self.new.line ≡ [] }
         ensures cause { result ≡ Err Stop.Sink → HasRisen (K.faults sink.old) (K.faults sink.new) }
         ensures same { (result ≡ Err Stop.Sink → ⊥) → K.faults sink.new ≡ K.faults sink.old }
@@ -171,7 +179,7 @@ impl Session {
     {
         let empty = Text::make(self.line.allocator());
         let line = mem::replace(&mut self.line, empty);
-        self.take_line(without_cr(line.as_slice()), sink, meter)
+        self.take_line(crew, without_cr(line.as_slice()), sink, meter)
     }
 
     /// Puts bytes without LF behind the line whose end has not come.
@@ -184,8 +192,9 @@ impl Session {
 
     /// Takes bytes, and answers the commands whose last lines end in them, up to one that ends the session. Whether one
     /// does.
-    fn take_bytes<K: Sink, L: Send>(
+    fn take_bytes<R: Threads + Wait + Sync, K: Sink, G: Gate, L: Send>(
         &mut self,
+        crew: &Crew<R, G>,
         bytes: &[u8],
         sink: &mut K,
         meter: &mut Steps<L>,
@@ -200,7 +209,7 @@ impl Session {
             × Speaks self.old.speaker self.new.speaker true turns (K.held sink.old) (K.held sink.new) meter.old meter.new }
         ensures err { IfErr result (λ stop. (lines : List (List ℕ)) × (turns : List Turn)
             × BeginsBytes self.old.line bytes.now lines × BeginsLines self.old.reader (read_lines lines) turns
-            × Breaks self.old.speaker.desk stop turns (K.held sink.old) (K.held sink.new) meter.old meter.new) }
+            × Breaks self.old.speaker.desk.state stop turns (K.held sink.old) (K.held sink.new) meter.old meter.new) }
         ensures cause { result ≡ Err Stop.Sink → HasRisen (K.faults sink.old) (K.faults sink.new) }
         ensures same { (result ≡ Err Stop.Sink → ⊥) → K.faults sink.new ≡ K.faults sink.old }
         ensures source { result ≡ Err Stop.Source → ⊥ }
@@ -210,7 +219,7 @@ impl Session {
             let Ok(()) = self.hold(front) else {
                 return Err(Stop::Memory);
             };
-            match self.end_line(sink, meter) {
+            match self.end_line(crew, sink, meter) {
                 Ok(false) => left = behind,
                 Ok(true) => return Ok(true),
                 Err(stop) => return Err(stop),
@@ -223,8 +232,9 @@ impl Session {
     }
 
     /// Takes the last line, which has no end; nothing where it is empty.
-    fn take_last<K: Sink, L: Send>(
+    fn take_last<R: Threads + Wait + Sync, K: Sink, G: Gate, L: Send>(
         &mut self,
+        crew: &Crew<R, G>,
         sink: &mut K,
         meter: &mut Steps<L>,
     ) -> Result<bool, Stop>
@@ -233,7 +243,7 @@ impl Session {
             × Speaks self.old.speaker self.new.speaker ended turns (K.held sink.old) (K.held sink.new) meter.old meter.new) }
         ensures err { IfErr result (λ stop.
             (turns : List Turn) × BeginsLines self.old.reader (last_line self.old.line) turns
-            × Breaks self.old.speaker.desk stop turns (K.held sink.old) (K.held sink.new) meter.old meter.new) }
+            × Breaks self.old.speaker.desk.state stop turns (K.held sink.old) (K.held sink.new) meter.old meter.new) }
         ensures cause { result ≡ Err Stop.Sink → HasRisen (K.faults sink.old) (K.faults sink.new) }
         ensures same { (result ≡ Err Stop.Sink → ⊥) → K.faults sink.new ≡ K.faults sink.old }
         ensures source { result ≡ Err Stop.Source → ⊥ }
@@ -243,22 +253,27 @@ impl Session {
         if line.as_slice().is_empty() {
             return Ok(false);
         }
-        self.take_line(line.as_slice(), sink, meter)
+        self.take_line(crew, line.as_slice(), sink, meter)
     }
 
     /// Ends the input. Whether an error was answered.
-    fn finish<K: Sink, L: Send>(mut self, sink: &mut K, meter: &mut Steps<L>) -> Result<bool, Stop>
+    fn finish<R: Threads + Wait + Sync, K: Sink, G: Gate, L: Send>(
+        mut self,
+        crew: &Crew<R, G>,
+        sink: &mut K,
+        meter: &mut Steps<L>,
+    ) -> Result<bool, Stop>
         ensures ok { IfOk result (λ refused.
-            Finishes self.speaker.desk self.speaker.refused (commands_from self.reader (last_line self.line))
+            Finishes self.speaker.desk.state self.speaker.refused (commands_from self.reader (last_line self.line))
             refused (K.held sink.old) (K.held sink.new) meter.old meter.new) }
         ensures err { IfErr result (λ stop.
             (turns : List Turn) × BeginWith (commands_from self.reader (last_line self.line)) turns
-            × Breaks self.speaker.desk stop turns (K.held sink.old) (K.held sink.new) meter.old meter.new) }
+            × Breaks self.speaker.desk.state stop turns (K.held sink.old) (K.held sink.new) meter.old meter.new) }
         ensures cause { result ≡ Err Stop.Sink → HasRisen (K.faults sink.old) (K.faults sink.new) }
         ensures same { (result ≡ Err Stop.Sink → ⊥) → K.faults sink.new ≡ K.faults sink.old }
         ensures source { result ≡ Err Stop.Source → ⊥ }
     {
-        match self.take_last(sink, meter) {
+        match self.take_last(crew, sink, meter) {
             Ok(false) => {}
             Ok(true) => return Ok(self.speaker.refused),
             Err(stop) => return Err(stop),
@@ -268,15 +283,16 @@ impl Session {
             reader,
             line: _,
         } = self;
-        match speaker.answer_any(reader.finish(), sink, meter) {
+        match speaker.answer_any(crew, reader.finish(), sink, meter) {
             Ok(_) => Ok(speaker.refused),
             Err(stop) => Err(stop),
         }
     }
 
     /// Answers the commands of an input, each when its last line has come. Whether an error was answered.
-    pub(crate) fn answer_all<S: Source, K: Sink, L: Send>(
+    pub(crate) fn answer_all<R: Threads + Wait + Sync, S: Source, K: Sink, G: Gate, L: Send>(
         mut self,
+        crew: &Crew<R, G>,
         piece: &mut [u8],
         source: &mut S,
         sink: &mut K,
@@ -284,9 +300,9 @@ impl Session {
     ) -> Result<bool, Stop>
         requires fresh { (self.speaker.refused ≡ false) × (self.reader ≡ None) × (self.line ≡ []) }
         requires some { 0 < length piece.old }
-        ensures ok { IfOk result (λ refused. Held self.speaker.desk refused (S.left source.old) (S.left source.new)
+        ensures ok { IfOk result (λ refused. Held self.speaker.desk.state refused (S.left source.old) (S.left source.new)
             (K.held sink.old) (K.held sink.new) meter.old meter.new) }
-        ensures err { IfErr result (λ stop. Broken self.speaker.desk stop (S.left source.old) (S.left source.new)
+        ensures err { IfErr result (λ stop. Broken self.speaker.desk.state stop (S.left source.old) (S.left source.new)
             (K.held sink.old) (K.held sink.new) meter.old meter.new) }
         ensures taken { TakesAtMost (LIMIT + 1) (S.left source.old) (S.left source.new) }
         ensures read_fault { result ≡ Err Stop.Source → HasRisen (S.faults source.old) (S.faults source.new) }
@@ -300,13 +316,13 @@ impl Session {
             match next {
                 Ok(Next::Bytes(count)) => {
                     taken += count;
-                    match self.take_bytes(&piece[..count], sink, meter) {
+                    match self.take_bytes(crew, &piece[..count], sink, meter) {
                         Ok(false) => {}
                         Ok(true) => return Ok(self.speaker.refused),
                         Err(stop) => return Err(stop),
                     }
                 }
-                Ok(Next::End) => return self.finish(sink, meter),
+                Ok(Next::End) => return self.finish(crew, sink, meter),
                 Ok(Next::Past) => return refuse_long(self.line.allocator(), sink),
                 Err(Failed) => return Err(Stop::Source),
             }

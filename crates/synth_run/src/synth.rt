@@ -5,7 +5,8 @@ ghost use Rattle.std.specs.Io.KnownBytes.{Appends, Keeps};
 ghost use Rattle.synth_io.specs.Counts.{HasRisen};
 ghost use Rattle.synth_io.specs.Taking.{TakesAtMost};
 ghost use Rattle.synth_io.specs.declared.input.TheConstants.{LIMIT};
-ghost use Rattle.desk_core.specs.Builds.{RisesUpTo, builds_of};
+ghost use Rattle.build_crew.specs.Rises.{RisesUpTo};
+ghost use Rattle.desk_core.specs.Builds.{builds_of};
 ghost use Rattle.desk_core.specs.Step.{IsStep};
 ghost use Rattle.script_core.specs.Words.{IsScript};
 ghost use Rattle.synth_run.specs.declared.words.Mode.TheVariants.{Synth};
@@ -18,30 +19,34 @@ ghost use Rattle.synth_run.specs.Synth.{IsTextReply};
 use crate::lines::after_line;
 use crate::session::{Stop, refuse_long};
 use crate::words::Plan;
-use desk_core::{Command, Desk};
+use desk_core::{Command, Crew, Desk};
 use reply_lines::Reply;
 use rtl_bits::{Memory, Steps, Text};
-use std::alloc::Global;
+use std::marker::{Send, Sync};
+use std::sync::Wait;
+use std::thread::Threads;
 use synth_io::{Failed, InputError, Sink, Source, read_input, write_reply};
+use work_crew::Gate;
 
 /// The reply of the desk to a command.
-fn reply_to<L: Send>(
+fn reply_to<R: Threads + Wait + Sync, G: Gate, L: Send>(
+    crew: &Crew<R, G>,
     desk: &mut Desk,
     command: &Command,
     meter: &mut Steps<L>,
 ) -> Result<Reply, Stop>
-    ensures step { IfOk result (λ reply. IsStep command.now desk.old reply desk.new) }
-    ensures builds { RisesUpTo (builds_of command.now desk.old) meter.old meter.new }
+    ensures step { IfOk result (λ reply. IsStep command.now desk.old.state reply desk.new.state) }
+    ensures builds { OnOk result (RisesUpTo (builds_of command.now desk.old.state) meter.old meter.new) }
     ensures cause { OnErr result (result ≡ Err Stop.Memory) }
 {
-    match desk.command(command, meter) {
+    match desk.command(crew.rt, command, crew.gate, meter) {
         Ok(reply) => Ok(reply),
         Err(Memory) => Err(Stop::Memory),
     }
 }
 
 /// Writes the text. Whether it is an error.
-fn tell<K: Sink>(sink: &mut K, text: &[u8], error: bool) -> Result<bool, Stop>
+pub(crate) fn tell<K: Sink>(sink: &mut K, text: &[u8], error: bool) -> Result<bool, Stop>
     ensures ok { IfOk result (λ is_error. (is_error ≡ error) × Appends (K.held sink.old) (K.held sink.new) text.now) }
     ensures err { OnErr result (result ≡ Err Stop.Sink) }
     ensures front { (n : ℕ) × Appends (K.held sink.old) (K.held sink.new) (take n text.now) }
@@ -55,9 +60,8 @@ fn tell<K: Sink>(sink: &mut K, text: &[u8], error: bool) -> Result<bool, Stop>
 }
 
 /// Writes the netlist of the text, or an error. Whether it is an error.
-
-fn answer_text<K: Sink, L: Send>(
-    alloc: Global,
+fn answer_text<R: Threads + Wait + Sync, K: Sink, G: Gate, L: Send>(
+    crew: &Crew<R, G>,
     plan: Plan,
     text: Text,
     sink: &mut K,
@@ -74,19 +78,19 @@ fn answer_text<K: Sink, L: Send>(
         ((n : ℕ) × Appends (K.held sink.old) (K.held sink.new) (take n said.text)) }
     ensures memory { result ≡ Err Stop.Memory → Keeps (K.held sink.old) (K.held sink.new) }
     ensures refines { result ≡ Ok false → IsRefinedBy plan.script text (K.held sink.old) (K.held sink.new) }
-    ensures builds { CountsBuilds plan.script text meter.old meter.new }
+    ensures builds { (result ≡ Err Stop.Memory → ⊥) → CountsBuilds plan.script text meter.old meter.new }
     ensures cause { result ≡ Err Stop.Sink → HasRisen (K.faults sink.old) (K.faults sink.new) }
     ensures same { (result ≡ Err Stop.Sink → ⊥) → K.faults sink.new ≡ K.faults sink.old }
     ensures source { result ≡ Err Stop.Source → ⊥ }
 {
-    let Ok(mut desk) = Desk::make(alloc, plan.script, plan.workers) else {
+    let Ok(mut desk) = Desk::make(crew.alloc, plan.script, plan.workers) else {
         return Err(Stop::Memory);
     };
-    let loaded = reply_to(&mut desk, &Command::Load(text), meter)?;
+    let loaded = reply_to(crew, &mut desk, &Command::Load(text), meter)?;
     if loaded.error {
         return tell(sink, loaded.text.as_slice(), true);
     }
-    let printed = reply_to(&mut desk, &Command::Print, meter)?;
+    let printed = reply_to(crew, &mut desk, &Command::Print, meter)?;
     if printed.error {
         return tell(sink, printed.text.as_slice(), true);
     }
@@ -94,8 +98,8 @@ fn answer_text<K: Sink, L: Send>(
 }
 
 /// Reads one text, and writes its netlist or an error. Whether it is an error.
-pub(crate) fn synthesise<S: Source, K: Sink, L: Send>(
-    alloc: Global,
+pub(crate) fn synthesise<R: Threads + Wait + Sync, S: Source, K: Sink, G: Gate, L: Send>(
+    crew: &Crew<R, G>,
     plan: Plan,
     source: &mut S,
     sink: &mut K,
@@ -111,16 +115,17 @@ pub(crate) fn synthesise<S: Source, K: Sink, L: Send>(
     ensures kept { (result ≡ Err Stop.Source) ⊎ (result ≡ Err Stop.Memory) → Keeps (K.held sink.old) (K.held sink.new) }
     ensures refines { result ≡ Ok false → IfSome (S.left source.old) (λ input.
         IsRefinedBy plan.script input (K.held sink.old) (K.held sink.new)) }
-    ensures builds { IfSome (S.left source.old) (λ input. CountsBuilds plan.script input meter.old meter.new) }
+    ensures builds { (result ≡ Err Stop.Memory → ⊥) → IfSome (S.left source.old) (λ input.
+        CountsBuilds plan.script input meter.old meter.new) }
     ensures taken { TakesAtMost (LIMIT + 1) (S.left source.old) (S.left source.new) }
     ensures read_fault { result ≡ Err Stop.Source → HasRisen (S.faults source.old) (S.faults source.new) }
     ensures write_fault { result ≡ Err Stop.Sink → HasRisen (K.faults sink.old) (K.faults sink.new) }
     ensures source_count { (result ≡ Err Stop.Source → ⊥) → S.faults source.new ≡ S.faults source.old }
     ensures sink_count { (result ≡ Err Stop.Sink → ⊥) → K.faults sink.new ≡ K.faults sink.old }
 {
-    match read_input(alloc, source) {
-        Ok(text) => answer_text(alloc, plan, text, sink, meter),
-        Err(InputError::TooLong) => refuse_long(alloc, sink),
+    match read_input(crew.alloc, source) {
+        Ok(text) => answer_text(crew, plan, text, sink, meter),
+        Err(InputError::TooLong) => refuse_long(crew.alloc, sink),
         Err(InputError::Failed) => Err(Stop::Source),
         Err(InputError::Memory) => Err(Stop::Memory),
     }

@@ -20,12 +20,14 @@ fn options_command<'a>(alloc: Global) -> Result<Command<'a>, AllocError>
         .action(ArgAction::SetTrue);
     let script = Arg::new(alloc, "script").long("script");
     let workers = Arg::new(alloc, "workers").long("workers");
+    let generate = Arg::new(alloc, "gen").long("gen");
     Command::new(alloc, "rtlsyn")
         .no_binary_name(true)
         .disable_help_flag(true)
         .arg(session)?
         .arg(script)?
-        .arg(workers)
+        .arg(workers)?
+        .arg(generate)
 }
 
 /// The options that the words give. Where the words follow the rule of options, only want of memory refuses.
@@ -39,5 +41,6 @@ pub(crate) fn read_values<'a>(alloc: Global, words: &'a [String]) -> Result<Give
         session: matches.get_flag("session"),
         script: matches.get_str("script"),
         workers: matches.get_str("workers"),
+        generate: matches.get_str("gen"),
     })
 }

@@ -7,7 +7,8 @@ ghost use Rattle.synth_run.specs.Spelled.{given_as};
 ghost use Rattle.std.specs.Option.{option_map};
 ghost use Rattle.std.specs.Char.{is_ascii_digit};
 ghost use Rattle.std.specs.List.{list_all};
-ghost use Rattle.synth_run.specs.Words.{given_script, given_workers, is_number, mode_of, number_of, plan_by, plan_of};
+ghost use Rattle.synth_run.specs.Words.{given_script, given_workers, is_number, made_mode, mode_of, number_of, plan_by};
+ghost use Rattle.synth_run.specs.Words.{plan_of};
 
 use crate::options::{Given, are_options};
 use crate::values::read_values;
@@ -16,14 +17,14 @@ use script_core::{Script, ScriptFault, default_script, parse_script};
 use std::alloc::Global;
 use thiserror::Error;
 
-/// What is done with the input.
+/// What a call does.
 #[derive(Clone, Copy, Debug, PartialEq, Eq)]
 pub enum Mode {
     /// The input is one text; its netlist is written.
     Synth,
     /// The input is a list of commands, each of which is answered.
     Session,
-    /// A design of so many modules is made, and a summary of its netlist is written. No words ask for it yet.
+    /// A design of so many modules is made, and a summary of its netlist is written. No input is read.
     Generate(u32),
 }
 
@@ -76,12 +77,29 @@ fn number_of(most: u32, text: &str) -> Option<u32>
     }
 }
 
-/// The mode of a session, or of one text.
-fn mode_of(session: bool) -> Mode
-    ensures value { result ≡ mode_of session }
-    ensures modes { (n : ℕ) → result ≡ Mode.Generate n → ⊥ }
+/// The mode that makes a design, by the text of how many modules it has.
+fn made_mode(text: &str) -> Option<Mode>
+    ensures value { result ≡ made_mode text.now }
+    ensures few { IfSome result (λ mode. (n : ℕ) → mode ≡ Mode.Generate n → n ≤ 4096) }
 {
-    if session { Mode::Session } else { Mode::Synth }
+    match number_of(4096, text) {
+        Some(count) => Some(Mode::Generate(count)),
+        None => None,
+    }
+}
+
+/// What is done: a session is held, a design is made, or one text is synthesised. A session excludes a design that is
+/// made.
+fn mode_of(session: bool, modules: Option<&str>) -> Option<Mode>
+    ensures value { result ≡ mode_of session (option_map (λ t. t.now) modules.entry) }
+    ensures few { IfSome result (λ mode. (n : ℕ) → mode ≡ Mode.Generate n → n ≤ 4096) }
+{
+    match (session, modules) {
+        (false, None) => Some(Mode::Synth),
+        (true, None) => Some(Mode::Session),
+        (false, Some(text)) => made_mode(text),
+        (true, Some(_)) => None,
+    }
 }
 
 /// The script of the text, or the default one.
@@ -120,17 +138,19 @@ fn plan_by(alloc: Global, given: Given<'_>) -> Result<Plan, WordFault>
     ensures usage { result ≡ Err WordFault.Usage → plan_by (given_as given.entry) ≡ None }
     ensures workers { IfOk result (λ plan. (1 ≤ plan.workers) × (plan.workers ≤ 64)) }
     ensures script { IfOk result (λ plan. IsScript plan.script) }
-    ensures modes { (n : ℕ) → IfOk result (λ plan. plan.mode ≡ Mode.Generate n → ⊥) }
+    ensures modules { IfOk result (λ plan. (n : ℕ) → plan.mode ≡ Mode.Generate n → n ≤ 4096) }
 {
-    let Some(workers) = given_workers(given.workers) else {
+    let Some(mode) = mode_of(given.session, given.generate) else {
         return Err(WordFault::Usage);
     };
     let script = match given_script(alloc, given.script) {
         Ok(script) => script,
         Err(fault) => return Err(fault),
     };
+    let Some(workers) = given_workers(given.workers) else {
+        return Err(WordFault::Usage);
+    };
     let _words = script.as_slice();
-    let mode = mode_of(given.session);
     Ok(Plan {
         mode,
         script,
@@ -140,15 +160,16 @@ fn plan_by(alloc: Global, given: Given<'_>) -> Result<Plan, WordFault>
 
 /// What the words of a call ask for.
 ///
-/// `--session`, `--script S` and `--workers N` stand in any order, each at most once. A value is the next word, or
-/// follows `=` in the same word; it is not empty and does not begin with `-`. S is a script as `parse_script` takes it,
-/// N a number from 1 to 64 in decimal digits without a leading zero. All other words have no meaning.
+/// `--session`, `--gen N`, `--script S` and `--workers N` stand in any order, each at most once, and `--session` excludes
+/// `--gen`. A value is the next word, or follows `=` in the same word; it is not empty and does not begin with `-`. S is a
+/// script as `parse_script` takes it. A number has decimal digits without a leading zero, and is from 1 to 64 of workers,
+/// from 1 to 4,096 of modules that are made. All other words have no meaning.
 pub fn read_words(alloc: Global, words: &[String]) -> Result<Plan, WordFault>
     ensures plan { IfOk result (λ plan. plan_of (map string_bytes words.now) ≡ Some plan) }
     ensures usage { result ≡ Err WordFault.Usage → plan_of (map string_bytes words.now) ≡ None }
     ensures workers { IfOk result (λ plan. (1 ≤ plan.workers) × (plan.workers ≤ 64)) }
     ensures script { IfOk result (λ plan. IsScript plan.script) }
-    ensures modes { (n : ℕ) → IfOk result (λ plan. plan.mode ≡ Mode.Generate n → ⊥) }
+    ensures modules { IfOk result (λ plan. (n : ℕ) → plan.mode ≡ Mode.Generate n → n ≤ 4096) }
 {
     if !are_options(words) {
         return Err(WordFault::Usage);

@@ -1,56 +1,221 @@
-use Rattle.std.proofs.Common.{◌≡◌, ◌+◌, ◌-◌, ◌<◌, length, refl, ◌∙◌, arith}
-use Rattle.rtl_sig.specs.Names.{has_name}
-use Rattle.result_cache.specs.Filled.{filled_keys}
-use Rattle.result_cache.proofs.NewKeys.{fresh}
-use Rattle.desk_core.specs.Netlist.{key_text_at}
-use Rattle.desk_core.proofs.Finding.{count_new, count_old, found_all, found_first, found_more, found_still, fresh_few, ticks_all, ticks_more}
-use Rattle.desk_core.proofs.Rises.{rises_none}
+use Rattle.std.proofs.Common.{◌≡◌, ◌++◌, List, Option, length, take, drop, refl, sym, ap, subst, ◌∙◌, arith}
+use Rattle.std.specs.List.{list_all}
+use Rattle.std.specs.Option.{is_some}
+use Rattle.std.specs.Vec.{with_items}
+use Rattle.rtl_ir.specs.declared.module.Design.{Design}
+use Rattle.result_cache.specs.Filled.{new_count}
+use Rattle.result_cache.specs.Seats.{Seated}
+use Rattle.build_crew.specs.declared.finding.Found.{Found}
+use Rattle.build_crew.specs.Kept.{HasStill, kept_by}
+use Rattle.build_crew.specs.Leaves.{HasRun, HasStopped, new_among}
+use Rattle.script_core.specs.declared.built.Built.{Built}
+use Rattle.desk_core.specs.declared.results.Results.{Results}
+use Rattle.desk_core.specs.Builds.{BuildsOrReturns, HasClaims}
+use Rattle.desk_core.specs.Netlist.{key_texts}
+use Rattle.desk_core.specs.Results.{AreSeated, TellKeys}
+use Rattle.desk_core.proofs.Finding.{all_beside, back_whole, beside_of, built_few, run_returns, run_ticks, sound_run, sound_stopped, stopped_returns, tell_keys}
+use Rattle.desk_core.proofs.Rises.{returns_none}
 use Rattle.desk_core.proofs.Told.{on_err}
-use Rattle.desk_core.proofs.results.find_all.Goals.{then-branch, else-branch}
 use Rattle.desk_core.proofs.results.find_all.Goals as goal
 
 pub returns-in_err-table-clause-err : goal.returns-in_err-table-clause-err
 returns-in_err-table-clause-err g c = on_err c.from_residual.result (λ text known. known)
 
-pub returns-in_err-table-clause-ticks : goal.returns-in_err-table-clause-ticks
-returns-in_err-table-clause-ticks g c = rises_none _ c.args.meter.now c.args.meter.now refl
+pub returns-in_err-table-clause-returned : goal.returns-in_err-table-clause-returned
+returns-in_err-table-clause-returned g c = returns_none _ c.args.results.now.seats.items c.args.results.now.seats.items c.args.meter.now c.args.meter.now refl refl
 
-pub returns-in_err-find_at-clause-err : goal.returns-in_err-find_at-clause-err
-returns-in_err-find_at-clause-err g c =
-    on_err c.from_residual-in_err-find_at.result
-    (found_still c.args.results.now c.loop-at.results c.find_at.new.results c.loop-at.at c.loop-at.built c.loop-at.invariant.found c.in_err-find_at.ensures.err)
+pub found_by-requires-clause-seats : goal.found_by-requires-clause-seats
+found_by-requires-clause-seats g c κs within =
+    let results = c.args.results.now in
+    subst (AreSeated results.cache.table.shared.table_id results.cache.shards) (sym c.as_mut_slice.ensures.value) c.requires.sound.idle
 
-pub returns-in_err-find_at-clause-ticks : goal.returns-in_err-find_at-clause-ticks
-returns-in_err-find_at-clause-ticks g c =
+pub found_by-requires-clause-keys : goal.found_by-requires-clause-keys
+found_by-requires-clause-keys g c κs within =
+    let design = c.args.design.now.design in
+    let table = c.in_ok-table.table.modules.now in
+    subst (λ (found : List (Option Built)). TellKeys design table c.args.script.now found) (sym c.as_slice.ensures.value)
+    (tell_keys design table c.args.script.now c.args.results.now (c.in_ok-table.ensures.value ∙ ap (λ (d : Design). d.modules) c.design.ensures.value) c.requires.sound)
+
+pub returns-in_err-items-clause-sound : goal.returns-in_err-items-clause-sound
+returns-in_err-items-clause-sound g c =
+    let results = c.args.results.now in
+    let news = c.found_by.new.seats in
+    let keys = key_texts c.args.script.now c.args.design.now.design.modules in
+    let lent = ap length c.as_mut_slice.ensures.value in
+    let kept = c.found_by.auto.seats in
+    let size = results.seats.ok.0 in
+    let back : take results.seats.len (news ++ drop (length news) results.seats.items) ≡ news = back_whole results.seats.len results.seats.items news (omega (arith, lent, kept, size)) in
+    let stopped : HasStopped keys results.seats.items news c.args.meter.now c.found_by.new.meter =
+    subst (λ (s : List Seated). HasStopped keys s news c.args.meter.now c.found_by.new.meter) c.as_mut_slice.ensures.value c.in_err-items.ensures.err in
+    let after : Results = record { cache = results.cache; seats = with_items results.seats news; found = results.found } in
+    sound_stopped c.args.design.now.design c.args.script.now results after c.requires.sound
+    (subst (AreSeated results.cache.table.shared.table_id results.cache.shards) (sym back) c.found_by.ensures.seats) refl
+    (subst (λ (s : List Seated). HasStill (kept_by results.seats.items) (kept_by s)) (sym back) stopped.kept)
+
+pub returns-in_err-items-clause-err : goal.returns-in_err-items-clause-err
+returns-in_err-items-clause-err g c =
+    let results = c.args.results.now in
+    let news = c.found_by.new.seats in
+    let keys = key_texts c.args.script.now c.args.design.now.design.modules in
+    let lent = ap length c.as_mut_slice.ensures.value in
+    let kept = c.found_by.auto.seats in
+    let size = results.seats.ok.0 in
+    let back : take results.seats.len (news ++ drop (length news) results.seats.items) ≡ news = back_whole results.seats.len results.seats.items news (omega (arith, lent, kept, size)) in
+    let stopped : HasStopped keys results.seats.items news c.args.meter.now c.found_by.new.meter =
+    subst (λ (s : List Seated). HasStopped keys s news c.args.meter.now c.found_by.new.meter) c.as_mut_slice.ensures.value c.in_err-items.ensures.err in
+    on_err c.from_residual-in_err-items.result (subst (λ (s : List Seated). HasStill (kept_by results.seats.items) (kept_by s)) (sym back) stopped.kept)
+
+pub returns-in_err-items-clause-returned : goal.returns-in_err-items-clause-returned
+returns-in_err-items-clause-returned g c =
+    let results = c.args.results.now in
+    let news = c.found_by.new.seats in
+    let keys = key_texts c.args.script.now c.args.design.now.design.modules in
+    let lent = ap length c.as_mut_slice.ensures.value in
+    let kept = c.found_by.auto.seats in
+    let size = results.seats.ok.0 in
+    let back : take results.seats.len (news ++ drop (length news) results.seats.items) ≡ news = back_whole results.seats.len results.seats.items news (omega (arith, lent, kept, size)) in
+    let stopped : HasStopped keys results.seats.items news c.args.meter.now c.found_by.new.meter =
+    subst (λ (s : List Seated). HasStopped keys s news c.args.meter.now c.found_by.new.meter) c.as_mut_slice.ensures.value c.in_err-items.ensures.err in
+    subst (λ (s : List Seated). BuildsOrReturns (new_count (kept_by results.seats.items) keys) results.seats.items s c.args.meter.now c.found_by.new.meter) (sym back)
+    (stopped_returns keys results.seats.items news c.args.meter.now c.found_by.new.meter stopped)
+
+pub built_now-built-requires : goal.built_now-built-requires
+built_now-built-requires g c =
     let modules = c.args.design.now.design.modules in
-    let within : c.loop-at.at < length modules = omega arith in
-    ticks_all c.args.design.now.design c.args.script.now c.args.results.now (c.loop-at.at + 1) (length modules - (c.loop-at.at + 1)) (length modules) c.args.meter.now c.find_at.new.meter (omega (arith, within))
-    (ticks_more c.args.results.now c.loop-at.results c.loop-at.at c.loop-at.built c.args.meter.now c.loop-at.meter c.find_at.new.meter c.loop-at.invariant.found c.loop-at.invariant.ticks c.find_at.ensures.ticks)
+    let count : length c.in_ok-items.items.items ≡ length modules = c.in_ok-items.ensures.count in
+    let few = c.requires.sound.readable.count in
+    let same = ap length c.as_slice-2.ensures.value in
+    record { few = omega (arith, count, few, same) }
 
-pub loop-at-init : goal.loop-at-init
-loop-at-init g c = record {
-  found = found_first c.args.results.now c.requires.sound;
-  few = omega arith;
-  ticks = rises_none _ c.args.meter.now c.args.meter.now refl;
-}
-
-pub loop-at-preserved : goal.loop-at-preserved
-loop-at-preserved g c =
+pub put_beside-requires : goal.put_beside-requires
+put_beside-requires g c =
     let modules = c.args.design.now.design.modules in
-    let within : c.loop-at.at < length modules = omega arith in
-    let known = has_name (filled_keys c.loop-at.results.shard) (key_text_at c.args.script.now modules c.loop-at.at) in
-    let count : c.if-branch.built ≡ c.loop-at.built + fresh known = elim c.if-branch.branch [
-      | then-branch w ↦ w.built-is ∙ count_new known c.in_ok-find_at.field-0 c.loop-at.built c.in_ok-find_at.ensures.is_new w.if-branch.true
-      | else-branch w ↦ w.built-is ∙ count_old known c.in_ok-find_at.field-0 c.loop-at.built c.in_ok-find_at.ensures.is_new w.if-branch.false
-    ] in
-    let few = fresh_few known in
-    record {
-      found = found_more c.find_at.new.results c.if-branch.built c.loop-at.invariant.found within c.in_ok-find_at.ensures.sound c.in_ok-find_at.ensures.filled c.in_ok-find_at.ensures.found count;
-      few = omega (arith, count, few, c.loop-at.invariant.few);
-      ticks = ticks_more c.args.results.now c.loop-at.results c.loop-at.at c.loop-at.built c.args.meter.now c.loop-at.meter c.find_at.new.meter c.loop-at.invariant.found c.loop-at.invariant.ticks c.find_at.ensures.ticks;
-    }
+    let count : length c.in_ok-items.items.items ≡ length modules = c.in_ok-items.ensures.count in
+    let same = ap length c.as_mut_slice-2.ensures.value in
+    let beside = c.requires.sound.beside in
+    record { count = omega (arith, count, same, beside) }
+
+pub returns-clause-sound : goal.returns-clause-sound
+returns-clause-sound g c =
+    let results = c.args.results.now in
+    let news = c.found_by.new.seats in
+    let keys = key_texts c.args.script.now c.args.design.now.design.modules in
+    let lent = ap length c.as_mut_slice.ensures.value in
+    let kept = c.found_by.auto.seats in
+    let size = results.seats.ok.0 in
+    let back : take results.seats.len (news ++ drop (length news) results.seats.items) ≡ news = back_whole results.seats.len results.seats.items news (omega (arith, lent, kept, size)) in
+    let built = new_among (λ (item : Found Built). item.is_new) c.in_ok-items.items.items in
+    let run : HasRun keys built results.seats.items news c.args.meter.now c.found_by.new.meter =
+    subst (λ (s : List Seated). HasRun keys built s news c.args.meter.now c.found_by.new.meter) c.as_mut_slice.ensures.value c.in_ok-items.ensures.ok in
+    let modules = c.args.design.now.design.modules in
+    let count : length c.in_ok-items.items.items ≡ length modules = c.in_ok-items.ensures.count in
+    let put = c.put_beside.new.found in
+    let lent_found = ap length c.as_mut_slice-2.ensures.value in
+    let kept_found = c.put_beside.auto.found in
+    let size_found = results.found.ok.0 in
+    let beside : take results.found.len (put ++ drop (length put) results.found.items) ≡ beside_of c.in_ok-items.items.items =
+    back_whole results.found.len results.found.items put (omega (arith, lent_found, kept_found, size_found)) ∙ c.put_beside.ensures.beside in
+    let after : Results = record { cache = results.cache; seats = with_items results.seats news; found = with_items results.found put } in
+    sound_run c.args.design.now.design c.args.script.now results after c.in_ok-items.items.items c.requires.sound
+    (subst (AreSeated results.cache.table.shared.table_id results.cache.shards) (sym back) c.found_by.ensures.seats) count c.in_ok-items.ensures.answers beside
+    (ap kept_by back ∙ run.kept)
+
+pub returns-clause-built : goal.returns-clause-built
+returns-clause-built g c =
+    let results = c.args.results.now in
+    let news = c.found_by.new.seats in
+    let keys = key_texts c.args.script.now c.args.design.now.design.modules in
+    let lent = ap length c.as_mut_slice.ensures.value in
+    let kept = c.found_by.auto.seats in
+    let size = results.seats.ok.0 in
+    let back : take results.seats.len (news ++ drop (length news) results.seats.items) ≡ news = back_whole results.seats.len results.seats.items news (omega (arith, lent, kept, size)) in
+    let built = new_among (λ (item : Found Built). item.is_new) c.in_ok-items.items.items in
+    let run : HasRun keys built results.seats.items news c.args.meter.now c.found_by.new.meter =
+    subst (λ (s : List Seated). HasRun keys built s news c.args.meter.now c.found_by.new.meter) c.as_mut_slice.ensures.value c.in_ok-items.ensures.ok in
+    let is : c.built_now-built.result ≡ new_count (kept_by results.seats.items) keys =
+    c.built_now-built.ensures.value ∙ ap (new_among (λ (item : Found Built). item.is_new)) c.as_slice-2.ensures.value ∙ run.built_is in
+    is
+
+pub returns-clause-few : goal.returns-clause-few
+returns-clause-few g c =
+    let results = c.args.results.now in
+    let news = c.found_by.new.seats in
+    let keys = key_texts c.args.script.now c.args.design.now.design.modules in
+    let lent = ap length c.as_mut_slice.ensures.value in
+    let kept = c.found_by.auto.seats in
+    let size = results.seats.ok.0 in
+    let back : take results.seats.len (news ++ drop (length news) results.seats.items) ≡ news = back_whole results.seats.len results.seats.items news (omega (arith, lent, kept, size)) in
+    let built = new_among (λ (item : Found Built). item.is_new) c.in_ok-items.items.items in
+    let run : HasRun keys built results.seats.items news c.args.meter.now c.found_by.new.meter =
+    subst (λ (s : List Seated). HasRun keys built s news c.args.meter.now c.found_by.new.meter) c.as_mut_slice.ensures.value c.in_ok-items.ensures.ok in
+    let is : c.built_now-built.result ≡ new_count (kept_by results.seats.items) keys =
+    c.built_now-built.ensures.value ∙ ap (new_among (λ (item : Found Built). item.is_new)) c.as_slice-2.ensures.value ∙ run.built_is in
+    built_few c.args.design.now.design c.args.script.now (kept_by results.seats.items) c.built_now-built.result is
+
+pub returns-clause-filled : goal.returns-clause-filled
+returns-clause-filled g c =
+    let results = c.args.results.now in
+    let news = c.found_by.new.seats in
+    let keys = key_texts c.args.script.now c.args.design.now.design.modules in
+    let lent = ap length c.as_mut_slice.ensures.value in
+    let kept = c.found_by.auto.seats in
+    let size = results.seats.ok.0 in
+    let back : take results.seats.len (news ++ drop (length news) results.seats.items) ≡ news = back_whole results.seats.len results.seats.items news (omega (arith, lent, kept, size)) in
+    let built = new_among (λ (item : Found Built). item.is_new) c.in_ok-items.items.items in
+    let run : HasRun keys built results.seats.items news c.args.meter.now c.found_by.new.meter =
+    subst (λ (s : List Seated). HasRun keys built s news c.args.meter.now c.found_by.new.meter) c.as_mut_slice.ensures.value c.in_ok-items.ensures.ok in
+    ap kept_by back ∙ run.kept
 
 pub returns-clause-found : goal.returns-clause-found
 returns-clause-found g c =
-    let all : c.loop-at.at ≡ length c.args.design.now.design.modules = omega arith in
-    found_all c.args.results.now c.loop-at.results c.loop-at.at c.loop-at.built c.loop-at.invariant.found all
+    let results = c.args.results.now in
+    let put = c.put_beside.new.found in
+    let lent_found = ap length c.as_mut_slice-2.ensures.value in
+    let kept_found = c.put_beside.auto.found in
+    let size_found = results.found.ok.0 in
+    let beside : take results.found.len (put ++ drop (length put) results.found.items) ≡ beside_of c.in_ok-items.items.items =
+    back_whole results.found.len results.found.items put (omega (arith, lent_found, kept_found, size_found)) ∙ c.put_beside.ensures.beside in
+    ap (list_all is_some) beside ∙ all_beside c.in_ok-items.items.items
+
+pub returns-clause-claims : goal.returns-clause-claims
+returns-clause-claims g c =
+    let results = c.args.results.now in
+    let news = c.found_by.new.seats in
+    let keys = key_texts c.args.script.now c.args.design.now.design.modules in
+    let lent = ap length c.as_mut_slice.ensures.value in
+    let kept = c.found_by.auto.seats in
+    let size = results.seats.ok.0 in
+    let back : take results.seats.len (news ++ drop (length news) results.seats.items) ≡ news = back_whole results.seats.len results.seats.items news (omega (arith, lent, kept, size)) in
+    let built = new_among (λ (item : Found Built). item.is_new) c.in_ok-items.items.items in
+    let run : HasRun keys built results.seats.items news c.args.meter.now c.found_by.new.meter =
+    subst (λ (s : List Seated). HasRun keys built s news c.args.meter.now c.found_by.new.meter) c.as_mut_slice.ensures.value c.in_ok-items.ensures.ok in
+    subst (λ (s : List Seated). HasClaims keys results.seats.items s) (sym back) run.claimed
+
+pub returns-clause-ticks : goal.returns-clause-ticks
+returns-clause-ticks g c =
+    let results = c.args.results.now in
+    let news = c.found_by.new.seats in
+    let keys = key_texts c.args.script.now c.args.design.now.design.modules in
+    let lent = ap length c.as_mut_slice.ensures.value in
+    let kept = c.found_by.auto.seats in
+    let size = results.seats.ok.0 in
+    let back : take results.seats.len (news ++ drop (length news) results.seats.items) ≡ news = back_whole results.seats.len results.seats.items news (omega (arith, lent, kept, size)) in
+    let built = new_among (λ (item : Found Built). item.is_new) c.in_ok-items.items.items in
+    let run : HasRun keys built results.seats.items news c.args.meter.now c.found_by.new.meter =
+    subst (λ (s : List Seated). HasRun keys built s news c.args.meter.now c.found_by.new.meter) c.as_mut_slice.ensures.value c.in_ok-items.ensures.ok in
+    run_ticks keys built results.seats.items news c.args.meter.now c.found_by.new.meter run
+
+pub returns-clause-returned : goal.returns-clause-returned
+returns-clause-returned g c =
+    let results = c.args.results.now in
+    let news = c.found_by.new.seats in
+    let keys = key_texts c.args.script.now c.args.design.now.design.modules in
+    let lent = ap length c.as_mut_slice.ensures.value in
+    let kept = c.found_by.auto.seats in
+    let size = results.seats.ok.0 in
+    let back : take results.seats.len (news ++ drop (length news) results.seats.items) ≡ news = back_whole results.seats.len results.seats.items news (omega (arith, lent, kept, size)) in
+    let built = new_among (λ (item : Found Built). item.is_new) c.in_ok-items.items.items in
+    let run : HasRun keys built results.seats.items news c.args.meter.now c.found_by.new.meter =
+    subst (λ (s : List Seated). HasRun keys built s news c.args.meter.now c.found_by.new.meter) c.as_mut_slice.ensures.value c.in_ok-items.ensures.ok in
+    subst (λ (s : List Seated). BuildsOrReturns (new_count (kept_by results.seats.items) keys) results.seats.items s c.args.meter.now c.found_by.new.meter) (sym back)
+    (run_returns keys built results.seats.items news c.args.meter.now c.found_by.new.meter run)

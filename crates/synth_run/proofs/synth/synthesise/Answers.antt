@@ -1,4 +1,4 @@
-use Rattle.synth_run.proofs.Reading.{either_kept, kept_begun, long_answered, long_begun, text_answered, text_begun}
+use Rattle.synth_run.proofs.Reading.{either_kept, kept_begun, long_answered, long_begun, text_answered, text_begun, text_counts}
 use Rattle.synth_run.proofs.Speaking.{keeps_same}
 use Rattle.synth_run.proofs.synth.synthesise.Goals as goal
 
@@ -31,3 +31,8 @@ returns-in-Err-Failed-clause-begun g c = kept_begun c.args.plan.script (g.S.Sour
 
 pub returns-clause-begun : goal.returns-clause-begun
 returns-clause-begun g c = kept_begun c.args.plan.script (g.S.Source.left c.args.source.now) (g.K.Sink.held c.args.sink.now) (g.K.Sink.held c.args.sink.now) (keeps_same (g.K.Sink.held c.args.sink.now))
+
+pub returns-in-Ok-clause-builds : goal.returns-in-Ok-clause-builds
+returns-in-Ok-clause-builds g c = λ other.
+    text_counts c.args.plan.script (g.S.Source.left c.args.source.now) (g.S.Source.left c.read_input.new.source) c.in-Ok.text c.args.meter.now c.answer_text.new.meter
+    c.in-Ok.ensures.whole.0 c.in-Ok.ensures.whole.1 (c.answer_text.ensures.builds other)

@@ -15,13 +15,13 @@ use Rattle.desk_core.specs.Builds.{KeepsAll}
 use Rattle.desk_core.specs.Netlist.{all_kept, done_modules, netlist_answer, netlist_of}
 use Rattle.desk_core.specs.Results.{outcomes_of, state_of}
 use Rattle.desk_core.specs.Shaped.{IsShaped}
-use Rattle.desk_core.specs.State.{State, answer}
+use Rattle.desk_core.specs.State.{DeskView, State, answer}
 use Rattle.desk_core.specs.Told.{told_of}
 use Rattle.desk_core.proofs.Outcomes.{outcomes_cold}
 use Rattle.desk_core.proofs.Shaping.{shaped_netlist}
 use Rattle.desk_core.proofs.Showing.{told_same}
 use Rattle.desk_core.proofs.Simulating.{netlist_count, traced, within_netlist}
-use Rattle.desk_core.proofs.Told.{all_are_kept, answer_over, keeps_all, on_err, still_kept}
+use Rattle.desk_core.proofs.Told.{all_are_kept, answer_over, claims_seen, keeps_all, on_err, on_ok, returns_seen, still_kept, ticks_seen}
 use Rattle.desk_core.proofs.desk.Desk.netlist_trace.Goals.{in-Built, in-Over+in-Boxed-1, in-Over+in-Listed-1, in-Over+in-Inline-1}
 use Rattle.desk_core.proofs.desk.Desk.netlist_trace.Goals as goal
 
@@ -30,7 +30,7 @@ traced-requires-clause-in_range g c =
     let s = state_of c.self.inside.design.design c.self.inside.script c.self.inside.results in
     let told : Built c.in-Built.words ≡ told_of s = sym c.in-Built.is ∙ c.in_ok-words.ensures.told in
     let netlist = ap done_modules (outcomes_cold c.self.inside.design.design c.self.inside.script c.tell.new.results c.in_ok-words.ensures.sound c.in_ok-words.ensures.found) in
-    let same = ap (λ (t : State). length t.design.modules) c.self.view_is in
+    let same = ap (λ (t : DeskView). length t.state.design.modules) c.self.view_is in
     let inside : c.args.at < length s.design.modules = omega (arith, same, c.requires.in_range) in
     within_netlist s c.in-Built.words _ c.args.at told netlist inside
 
@@ -59,10 +59,10 @@ returns-clause-ok g c = λ name place.
     ap (λ (os : List Outcome). record { modules = done_modules os })
     (outcomes_cold c.self.inside.design.design c.self.inside.script c.tell.new.results c.in_ok-words.ensures.sound c.in_ok-words.ensures.found) in
     let state : after ≡ all_kept s = all_are_kept c.self.inside.design.design c.self.inside.script c.self.inside.results c.tell.new.results c.in_ok-words.ensures.filled in
-    let here : place_named s.design.modules name ≡ Some c.args.at = ap (λ (t : State). place_named t.design.modules name) c.self.view_is ∙ place in
-    let same = ap (λ (t : State). length t.design.modules) c.self.view_is in
+    let here : place_named s.design.modules name ≡ Some c.args.at = ap (λ (t : DeskView). place_named t.state.design.modules name) c.self.view_is ∙ place in
+    let same = ap (λ (t : DeskView). length t.state.design.modules) c.self.view_is in
     let inside : c.args.at < length s.design.modules = omega (arith, same, c.requires.in_range) in
-    subst (λ (t : State). IfOk c.match-branch-2.result (λ reply. answer reply after ≡ netlist_answer t (netlist_reply t name steps (module_named (netlist_of t).modules name)))) c.self.view_is
+    subst (λ (t : DeskView). IfOk c.match-branch-2.result (λ reply. answer reply after ≡ netlist_answer t.state (netlist_reply t.state name steps (module_named (netlist_of t.state).modules name)))) c.self.view_is
     (elim c.match-branch-2.branch [
       | in-Built w ↦
           subst (λ (r : Result Reply Memory). IfOk r (λ reply. answer reply after ≡ netlist_answer s (netlist_reply s name steps (module_named (netlist_of s).modules name)))) (sym w.result-is)
@@ -84,6 +84,26 @@ returns-clause-ok g c = λ name place.
 pub returns-clause-err : goal.returns-clause-err
 returns-clause-err g c =
     on_err c.match-branch-2.result
-    (subst (λ (s : State). KeepsAll s (state_of c.self.inside.design.design c.self.inside.script c.tell.new.results)) c.self.view_is
+    (subst (λ (v : DeskView). KeepsAll v.state (state_of c.self.inside.design.design c.self.inside.script c.tell.new.results)) c.self.view_is
     (keeps_all c.self.inside.design.design c.self.inside.script c.self.inside.results c.tell.new.results
     (still_kept c.self.inside.design.design c.self.inside.script c.self.inside.results c.tell.new.results c.in_ok-words.ensures.filled)))
+
+pub returns-clause-claims : goal.returns-clause-claims
+returns-clause-claims g c =
+    on_ok c.match-branch-2.result
+    (claims_seen c.self.inside.design.design c.self.inside.script c.self.inside.results c.args.self.now c.self.view_is c.tell.new.results.seats.items c.in_ok-words.ensures.claims)
+
+pub returns-clause-ticks : goal.returns-clause-ticks
+returns-clause-ticks g c =
+    on_ok c.match-branch-2.result
+    (ticks_seen c.self.inside.design.design c.self.inside.script c.self.inside.results c.args.self.now c.self.view_is c.args.meter.now c.tell.new.meter c.in_ok-words.ensures.ticks)
+
+pub returns-in_err-words-clause-returned : goal.returns-in_err-words-clause-returned
+returns-in_err-words-clause-returned g c =
+    returns_seen c.self.inside.design.design c.self.inside.script c.self.inside.results c.args.self.now c.self.view_is c.tell.new.results.seats.items c.args.meter.now
+    c.tell.new.meter c.tell.ensures.returned
+
+pub returns-clause-returned : goal.returns-clause-returned
+returns-clause-returned g c =
+    returns_seen c.self.inside.design.design c.self.inside.script c.self.inside.results c.args.self.now c.self.view_is c.tell.new.results.seats.items c.args.meter.now
+    c.tell.new.meter c.tell.ensures.returned

@@ -3,4 +3,4 @@ use Rattle.desk_core.proofs.desk.Desk.replace.Goals as goal
 
 pub returns-in-Err-clause-ok : goal.returns-in-Err-clause-ok
 returns-in-Err-clause-ok c =
-    refused_design c.args.self.now c.args.design.modules c.in-Err.refused.fault c.check_reply.result c.in-Err.ensures.first c.check_reply.ensures.memory c.check_reply.ensures.value
+    refused_design c.args.self.now.state c.args.design.modules c.in-Err.refused.fault c.check_reply.result c.in-Err.ensures.first c.check_reply.ensures.memory c.check_reply.ensures.value

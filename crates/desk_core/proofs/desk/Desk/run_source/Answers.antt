@@ -8,15 +8,15 @@ use Rattle.design_edit.proofs.Naming.{place_within}
 use Rattle.reply_lines.specs.Lines.{error_reply}
 use Rattle.sim_trace.specs.Stimulus.{stimulus_of}
 use Rattle.desk_core.specs.Answers.{by_stimulus, source_reply, unchanged}
-use Rattle.desk_core.specs.State.{State}
+use Rattle.desk_core.specs.State.{DeskView}
 use Rattle.desk_core.proofs.Showing.{bad_line, sourced, told_same, unknown}
 use Rattle.desk_core.proofs.desk.Desk.run_source.Goals as goal
 
 pub returns-in_default : goal.returns-in_default
 returns-in_default c =
-    let s = c.args.self.now in
+    let s = c.args.self.now.state in
     let name = c.args.ask.now.module in
-    let here = c.as_slice-modules.ensures.value ∙ ap (λ (d : Design). d.modules) c.design.ensures.value ∙ ap (λ (t : State). t.design.modules) c.self.view_is in
+    let here = c.as_slice-modules.ensures.value ∙ ap (λ (d : Design). d.modules) c.design.ensures.value ∙ ap (λ (t : DeskView). t.state.design.modules) c.self.view_is in
     let asked : c.as_slice.result.now ≡ name = c.as_slice.ensures.value in
     let place : None ≡ place_named s.design.modules name = cc (here, asked) in
     let same = ap (λ (t : List ℕ). error_reply (codes "18 " ++ t)) c.as_slice-in_default.ensures.value in
@@ -27,11 +27,11 @@ returns-in_default c =
 
 pub returns-in-Ok : goal.returns-in-Ok
 returns-in-Ok c =
-    let s = c.args.self.now in
+    let s = c.args.self.now.state in
     let name = c.args.ask.now.module in
     let at = c.in-Some.at in
     let m = c.index-modules-at.result in
-    let here = c.as_slice-modules.ensures.value ∙ ap (λ (d : Design). d.modules) c.design.ensures.value ∙ ap (λ (t : State). t.design.modules) c.self.view_is in
+    let here = c.as_slice-modules.ensures.value ∙ ap (λ (d : Design). d.modules) c.design.ensures.value ∙ ap (λ (t : DeskView). t.state.design.modules) c.self.view_is in
     let asked : c.as_slice.result.now ≡ name = c.as_slice.ensures.value in
     let place : Some at ≡ place_named s.design.modules name =
     sym c.in-Some.is ∙ c.place_named.ensures.value ∙ ap (place_named c.as_slice-modules.result.now) asked ∙ ap (λ (ms : List Module). place_named ms name) here in
@@ -44,11 +44,11 @@ returns-in-Ok c =
 
 pub returns-in-Err-Bad : goal.returns-in-Err-Bad
 returns-in-Err-Bad c =
-    let s = c.args.self.now in
+    let s = c.args.self.now.state in
     let name = c.args.ask.now.module in
     let at = c.in-Some.at in
     let m = c.index-modules-at.result in
-    let here = c.as_slice-modules.ensures.value ∙ ap (λ (d : Design). d.modules) c.design.ensures.value ∙ ap (λ (t : State). t.design.modules) c.self.view_is in
+    let here = c.as_slice-modules.ensures.value ∙ ap (λ (d : Design). d.modules) c.design.ensures.value ∙ ap (λ (t : DeskView). t.state.design.modules) c.self.view_is in
     let asked : c.as_slice.result.now ≡ name = c.as_slice.ensures.value in
     let place : Some at ≡ place_named s.design.modules name =
     sym c.in-Some.is ∙ c.place_named.ensures.value ∙ ap (place_named c.as_slice-modules.result.now) asked ∙ ap (λ (ms : List Module). place_named ms name) here in

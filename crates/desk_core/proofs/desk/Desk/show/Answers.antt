@@ -6,22 +6,22 @@ use Rattle.rtl_ir.specs.Faults.Recursion.{place_named}
 use Rattle.rtl_write.specs.Text.{module_text}
 use Rattle.reply_lines.specs.Lines.{counted, ok_line, ok_reply}
 use Rattle.desk_core.specs.Answers.{printed_reply, unchanged}
-use Rattle.desk_core.specs.State.{State}
+use Rattle.desk_core.specs.State.{DeskView}
 use Rattle.desk_core.proofs.Showing.{shown, told_same, unknown}
 use Rattle.desk_core.proofs.desk.Desk.show.Goals as goal
 
 pub returns-in_default : goal.returns-in_default
 returns-in_default c =
-    let s = c.args.self.now in
-    let here = c.as_slice-modules.ensures.value ∙ ap (λ (d : Design). d.modules) c.design.ensures.value ∙ ap (λ (t : State). t.design.modules) c.self.view_is in
+    let s = c.args.self.now.state in
+    let here = c.as_slice-modules.ensures.value ∙ ap (λ (d : Design). d.modules) c.design.ensures.value ∙ ap (λ (t : DeskView). t.state.design.modules) c.self.view_is in
     let place : None ≡ place_named s.design.modules c.args.name.now = cc here in
     record { ok = unknown s c.args.name.now (λ m. unchanged s (printed_reply [] (module_text m))) c.told_reply.result place c.told_reply.ensures.value }
 
 pub returns : goal.returns
 returns c =
-    let s = c.args.self.now in
+    let s = c.args.self.now.state in
     let m = c.index-modules-at.result in
-    let here = c.as_slice-modules.ensures.value ∙ ap (λ (d : Design). d.modules) c.design.ensures.value ∙ ap (λ (t : State). t.design.modules) c.self.view_is in
+    let here = c.as_slice-modules.ensures.value ∙ ap (λ (d : Design). d.modules) c.design.ensures.value ∙ ap (λ (t : DeskView). t.state.design.modules) c.self.view_is in
     let place : Some c.in-Some.at ≡ place_named s.design.modules c.args.name.now = cc here in
     let own : m ≡ get_or s.design.modules c.in-Some.at m = c.index-modules-at.is ∙ ap (λ (l : List Module). get_or l c.in-Some.at m) here in
     let text : c.in_ok-text.text ≡ module_text m = c.in_ok-text.ensures.exact in

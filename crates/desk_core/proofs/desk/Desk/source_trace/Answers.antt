@@ -3,15 +3,15 @@ use Rattle.std.specs.Prelude.{codes}
 use Rattle.rtl_ir.specs.declared.module.Design.{Design}
 use Rattle.reply_lines.specs.Lines.{counted, ok_line, ok_reply}
 use Rattle.sim_trace.specs.Stimulus.{trace_text}
-use Rattle.desk_core.specs.State.{State}
+use Rattle.desk_core.specs.State.{DeskView}
 use Rattle.desk_core.proofs.desk.Desk.source_trace.Goals as goal
 
 pub returns : goal.returns
 returns c = record {
   value = λ m there.
-      let s = c.args.self.now in
+      let s = c.args.self.now.state in
       let steps = c.args.stimulus.now in
-      let here : c.design.result.now ≡ s.design = c.design.ensures.value ∙ ap (λ (t : State). t.design) c.self.view_is in
+      let here : c.design.result.now ≡ s.design = c.design.ensures.value ∙ ap (λ (t : DeskView). t.state.design) c.self.view_is in
       let words : c.as_slice.result.now ≡ counted (codes "steps") (length steps) = c.as_slice.ensures.value ∙ c.in_ok-words.ensures.value in
       let line : c.in_ok-text.text ≡ ok_line (counted (codes "steps") (length steps)) = c.in_ok-text.ensures.value ∙ ap ok_line words in
       c.ok_reply.ensures.value

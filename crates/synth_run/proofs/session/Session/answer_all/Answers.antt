@@ -1,5 +1,5 @@
 -- A session over an input, by what each read gives.
-use Rattle.std.proofs.Common.{◌≡◌, ℕ, List, Bool, Ok, Err, take, refl, ap, ◌∙◌, arith, length-take-le}
+use Rattle.std.proofs.Common.{◌≡◌, Ok, Err, take, refl, ap, ◌∙◌, arith, length-take-le}
 use Rattle.std.proofs.lemmas.Result.{IfOk-at_ok}
 use Rattle.synth_io.specs.declared.input.Next.{Next}
 use Rattle.synth_io.specs.declared.input.Next.TheVariants.{Bytes, End, Past}

@@ -1,9 +1,9 @@
-use Rattle.std.proofs.Common.{ℕ, List, [], ◌∷◌, Bool, refl, subst, ◌∙◌}
+use Rattle.std.proofs.Common.{List, [], ◌∷◌, Bool, refl, subst, ◌∙◌}
 use Rattle.synth_run.specs.Lines.{read_lines}
 use Rattle.synth_run.specs.Session.{Turn}
 use Rattle.synth_run.specs.Taking.{Speaks, TakesLines}
 use Rattle.synth_run.specs.declared.session.Stop.TheVariants as halts
-use Rattle.synth_run.proofs.Going.{goes_broken, goes_first, goes_forgotten, goes_last, goes_next, goes_to_quit}
+use Rattle.synth_run.proofs.Going.{goes_broken, goes_first, goes_forgotten, goes_next, goes_to_quit}
 use Rattle.synth_run.proofs.Turning.{line_forgotten}
 use Rattle.synth_run.proofs.session.Session.take_bytes.Goals as goal
 
@@ -17,7 +17,7 @@ pub returns-in_default-hold-clause-err : goal.returns-in_default-hold-clause-err
 returns-in_default-hold-clause-err g c =
     goes_forgotten c.args.self.now c.loop-front.self c.args.bytes.now c.loop-front.left.now (g.K.Sink.held c.args.sink.now) (g.K.Sink.held c.loop-front.sink)
     c.args.meter.now c.loop-front.meter halts.Memory c.loop-front.invariant.goes
-    (line_forgotten c.loop-front.self.reader [] c.loop-front.self.speaker.desk (g.K.Sink.held c.loop-front.sink) c.loop-front.meter c.loop-front.meter)
+    (line_forgotten c.loop-front.self.reader [] c.loop-front.self.speaker.desk.state (g.K.Sink.held c.loop-front.sink) c.loop-front.meter c.loop-front.meter)
 
 pub returns-in-Ok-true-clause-ends : goal.returns-in-Ok-true-clause-ends
 returns-in-Ok-true-clause-ends g c = λ _.
@@ -51,4 +51,4 @@ pub returns-in-Err-hold-clause-err : goal.returns-in-Err-hold-clause-err
 returns-in-Err-hold-clause-err g c =
     goes_forgotten c.args.self.now c.loop-front.self c.args.bytes.now c.loop-front.left.now (g.K.Sink.held c.args.sink.now) (g.K.Sink.held c.loop-front.sink)
     c.args.meter.now c.loop-front.meter halts.Memory c.loop-front.invariant.goes
-    (line_forgotten c.loop-front.self.reader [] c.loop-front.self.speaker.desk (g.K.Sink.held c.loop-front.sink) c.loop-front.meter c.loop-front.meter)
+    (line_forgotten c.loop-front.self.reader [] c.loop-front.self.speaker.desk.state (g.K.Sink.held c.loop-front.sink) c.loop-front.meter c.loop-front.meter)

@@ -7,11 +7,11 @@ use Rattle.synth_run.proofs.session.Speaker.answer.Goals as goal
 
 pub returns-in_default-clause-err : goal.returns-in_default-clause-err
 returns-in_default-clause-err g c =
-    forgotten (c.args.command.now ∷ []) c.args.self.now.desk (g.K.Sink.held c.args.sink.now) c.args.meter.now c.command.new.meter
+    forgotten (c.args.command.now ∷ []) c.args.self.now.desk.state (g.K.Sink.held c.args.sink.now) c.args.meter.now c.command.new.meter
 
 pub returns-in_default-write_reply-clause-err : goal.returns-in_default-write_reply-clause-err
 returns-in_default-write_reply-clause-err g c =
-    interrupted c.args.self.now.desk c.command.new.self c.args.command.now c.in-Ok.reply (g.K.Sink.held c.args.sink.now) (g.K.Sink.held c.write_reply.new.sink)
+    interrupted c.args.self.now.desk.state c.command.new.self.state c.args.command.now c.in-Ok.reply (g.K.Sink.held c.args.sink.now) (g.K.Sink.held c.write_reply.new.sink)
     c.args.meter.now c.command.new.meter c.in-Ok.ensures.step
     (subst (λ (t : List ℕ). (size : ℕ) × Appends (g.K.Sink.held c.args.sink.now) (g.K.Sink.held c.write_reply.new.sink) (take size t)) c.as_slice.ensures.value c.write_reply.ensures.front)
     c.in-Ok.ensures.builds

@@ -1,0 +1,98 @@
+//! The jobs of a crew: each finds the result of the key of one module.
+
+ghost use Rattle.std.specs.Prelude.{◌≡◌, ℕ, IfOk, OnErr};
+ghost use Rattle.rtl_bits.specs.Counts.{risen};
+ghost use Rattle.result_cache.specs.Seats.{IsIdle};
+ghost use Rattle.build_crew.specs.Calls.{HasFailed, HasFound};
+ghost use Rattle.script_core.specs.Built.{IsAcceptedKey, IsValueOf};
+ghost use Rattle.script_core.specs.Keys.{key_text};
+
+use crate::kept::Kept;
+use crate::key_order::KeyOrder;
+use crate::keys::Keys;
+use build_crew::{Found, find};
+use result_cache::{Seat, SharedCache};
+use rtl_bits::{Memory, Steps};
+use script_core::Key;
+use std::alloc::Global;
+use std::marker::{Send, Sync};
+use std::sync::Wait;
+use work_crew::Job;
+
+/// The jobs of a crew: job n finds the result of the module at place n. A result that stands beside a module tells its
+/// key; other keys are made by the job itself, so that a list of them is never held.
+#[derive_where(Clone, Copy)]
+pub struct CrewJobs<'a, R> {
+    pub rt: &'a R,
+    pub alloc: Global,
+    pub cache: &'a SharedCache<Kept>,
+    pub keys: &'a Keys<'a, 'a>,
+    pub found: &'a [Option<Kept>],
+}
+
+impl<R: Wait> CrewJobs<'_, R> {
+    /// Finds the result of a key.
+    fn find_by<L>(
+        &self,
+        key: &Key,
+        seat: &mut Seat,
+        meter: &mut Steps<L>,
+    ) -> Result<Found<Kept>, Memory>
+        requires accepted { IsAcceptedKey key.now }
+        requires idle { IsIdle self.now.cache.now.table.shared.table_id seat.old }
+        ensures idle { IsIdle self.now.cache.now.table.shared.table_id seat.new }
+        ensures key { IfOk result (λ found. found.value.key ≡ key.now) }
+        ensures value { IfOk result (λ found. IsValueOf found.value.key found.value.outcome) }
+        ensures found { IfOk result (λ found. (n : ℕ) ×
+            (meter.new ≡ risen meter.old n) × HasFound (key_text key.now) found.is_new seat.old seat.new n) }
+        ensures failed { OnErr result ((n : ℕ) ×
+            (meter.new ≡ risen meter.old n) × HasFailed seat.old seat.new n) }
+    {
+        let alloc = self.alloc;
+        find(self.rt, self.cache, seat, &KeyOrder { alloc, key }, meter)
+    }
+}
+
+impl<R: Wait + Sync> Job for CrewJobs<'_, R> {
+    type Output = Found<Kept>;
+
+    type Token = Seat;
+
+    ghost use Rattle.std.specs.Prelude.{◌≡◌, ◌<◌, length};
+    ghost use Rattle.result_cache.specs.Seats.{IsIdle};
+    ghost use Rattle.build_crew.specs.Calls.{HasFailed, HasFound};
+    ghost use Rattle.desk_core.specs.Results.{TellKeys};
+    ghost use Rattle.desk_core.specs.Netlist.{key_text_at};
+    ghost use Rattle.script_core.specs.Built.{IsValueOf};
+    ghost use Rattle.script_core.specs.Keys.{key_of};
+
+    ghost is_job = { λ jobs k.
+        TellKeys jobs.keys.now.design.now.design jobs.keys.now.table.now.modules.now jobs.keys.now.script.now jobs.found.now
+        × (k < length jobs.keys.now.design.now.design.modules) };
+
+    ghost token_fits = { λ jobs seat. IsIdle jobs.cache.now.table.shared.table_id seat };
+
+    ghost output_fits = { λ jobs k found.
+        (found.value.key ≡ key_of jobs.keys.now.design.now.design.modules k jobs.keys.now.script.now)
+        × IsValueOf found.value.key found.value.outcome };
+
+    ghost does = { λ jobs k found old new n.
+        HasFound (key_text_at jobs.keys.now.script.now jobs.keys.now.design.now.design.modules k) found.is_new old new n };
+
+    ghost fails = { λ jobs k old new n. HasFailed old new n };
+
+    fn perform<L: Send>(
+        &self,
+        number: u32,
+        token: &mut Seat,
+        meter: &mut Steps<L>,
+    ) -> Result<Found<Kept>, Memory> {
+        match &self.found[number as usize] {
+            Some(kept) => self.find_by(kept.built().key(), token, meter),
+            None => {
+                let key = self.keys.key_at(self.alloc, number)?;
+                self.find_by(&key, token, meter)
+            }
+        }
+    }
+}
