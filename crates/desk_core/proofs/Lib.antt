@@ -18,3 +18,6 @@ pub mod CrewPlaces
 pub mod CrewSteps
 pub mod CrewEnds
 pub mod CrewBuilds
+pub mod Aging
+pub mod Giving
+pub mod Ended

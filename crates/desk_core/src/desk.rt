@@ -3,6 +3,7 @@
 ghost use Rattle.std.specs.Prelude.{◌≡◌, ◌≤◌, [], IfOk, length};
 ghost use Rattle.desk_core.specs.State.{first_state};
 
+use crate::ages::Ages;
 use crate::results::Results;
 use result_cache::{Opened, SharedCache};
 use rtl_bits::{Memory, Seq};
@@ -60,11 +61,11 @@ impl Desk {
     {
         let design = no_modules(alloc)?;
         let Opened { cache, seats } = SharedCache::make(alloc, workers, SHARDS)?;
-        let found = Vec::new(alloc);
         let results = Results {
             cache,
             seats,
-            found,
+            ages: Ages::make(alloc),
+            found: Vec::new(alloc),
         };
         Ok(Desk {
             alloc,

@@ -26,7 +26,11 @@ use std::alloc::Global;
 use std::mem;
 
 /// Each of these modules takes the place of the one of its name, or comes last. After an error the design is as before.
-fn edit_design(alloc: Global, design: &mut Checked, edits: Seq<Module>) -> Result<(), EditFault>
+pub(crate) fn edit_design(
+    alloc: Global,
+    design: &mut Checked,
+    edits: Seq<Module>,
+) -> Result<(), EditFault>
     requires few { length design.old.design.modules ≤ MAX_MODULES }
     ensures ok { OnOk result (design.new.design.modules ≡ with_modules design.old.design.modules edits) }
     ensures count { OnOk result (length design.new.design.modules ≤ MAX_MODULES) }
@@ -47,7 +51,11 @@ fn edit_design(alloc: Global, design: &mut Checked, edits: Seq<Module>) -> Resul
 }
 
 /// The module of this name is taken away. After an error the design is as before.
-fn remove_module(alloc: Global, design: &mut Checked, name: &[u8]) -> Result<(), CheckFault>
+pub(crate) fn remove_module(
+    alloc: Global,
+    design: &mut Checked,
+    name: &[u8],
+) -> Result<(), CheckFault>
     requires distinct { AreDistinct (map (λ (m : Module). m.id) design.old.design.modules) }
     ensures ok { OnOk result (design.new.design.modules ≡ without_module design.old.design.modules name.now) }
     ensures err { OnErr result (design.new.design ≡ design.old.design) }
@@ -68,7 +76,7 @@ fn remove_module(alloc: Global, design: &mut Checked, name: &[u8]) -> Result<(),
 }
 
 /// The reply to an edit of this text that is refused.
-fn edit_reply(alloc: Global, text: &[u8], fault: &EditFault) -> Result<Reply, Memory>
+pub(crate) fn edit_reply(alloc: Global, text: &[u8], fault: &EditFault) -> Result<Reply, Memory>
     ensures value { IfOk result (λ reply. (items : List Seen) → AreItemsOf text.now items →
         IsEditReply items fault.now reply) }
 {

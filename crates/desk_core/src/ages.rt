@@ -1,0 +1,84 @@
+//! The ages of kept keys: how many commands in a row needed the netlist, and not the key.
+
+ghost use Rattle.std.specs.Prelude.{◌≡◌, [], IfOk, OnErr, Some, length, slice_get};
+ghost use Rattle.rtl_sig.specs.Names.{with_name};
+ghost use Rattle.desk_core.specs.Ages.{kept_in};
+ghost use Rattle.desk_core.specs.Needed.{age_after, ages_after, is_too_old};
+
+use rtl_bits::Memory;
+use rtl_sig::Names;
+use std::alloc::Global;
+
+/// The greatest age of a kept key.
+const OLDEST: u32 = 7;
+
+/// Keys with their ages. A key without an age is not kept; it stays among the keys.
+#[derive(Drop)]
+pub struct Ages {
+    pub keys: Names,
+    pub ages: Vec<Option<u32>>,
+}
+
+impl Ages {
+    /// No keys. It takes no memory.
+    pub fn make(alloc: Global) -> Ages
+        ensures keys { result.keys ≡ [] }
+        ensures ages { result.ages.items ≡ [] }
+    {
+        Ages {
+            keys: Names::make(alloc),
+            ages: Vec::new(alloc),
+        }
+    }
+
+    /// The place of the key, which is among the keys from then on, and is kept or not as before. After an error the keys
+    /// and ages are as before.
+    pub fn place(&mut self, key: &[u8]) -> Result<usize, Memory>
+        requires beside { length self.old.ages.items ≡ length self.old.keys }
+        ensures beside { length self.new.ages.items ≡ length self.new.keys }
+        ensures place { IfOk result (λ at. slice_get self.new.keys at ≡ Some key.now) }
+        ensures keys { IfOk result (λ at. self.new.keys ≡ with_name self.old.keys key.now) }
+        ensures kept { kept_in self.new.keys self.new.ages.items ≡ kept_in self.old.keys self.old.ages.items }
+        ensures err { OnErr result ((self.new.keys ≡ self.old.keys) × (self.new.ages.items ≡ self.old.ages.items)) }
+    {
+        self.ages.reserve(1)?;
+        let id = self.keys.intern(key)?;
+        if id.index == self.ages.len() {
+            self.ages.push_reserved(None);
+        }
+        Ok(id.index)
+    }
+
+    /// All ages after a command that needed the keys that are marked.
+    pub fn grow(&mut self, marks: &[bool])
+        requires beside { length marks.now ≡ length self.old.ages.items }
+        ensures keys { self.new.keys ≡ self.old.keys }
+        ensures ages { self.new.ages.items ≡ ages_after marks.now self.old.ages.items }
+    {
+        for at in 0..marks.len() {
+            let age = self.ages[at];
+            self.ages[at] = age_after(marks[at], age);
+        }
+    }
+}
+
+/// An age after a command, by whether that needed the key.
+fn age_after(mark: bool, age: Option<u32>) -> Option<u32>
+    ensures value { result ≡ age_after mark age }
+{
+    match age {
+        _ if mark => Some(0),
+        Some(age) if age < OLDEST => Some(age + 1),
+        _ => None,
+    }
+}
+
+/// Whether a key is too old after a command, by whether that needed it.
+pub fn is_too_old(mark: bool, age: Option<u32>) -> bool
+    ensures value { result ≡ is_too_old mark age }
+{
+    match age {
+        Some(age) => !mark && age >= OLDEST,
+        None => false,
+    }
+}

@@ -1,0 +1,16 @@
+pub mod Tables
+pub mod Firsts
+pub mod Counting
+pub mod Naming
+pub mod Puts
+pub mod Turning
+pub mod Visiting
+pub mod Adding
+pub mod Closed
+pub mod Moving
+pub mod MovedRuns
+pub mod RowsMoved
+pub mod RowsMemories
+pub mod Paths
+pub mod TreeMoved
+pub mod Fixed
