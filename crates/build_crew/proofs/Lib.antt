@@ -7,4 +7,3 @@ pub mod Ending
 pub mod Seats
 pub mod Spent
 pub mod Crews
-pub mod Forgetting

@@ -1,5 +1,5 @@
 -- A seat that has the ticket of a key, and spends it.
-use Rattle.std.proofs.Common.{◌≡◌, ℕ, List, Bool, true, Result, Ok, Err, sym, subst, ◌∙◌, arith}
+use Rattle.std.proofs.Common.{◌≡◌, ℕ, List, Bool, true, Result, Ok, Err, sym, subst, ◌∙◌}
 use Rattle.std.specs.Result.{IfOk, OnOk, OnErr}
 use Rattle.atomic_table.specs.Seated.{TableId}
 use Rattle.rtl_bits.specs.Counts.{risen}
@@ -11,7 +11,7 @@ use Rattle.result_cache.proofs.Spending.{none_after_fill, none_after_return}
 use Rattle.build_crew.specs.declared.finding.Found.{Found}
 use Rattle.build_crew.specs.Calls.{HasAsked, HasFound, HasFailed}
 use Rattle.build_crew.specs.Rises.{RisesUpTo}
-use Rattle.build_crew.proofs.Asking.{asked_filled, asked_given, asking_failed, asking_first}
+use Rattle.build_crew.proofs.Asking.{asked_filled, asked_given}
 
 module _ {X E : Type 0} (cache : TableId) (old mid new : Seated) (key : List ℕ) (ticket : Ticket) where
   -- it has no ticket then
@@ -32,8 +32,3 @@ pub spent_found : {V E : Type 0} (old mid new : Seated) (key : List ℕ) (ticket
 spent_found old mid new key ticket (Ok found) before after h is filled t =
     (t.steps, t.risen, subst (λ (b : Bool). HasFound key b old new t.steps) (sym is) (asked_filled old mid new key ticket t.steps h filled t.few))
 spent_found old mid new key ticket (Err e) before after h is filled t = tt
-
--- without memory at the start it asked for nothing
-pub failed_first : {X E : Type 0} (cache : TableId) (s : Seated) (r : Result X E) (m : ℕ) → IsIdle cache s → OnErr r ((n : ℕ) × (m ≡ risen m n) × HasFailed s s n)
-failed_first cache s (Ok x) m idle = tt
-failed_first cache s (Err e) m idle = (0, (let same : m ≡ risen m 0 = omega arith in same), asking_failed s s (asking_first s idle.1))

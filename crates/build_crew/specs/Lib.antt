@@ -2,4 +2,3 @@ pub mod Rises
 pub mod Calls
 pub mod Kept
 pub mod Leaves
-pub mod Forgetting

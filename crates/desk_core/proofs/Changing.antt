@@ -34,7 +34,7 @@ use Rattle.std.proofs.lemmas.List.{length-replicate}
 use Rattle.desk_core.specs.declared.results.Results.{Results}
 use Rattle.desk_core.specs.Answers.{IsEditAnswer, IsEdited, IsLoadAnswer, checked_answer, design_answer, refusal, remove_answer, script_answer, script_answer_by}
 use Rattle.desk_core.specs.Edits.{IsEditReply}
-use Rattle.desk_core.specs.Results.{AreAged, AreSeated, AreSound}
+use Rattle.desk_core.specs.Results.{AreSeated, AreSound}
 use Rattle.desk_core.specs.State.{State, answer}
 
 abbrev nones : ℕ → List (Option Built)
@@ -50,11 +50,10 @@ length_none n = length-replicate n None
 
 -- results beside no module are sound for any readable design and any script
 pub sound_fresh : (design : Design) (script : List Word) (new : Results) → AreSeated new.cache.table.shared.table_id new.cache.shards new.seats.items → IsReadable design
-    → AreAged new.ages new.seats.items → new.found.items ≡ replicate (length design.modules) None → AreSound design script new
-sound_fresh design script new idle readable aged found = record {
+    → new.found.items ≡ replicate (length design.modules) None → AreSound design script new
+sound_fresh design script new idle readable found = record {
   readable = readable;
   idle = idle;
-  aged = aged;
   beside = ap length found ∙ length_none (length design.modules);
   own = λ at built is. absurd (nothing_there (length design.modules) at built (ap (λ (l : List (Option Built)). slice_get l at) (sym found) ∙ is));
 }

@@ -14,13 +14,12 @@ use Rattle.rtl_ir.specs.declared.module.Module.{Module}
 use Rattle.rtl_ir.specs.Faults.{check_faults}
 use Rattle.rtl_readable.specs.Readable.{IsReadable}
 use Rattle.result_cache.specs.Filled.{new_count, with_keys}
-use Rattle.result_cache.proofs.NewKeys.{among_keys, new_below_few, still_among}
+use Rattle.result_cache.proofs.NewKeys.{among_keys, new_below_few}
 use Rattle.atomic_table.specs.Seated.{TableId}
 use Rattle.result_cache.specs.Seats.{Seated, IsIdle}
 use Rattle.build_crew.specs.Calls.{HasFailed, HasFound}
 use Rattle.build_crew.specs.declared.finding.Found.{Found}
-use Rattle.result_cache.specs.Meet.{Share}
-use Rattle.build_crew.specs.Kept.{AreAllSeats, HasStill, given_back, kept_by}
+use Rattle.build_crew.specs.Kept.{AreAllSeats, HasStill, kept_by}
 use Rattle.build_crew.specs.Leaves.{HasRun, HasStopped}
 use Rattle.build_crew.specs.Rises.{RisesUpTo}
 use Rattle.build_crew.proofs.Asking.{asking_failed, asking_first}
@@ -33,9 +32,7 @@ use Rattle.script_core.specs.Keys.{key_of, key_text}
 use Rattle.desk_core.specs.declared.results.Results.{Results}
 use Rattle.desk_core.specs.Builds.{BuildsOrReturns}
 use Rattle.desk_core.specs.Netlist.{key_text_at, key_texts}
-use Rattle.desk_core.specs.declared.ages.Ages.{Ages}
-use Rattle.desk_core.specs.Ages.{kept_in, oldest, texts_of}
-use Rattle.desk_core.specs.Results.{AreAged, AreAnswers, AreSeated, AreSound, IsResultAt, TellKeys}
+use Rattle.desk_core.specs.Results.{AreAnswers, AreSeated, AreSound, IsResultAt, TellKeys}
 use Rattle.desk_core.proofs.Rises.{returns_built, risen_none}
 
 -- the key of a module of a design without faults is that of an accepted one
@@ -96,14 +93,6 @@ pub all_beside : (items : List (Found Built)) → list_all is_some (beside_of it
 all_beside [] = refl
 all_beside (x ∷ items) = all_beside items
 
--- the keys that have an age are kept still where kept ones are
-pub aged_more : (old new : Results) → AreAged old.ages old.seats.items → new.ages ≡ old.ages → HasStill (kept_by old.seats.items) (kept_by new.seats.items) → AreAged new.ages new.seats.items
-aged_more old new h same still = record {
-  beside = subst (λ (a : Ages). length a.ages.items ≡ length a.keys) (sym same) h.beside;
-  kept = subst (λ (a : Ages). HasStill (texts_of (kept_in a.keys a.ages.items)) (kept_by new.seats.items)) (sym same) (λ q is. still q (h.kept q is));
-  young = subst (λ (a : Ages). (at age : ℕ) → slice_get a.ages.items at ≡ Some (Some age) → age ≤ oldest) (sym same) h.young;
-}
-
 or_true : (b : Bool) → (b || true) ≡ true
 or_true true = refl
 or_true false = refl
@@ -112,11 +101,10 @@ module _ (design : Design) (script : List Word) (old new : Results) where
   -- the results are sound once a crew found them all
   pub sound_run : (items : List (Found Built)) → AreSound design script old → AreSeated new.cache.table.shared.table_id new.cache.shards new.seats.items → length items ≡ length design.modules
       → AreAnswers script design.modules items → new.found.items ≡ beside_of items → kept_by new.seats.items ≡ with_keys (kept_by old.seats.items) (key_texts script design.modules)
-      → new.ages ≡ old.ages → AreSound design script new
-  sound_run items h idle count answers beside kept same = record {
+      → AreSound design script new
+  sound_run items h idle count answers beside kept = record {
     readable = h.readable;
     idle = idle;
-    aged = aged_more old new h.aged same (λ q is. ap (λ (l : List (List ℕ)). has_name l q) kept ∙ still_among (kept_by old.seats.items) (key_texts script design.modules) q is);
     beside = ap length beside ∙ length_beside items ∙ count;
     own = λ at built is.
         let got = got_beside items at built (ap (λ (l : List (Option Built)). slice_get l at) (sym beside) ∙ is) in
@@ -136,11 +124,10 @@ module _ (design : Design) (script : List Word) (old new : Results) where
 
   -- they are sound still where a crew had no memory
   pub sound_stopped : AreSound design script old → AreSeated new.cache.table.shared.table_id new.cache.shards new.seats.items → new.found.items ≡ old.found.items
-      → HasStill (kept_by old.seats.items) (kept_by new.seats.items) → new.ages ≡ old.ages → AreSound design script new
-  sound_stopped h idle beside still same = record {
+      → HasStill (kept_by old.seats.items) (kept_by new.seats.items) → AreSound design script new
+  sound_stopped h idle beside still = record {
     readable = h.readable;
     idle = idle;
-    aged = aged_more old new h.aged same still;
     beside = ap length beside ∙ h.beside;
     own = λ at built is.
         let one = h.own at built (ap (λ (l : List (Option Built)). slice_get l at) (sym beside) ∙ is) in
@@ -149,15 +136,14 @@ module _ (design : Design) (script : List Word) (old new : Results) where
 
 -- all seats still, where there are as many after as before
 pub seated_after : (cache : TableId) (shards : ℕ) (olds news : List Seated) → length news ≡ length olds → AreSeated cache shards olds → AreAllSeats cache (length olds) shards 0 news
-    → Share shards news → AreSeated cache shards news
-seated_after cache shards olds news same h all shared =
+    → AreSeated cache shards news
+seated_after cache shards olds news same h all =
     let some = h.some in
     let few = h.few in
     record {
       some = omega (arith, same, some);
       few = omega (arith, same, few);
       all = subst (λ (n : ℕ). AreAllSeats cache n shards 0 news) (sym same) all;
-      shared = shared;
     }
 
 -- a list that was lent whole comes back whole

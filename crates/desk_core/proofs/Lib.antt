@@ -18,6 +18,3 @@ pub mod CrewPlaces
 pub mod CrewSteps
 pub mod CrewEnds
 pub mod CrewBuilds
-pub mod Aging
-pub mod Giving
-pub mod Ended

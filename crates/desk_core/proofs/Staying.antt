@@ -28,7 +28,6 @@ use Rattle.script_core.specs.Keys.{body_text_at, key_of, key_text}
 use Rattle.desk_core.specs.declared.results.Results.{Results}
 use Rattle.desk_core.specs.Beside.{AreSeen, AreStill, SeesOwn, unedited, unless_edited}
 use Rattle.desk_core.specs.Results.{AreSeated, AreSound, IsResultAt}
-use Rattle.desk_core.proofs.Finding.{aged_more}
 use Rattle.desk_core.proofs.Lists.{get_set_other, get_set_same, same_number}
 use Rattle.desk_core.proofs.Outcomes.{front, split}
 
@@ -231,11 +230,10 @@ own_seen {script} {keys} old new was now still seen at built is =
 
 -- results that stayed beside the modules of a new design are sound there
 pub sound_still : (design after : Design) (script : List Word) (old new : Results) (was : List (Option Built)) → AreSound design script old → IsReadable after → length was ≡ length after.modules
-    → AreStill script design.modules after.modules (kept_by old.seats.items) was → AreSeen after.modules was new.found.items → AreSeated new.cache.table.shared.table_id new.cache.shards new.seats.items → new.seats.items ≡ old.seats.items → new.ages ≡ old.ages → AreSound after script new
-sound_still design after script old new was h readable long still seen idle same ages = record {
+    → AreStill script design.modules after.modules (kept_by old.seats.items) was → AreSeen after.modules was new.found.items → AreSeated new.cache.table.shared.table_id new.cache.shards new.seats.items → new.seats.items ≡ old.seats.items → AreSound after script new
+sound_still design after script old new was h readable long still seen idle same = record {
   readable = readable;
   idle = idle;
-  aged = aged_more old new h.aged ages (λ q is. ap (λ (s : List Seated). has_name (kept_by s) q) same ∙ is);
   beside = seen.count ∙ long;
   own = λ at built is.
       subst (λ (s : List Seated). IsResultAt script after.modules (kept_by s) at built) (sym same)
@@ -289,15 +287,15 @@ long_edited design after script old edits found filled count h are many is put =
 -- the results after an edit are sound
 pub sound_edited : (design after : Design) (script : List Word) (old new : Results) (edits : List Module) (found filled : List (Option Built)) (count : ℕ) → AreSound design script old → IsReadable after
     → after.modules ≡ with_modules design.modules edits → count ≡ length after.modules → found ≡ unedited edits design.modules old.found.items → filled ≡ found ++ replicate (count - length found) None
-    → AreSeen after.modules filled new.found.items → AreSeated new.cache.table.shared.table_id new.cache.shards new.seats.items → new.seats.items ≡ old.seats.items → new.ages ≡ old.ages → AreSound after script new
-sound_edited design after script old new edits found filled count h readable are many is put seen idle same ages =
+    → AreSeen after.modules filled new.found.items → AreSeated new.cache.table.shared.table_id new.cache.shards new.seats.items → new.seats.items ≡ old.seats.items → AreSound after script new
+sound_edited design after script old new edits found filled count h readable are many is put seen idle same =
     sound_still design after script old new filled h readable (long_edited design after script old edits found filled count h are many is put)
     (subst (AreStill script design.modules after.modules (kept_by old.seats.items)) (sym put)
     (still_filled design.modules after.modules found (count - length found)
     (subst (AreStill script design.modules after.modules (kept_by old.seats.items)) (sym is)
     (subst (λ (ms : List Module). AreStill script design.modules ms (kept_by old.seats.items) (unedited edits design.modules old.found.items)) (sym are)
     (still_edited edits design.modules old.found.items h.own)))))
-    seen idle same ages
+    seen idle same
 
 -- there are as many results after a removal as modules
 pub long_removed : (design after : Design) (script : List Word) (old : Results) (name : List ℕ) (at : ℕ) (found : List (Option Built)) → AreSound design script old
@@ -313,14 +311,14 @@ long_removed design after script old name at found h are place is =
 -- the results after a removal are sound
 pub sound_removed : (design after : Design) (script : List Word) (old new : Results) (name : List ℕ) (at : ℕ) (found : List (Option Built)) → AreSound design script old → IsReadable after
     → after.modules ≡ without_module design.modules name → place_named design.modules name ≡ Some at → found ≡ remove old.found.items at
-    → AreSeen after.modules found new.found.items → AreSeated new.cache.table.shared.table_id new.cache.shards new.seats.items → new.seats.items ≡ old.seats.items → new.ages ≡ old.ages → AreSound after script new
-sound_removed design after script old new name at found h readable are place is seen idle same ages =
+    → AreSeen after.modules found new.found.items → AreSeated new.cache.table.shared.table_id new.cache.shards new.seats.items → new.seats.items ≡ old.seats.items → AreSound after script new
+sound_removed design after script old new name at found h readable are place is seen idle same =
     let rest : after.modules ≡ remove design.modules at = are ∙ without_is name design.modules at h.readable place in
     sound_still design after script old new found h readable (long_removed design after script old name at found h are place is)
     (subst (AreStill script design.modules after.modules (kept_by old.seats.items)) (sym is)
     (subst (λ (ms : List Module). AreStill script design.modules ms (kept_by old.seats.items) (remove old.found.items at)) (sym rest)
     (still_removed design.modules old.found.items at h.beside (place_inside name design.modules at place) h.own)))
-    seen idle same ages
+    seen idle same
 
 -- a place is found where a module has the name
 pub is_there : {X : Type 0} (place : X → ℕ) (found : Option X) (name : List ℕ) (modules : List Module) → option_map place found ≡ place_named modules name → is_some found ≡ has_module modules name

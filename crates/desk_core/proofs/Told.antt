@@ -22,8 +22,7 @@ use Rattle.build_crew.specs.Rises.{RisesUpTo}
 use Rattle.desk_core.specs.Builds.{BuildsOrReturns, HasClaims, KeepsAll, present_keys}
 use Rattle.desk_core.specs.Netlist.{all_kept, built_count, built_words, done_modules, key_texts, netlist_answer, netlist_of, over_words, unless_over}
 use Rattle.desk_core.specs.Results.{AreFound, AreSound, over_of, state_of, view_of}
-use Rattle.desk_core.specs.Ages.{kept_after, kept_in}
-use Rattle.desk_core.specs.State.{DeskView, KeptKey, State, answer}
+use Rattle.desk_core.specs.State.{DeskView, State, answer}
 use Rattle.desk_core.specs.Told.{told_by, told_of}
 use Rattle.desk_core.proofs.Outcomes.{over_cold}
 
@@ -55,9 +54,9 @@ pub told_over : (design : Design) (script : List Word) (results : Results) (over
 told_over design script results over sound found is = is ∙ over_cold design script results sound found
 
 -- a state in which all keys of the design are kept
-pub all_are_kept : (design : Design) (script : List Word) (old new : Results) → kept_in new.ages.keys new.ages.ages.items ≡ kept_after (key_texts script design.modules) (kept_in old.ages.keys old.ages.ages.items)
+pub all_are_kept : (design : Design) (script : List Word) (old new : Results) → kept_by new.seats.items ≡ with_keys (kept_by old.seats.items) (key_texts script design.modules)
     → state_of design script new ≡ all_kept (state_of design script old)
-all_are_kept design script old new is = ap (λ (kept : List KeptKey). record { design = design; script = script; kept = kept }) is
+all_are_kept design script old new is = ap (λ (kept : List (List ℕ)). record { design = design; script = script; kept = kept }) is
 
 -- the answers to `run`
 pub run_built : (s after : State) (words : List ℕ) (reply : Reply) → Built words ≡ told_of s → reply ≡ ok_reply (ok_line words) → after ≡ all_kept s → answer reply after ≡ run_answer s
@@ -83,11 +82,11 @@ print_built s after words outcomes (Ok reply) told are is state =
     ∙ ap (answer (print_answer s).reply) state
 
 -- what a command that finds no memory leaves
-pub keeps_all : (design : Design) (script : List Word) (old new : Results) → state_of design script new ≡ state_of design script old → KeepsAll (state_of design script old) (state_of design script new)
-keeps_all design script old new same = record { design = refl; script = refl; kept = ap (λ (s : State). s.kept) same }
+pub keeps_all : (design : Design) (script : List Word) (old new : Results) → HasStill (kept_by old.seats.items) (kept_by new.seats.items) → KeepsAll (state_of design script old) (state_of design script new)
+keeps_all design script old new still = record { design = refl; script = refl; kept = still }
 
 pub keeps_same : (before after : State) → after ≡ before → KeepsAll before after
-keeps_same before after same = subst (KeepsAll before) (sym same) record { design = refl; script = refl; kept = refl }
+keeps_same before after same = subst (KeepsAll before) (sym same) record { design = refl; script = refl; kept = λ text is. is }
 
 -- what is kept before the results are found is kept after it
 pub still_kept : (design : Design) (script : List Word) (old new : Results) → kept_by new.seats.items ≡ with_keys (kept_by old.seats.items) (key_texts script design.modules) → HasStill (kept_by old.seats.items) (kept_by new.seats.items)

@@ -1,6 +1,5 @@
 pub mod Standing
 pub mod State
-pub mod Ages
 pub mod Codes
 pub mod Netlist
 pub mod Answers
@@ -11,11 +10,8 @@ pub mod Results
 pub mod Beside
 pub mod Edits
 pub mod Told
-pub mod Needed
 pub mod Crew
 pub mod CrewRuns
 pub mod CrewBuilds
 pub mod Traces
 pub mod Shaped
-pub mod Present
-pub mod Solo

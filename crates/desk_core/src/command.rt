@@ -19,8 +19,8 @@ impl Desk {
     /// Answers a command. Each build of a module is a step of the meter. The workers run in threads, and a worker calls the
     /// gate before and after the job of each module.
     ///
-    /// After an error the state is as before; the cache may have further results. There were then no more builds than keys of
-    /// the command that were not kept and tickets that the seats gave back.
+    /// After an error the design and the script are as before; further keys may be kept, each with its result. There were
+    /// then no more builds than keys of the command that were not kept and tickets that the seats gave back.
     #[tactic(auto, using(crate::proofs::Told::keeps_same, crate::proofs::Rises::rises_none, crate::proofs::Rises::claims_none, crate::proofs::Rises::returns_none))]
     pub fn command<R: Threads + Wait + Sync, G: Gate, L: Send>(
         &mut self,

@@ -3,7 +3,6 @@
 ghost use Rattle.std.specs.Prelude.{◌≡◌, ◌≤◌, [], IfOk, length};
 ghost use Rattle.desk_core.specs.State.{first_state};
 
-use crate::ages::Ages;
 use crate::results::Results;
 use result_cache::{Opened, SharedCache};
 use rtl_bits::{Memory, Seq};
@@ -61,11 +60,11 @@ impl Desk {
     {
         let design = no_modules(alloc)?;
         let Opened { cache, seats } = SharedCache::make(alloc, workers, SHARDS)?;
+        let found = Vec::new(alloc);
         let results = Results {
             cache,
             seats,
-            ages: Ages::make(alloc),
-            found: Vec::new(alloc),
+            found,
         };
         Ok(Desk {
             alloc,

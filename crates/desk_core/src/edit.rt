@@ -26,11 +26,7 @@ use std::alloc::Global;
 use std::mem;
 
 /// Each of these modules takes the place of the one of its name, or comes last. After an error the design is as before.
-pub(crate) fn edit_design(
-    alloc: Global,
-    design: &mut Checked,
-    edits: Seq<Module>,
-) -> Result<(), EditFault>
+fn edit_design(alloc: Global, design: &mut Checked, edits: Seq<Module>) -> Result<(), EditFault>
     requires few { length design.old.design.modules ≤ MAX_MODULES }
     ensures ok { OnOk result (design.new.design.modules ≡ with_modules design.old.design.modules edits) }
     ensures count { OnOk result (length design.new.design.modules ≤ MAX_MODULES) }
@@ -51,11 +47,7 @@ pub(crate) fn edit_design(
 }
 
 /// The module of this name is taken away. After an error the design is as before.
-pub(crate) fn remove_module(
-    alloc: Global,
-    design: &mut Checked,
-    name: &[u8],
-) -> Result<(), CheckFault>
+fn remove_module(alloc: Global, design: &mut Checked, name: &[u8]) -> Result<(), CheckFault>
     requires distinct { AreDistinct (map (λ (m : Module). m.id) design.old.design.modules) }
     ensures ok { OnOk result (design.new.design.modules ≡ without_module design.old.design.modules name.now) }
     ensures err { OnErr result (design.new.design ≡ design.old.design) }
@@ -76,7 +68,7 @@ pub(crate) fn remove_module(
 }
 
 /// The reply to an edit of this text that is refused.
-pub(crate) fn edit_reply(alloc: Global, text: &[u8], fault: &EditFault) -> Result<Reply, Memory>
+fn edit_reply(alloc: Global, text: &[u8], fault: &EditFault) -> Result<Reply, Memory>
     ensures value { IfOk result (λ reply. (items : List Seen) → AreItemsOf text.now items →
         IsEditReply items fault.now reply) }
 {

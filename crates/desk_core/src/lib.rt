@@ -2,7 +2,6 @@
 //! replies.
 #![tactic(auto)]
 
-mod ages;
 mod beside;
 mod changes;
 mod command;
@@ -17,22 +16,13 @@ mod keys;
 pub mod laws;
 mod modules;
 mod named;
-mod needed;
 mod netlist;
-mod own_results;
-mod present;
-mod present_edit;
-mod present_show;
 mod results;
 mod runs;
 mod simulate;
-mod solo;
-mod solo_runs;
 mod summary;
 
 pub use crew::Crew;
 pub use desk::Desk;
 pub use desk_read::{Command, CommandReader, SimAsk};
-pub use kept::Kept;
 pub use reply_lines::Reply;
-pub use solo::SoloDesk;

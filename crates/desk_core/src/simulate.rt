@@ -110,7 +110,7 @@ impl Desk {
     }
 
     /// As `run`, and then the module at this place of the netlist is run.
-    #[tactic(auto, using(crate::proofs::Simulating::traced, crate::proofs::Told::answer_over, crate::proofs::Ended::ended_state, crate::proofs::Ended::ended_sound, crate::proofs::Ended::marked_all, crate::proofs::Told::keeps_all, crate::proofs::Outcomes::outcomes_cold))]
+    #[tactic(auto, using(crate::proofs::Simulating::traced, crate::proofs::Told::answer_over, crate::proofs::Told::all_are_kept, crate::proofs::Told::keeps_all, crate::proofs::Outcomes::outcomes_cold))]
     fn netlist_trace<R: Threads + Wait + Sync, G: Gate, L: Send>(
         &mut self,
         crew: &Crew<R, G>,
@@ -130,15 +130,12 @@ impl Desk {
     {
         // The netlist comes of a script, which begins with `proc`: so it has no process.
         let _words = self.script.as_slice();
-        let (told, needed) = tell(crew, &self.design, &self.script, &mut self.results, meter)?;
-        let reply = match told {
+        match tell(crew, &self.design, &self.script, &mut self.results, meter)? {
             Told::Built(words) => {
-                traced(self.alloc, &self.design, &self.results, at, stimulus, words)?
+                traced(self.alloc, &self.design, &self.results, at, stimulus, words)
             }
-            Told::Over(words) => error_reply(self.alloc, words.as_slice())?,
-        };
-        self.results.end(crew.rt, &needed);
-        Ok(reply)
+            Told::Over(words) => error_reply(self.alloc, words.as_slice()),
+        }
     }
 }
 

@@ -87,7 +87,7 @@ fn summary(alloc: Global, design: &Checked, results: &Results, built: Text) -> R
 
 impl Desk {
     /// As `run`, and then the cells of the netlist are counted.
-    #[tactic(auto, using(crate::proofs::Summing::summary_built, crate::proofs::Summing::cells_cold, crate::proofs::Told::answer_over, crate::proofs::Ended::ended_state, crate::proofs::Ended::ended_sound, crate::proofs::Ended::marked_all, crate::proofs::Told::keeps_all))]
+    #[tactic(auto, using(crate::proofs::Summing::summary_built, crate::proofs::Summing::cells_cold, crate::proofs::Told::answer_over, crate::proofs::Told::all_are_kept, crate::proofs::Told::keeps_all))]
     pub fn summarise<R: Threads + Wait + Sync, G: Gate, L: Send>(
         &mut self,
         crew: &Crew<R, G>,
@@ -99,12 +99,9 @@ impl Desk {
         ensures err { OnErr result (KeepsAll self.old.state self.new.state) }
         ensures returned { BuildsOrReturns (built_count self.old.state) self.old.seats self.new.seats meter.old meter.new }
     {
-        let (told, needed) = tell(crew, &self.design, &self.script, &mut self.results, meter)?;
-        let reply = match told {
-            Told::Built(words) => summary(self.alloc, &self.design, &self.results, words)?,
-            Told::Over(words) => error_reply(self.alloc, words.as_slice())?,
-        };
-        self.results.end(crew.rt, &needed);
-        Ok(reply)
+        match tell(crew, &self.design, &self.script, &mut self.results, meter)? {
+            Told::Built(words) => summary(self.alloc, &self.design, &self.results, words),
+            Told::Over(words) => error_reply(self.alloc, words.as_slice()),
+        }
     }
 }

@@ -9,4 +9,3 @@ mod words;
 
 pub use command::{Command, SimAsk};
 pub use reader::CommandReader;
-pub use words::first_words;

@@ -12,5 +12,4 @@ pub mod Values
 pub mod Folds
 pub mod Widths
 pub mod Residues
-pub mod Extended
 pub mod Lawful

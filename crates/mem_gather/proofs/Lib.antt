@@ -2,4 +2,5 @@ mod Tabling
 mod Starting
 mod Planning
 mod Placing
+mod Asking
 mod First

@@ -7,4 +7,5 @@ pub mod Passing
 pub mod Trees
 pub mod StayingCells
 pub mod Wiring
+pub mod Asking
 pub mod Promised

@@ -1,5 +1,4 @@
 pub mod Members
-pub mod MemoryCells
 pub mod Settling
 pub mod Running
 pub mod Places

@@ -4,7 +4,6 @@ pub mod Changed
 pub mod Reduce
 pub mod Gather
 pub mod Muxtree
-pub mod Turns
 pub mod Ends
 pub mod Ways
 pub mod Dff

@@ -9,7 +9,6 @@ ghost use Rattle.opt_more.specs.Sweep.{swept_by};
 
 use crate::ends::Arms;
 use crate::muxes::muxed;
-use crate::others::Others;
 use net_alias::Aliases;
 use net_index::Types;
 use opt_expr::{places_of, standing};
@@ -50,12 +49,16 @@ fn visit_trees(
     let mut done = Vec::with_capacity(alloc, cells.len())?;
     let mut rest = VecDeque::from_vec(cells);
     while let Some(cell) = rest.pop_front() {
-        let others = Others {
-            places: &places,
-            done: done.as_slice(),
-            rest: &rest,
-        };
-        let after = muxed(alloc, &types, &others, &mut arms, &mut aliases, cell)?;
+        let after = muxed(
+            alloc,
+            &types,
+            &places,
+            &mut arms,
+            &mut aliases,
+            done.as_slice(),
+            &rest,
+            cell,
+        )?;
         done.push(Some(after))?;
     }
     Ok(done)

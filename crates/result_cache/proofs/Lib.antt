@@ -15,4 +15,3 @@ pub mod Meeting
 pub mod Spending
 pub mod Dealing
 pub mod Idle
-pub mod Sharing

@@ -1,5 +1,4 @@
 pub mod History
-pub mod Counts
 pub mod Tickets
 pub mod Stored
 pub mod Filled

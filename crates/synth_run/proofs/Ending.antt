@@ -8,7 +8,7 @@ use Rattle.desk_core.specs.State.{first_state}
 use Rattle.synth_run.specs.declared.program.Status.{Status}
 use Rattle.synth_run.specs.declared.program.Status.TheVariants as statuses
 use Rattle.synth_run.specs.declared.words.Mode.{Mode}
-use Rattle.synth_run.specs.declared.words.Mode.TheVariants.{Synth, Session, Generate, Desks}
+use Rattle.synth_run.specs.declared.words.Mode.TheVariants.{Synth, Session, Generate}
 use Rattle.synth_run.specs.declared.words.Plan.{Plan}
 use Rattle.synth_run.specs.declared.session.Stop.{Stop}
 use Rattle.synth_run.specs.declared.session.Stop.TheVariants as halts
@@ -62,10 +62,8 @@ pub begins : (mode : Mode) (script : List Word) (left had has : Option (List ℕ
 begins mode script left had has (Err stop) ok err = err
 begins Synth script None had has (Ok error) ok err = tt
 begins Session script None had has (Ok error) ok err = tt
-begins (Desks count) script None had has (Ok error) ok err = tt
 begins Synth script (Some input) had has (Ok error) ok err = (ok.0, ok.1, held_begins ok.0 had has ok.2)
 begins Session script (Some input) had has (Ok error) ok err = (ok.0, ok.1, held_begins ok.0 had has ok.2)
-begins (Desks count) script (Some input) had has (Ok error) ok err = (ok.0, ok.1, held_begins ok.0 had has ok.2)
 begins (Generate count) script left had has (Ok error) ok err = (ok.0, ok.1, held_begins ok.0 had has ok.2)
 
 -- of a plan that words have

@@ -8,7 +8,6 @@ pub mod Holding
 pub mod Stepping
 pub mod Printing
 pub mod Planning
-pub mod Desking
 pub mod Replying
 pub mod Synthesising
 pub mod Valuing
