@@ -25,7 +25,8 @@ use Rattle.rtl_ir.specs.declared.follow.Join.{Join}
 use Rattle.rtl_ir.specs.Signals.{same_bit, same_place}
 use Rattle.net_index.specs.IndexTable.{at_bit}
 use Rattle.flat_net.specs.declared.starts.Starts.{Starts}
-use Rattle.flat_net.specs.Starts.{AreStarts, Gains, IsStart, starts_by, starts_of}
+use Rattle.rtl_ir.specs.Starts.{inits_of}
+use Rattle.flat_net.specs.Starts.{AreStarts, Gains, IsStart, starts_by}
 
 -- one more start value
 last_more : (all : List Begun) (s : Begun) (b : WireBit) → last_start (all ++ s ∷ []) b ≡ (if same_bit s.bit b then Some s.value else last_start all b)
@@ -53,7 +54,7 @@ pub gains_both : (a b c : Starts) (xs ys : List Begun) → Gains a b xs → Gain
 gains_both a b c xs ys h k = record { gains = λ wires all before. subst (AreStarts c wires) (append_assoc all xs ys) (k.gains wires (all ++ xs) (h.gains wires all before)) }
 
 -- what the wires say
-said_is : (wires : List Wire) (k : ℕ) → slice_index_or (starts_of wires) k [] ≡ init_bits (slice_get wires k)
+said_is : (wires : List Wire) (k : ℕ) → slice_index_or (inits_of wires) k [] ≡ init_bits (slice_get wires k)
 said_is [] k = refl
 said_is (w ∷ wires) zero = refl
 said_is (w ∷ wires) (suc k) = said_is wires k

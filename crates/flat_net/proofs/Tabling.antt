@@ -7,7 +7,8 @@ use Rattle.rtl_ir.specs.declared.module.Module.{Module}
 use Rattle.rtl_ir.specs.Flat.Tree.{named}
 use Rattle.rtl_ir.proofs.PortLemmas.{drop-before}
 use Rattle.flat_net.specs.declared.modules.Entry.{Entry}
-use Rattle.flat_net.specs.Tables.{Named, IsEntry, Stands, at_name}
+use Rattle.net_index.specs.Types.{Named, at_name}
+use Rattle.flat_net.specs.Tables.{IsEntry, Stands}
 
 -- a table after a value is put at a name
 pub record Puts {A : Type 0} (old new : Named A) (key : Bor (List ℕ)) (value : A) : Type 0 where

@@ -19,7 +19,8 @@ use Rattle.rtl_ir.specs.Flat.Start.{start_of}
 use Rattle.rtl_ir.specs.Flat.Tree.{design_ports, in_tree, named}
 use Rattle.flat_net.specs.declared.modules.Entry.{Entry}
 use Rattle.flat_net.specs.declared.titled.Titled.{Titled}
-use Rattle.flat_net.specs.Tables.{Named, Stands, all_now, at_name, ports_in}
+use Rattle.net_index.specs.Types.{Named, at_name}
+use Rattle.flat_net.specs.Tables.{Stands, all_now, ports_in}
 use Rattle.flat_net.specs.Titled.{HaveNoProcess, titled_module}
 use Rattle.flat_net.proofs.Tabling.{Puts, entry_put}
 use Rattle.flat_net.proofs.Treeing.{tree_like}

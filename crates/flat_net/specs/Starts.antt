@@ -1,5 +1,5 @@
 -- The start values of the bits of a module.
-use Rattle.std.specs.Prelude.{◌≡◌, List, [], ◌++◌, map, Some, slice_index_or, unwrap_or}
+use Rattle.std.specs.Prelude.{◌≡◌, List, [], ◌++◌, map, slice_index_or, unwrap_or}
 use Rattle.rtl_bits.specs.declared.bit.Bit.{Bit}
 use Rattle.rtl_bits.specs.declared.bit.Bit.TheVariants.{X}
 use Rattle.rtl_bits.specs.Tables.{seen_of}
@@ -7,16 +7,13 @@ use Rattle.rtl_sig.specs.declared.sig.SigBit.{SigBit}
 use Rattle.rtl_sig.specs.declared.sig.SigBit.TheVariants.{Fixed, Wire as OnWire}
 use Rattle.rtl_sig.specs.declared.sig.WireBit.{WireBit}
 use Rattle.rtl_ir.specs.declared.wire.Wire.{Wire}
+use Rattle.rtl_ir.specs.Starts.{inits_of}
 use Rattle.rtl_ir.specs.Decisions.{expanded, leaves_of}
-use Rattle.rtl_ir.specs.Flat.Start.{Begun, first_constant, init_bits, last_start}
+use Rattle.rtl_ir.specs.Flat.Start.{Begun, first_constant, last_start}
 use Rattle.rtl_ir.specs.declared.follow.Join.{Join}
 use Rattle.rtl_ir.specs.Tree.{CaseView}
 use Rattle.net_index.specs.IndexTable.{at_bit}
 use Rattle.flat_net.specs.declared.starts.Starts.{Starts}
-
--- the start values that the attributes of the wires say
-abbrev pub starts_of : List Wire → List (List Bit)
-starts_of wires = map (λ (w : Wire). init_bits (Some w)) wires
 
 -- the start value of a bit: the one that a process gives, else that of the attribute
 abbrev pub start_at : Starts → SigBit → Bit
@@ -30,7 +27,7 @@ IsStart starts start = (s : SigBit) → start_at starts s ≡ start s
 
 -- what is known is what the wires say, and that these start values are given, one after another
 pub record AreStarts (starts : Starts) (wires : List Wire) (all : List Begun) : Type 0 where
-  pub said : starts.said.items ≡ starts_of wires
+  pub said : starts.said.items ≡ inits_of wires
   pub given : (b : WireBit) → at_bit starts.given b ≡ last_start all b
 
 -- the start values at these places, by a root case whose switches are read by the rules

@@ -1,9 +1,5 @@
 -- The modules of a design by their names.
 use Rattle.std.specs.Prelude.{◌≡◌, ℕ, List, map, filter, Option, Some, None}
-use Rattle.std.specs.Str.{bytes_eq}
-use Rattle.std.specs.HashMap.{HashMap, get_by}
-use Rattle.std.specs.declared.hash.FoldHasher.{FoldHasher}
-use Rattle.std.specs.declared.hash.BuildHasherDefault.{BuildHasherDefault}
 use Rattle.std.proofs.Common.{Bor}
 use Rattle.rtl_ir.specs.declared.module.Module.{Module}
 use Rattle.rtl_ir.specs.declared.wire.Wire.{Wire}
@@ -12,16 +8,9 @@ use Rattle.rtl_ir.specs.Flat.Place.{Path}
 use Rattle.rtl_ir.specs.Flat.Rows.{rows_of}
 use Rattle.rtl_ir.specs.Flat.Tree.{named}
 use Rattle.rtl_ir.specs.Ports.{is_port, in_number_order}
+use Rattle.net_index.specs.Types.{at_name}
 use Rattle.flat_net.specs.declared.modules.Entry.{Entry}
 use Rattle.flat_net.specs.declared.modules.Table.{Table}
-
--- a table with names as its keys
-abbrev pub Named : Type 0 → Type 0
-Named A = HashMap (Bor (List ℕ)) A (BuildHasherDefault FoldHasher)
-
--- what a table has at a name
-abbrev pub at_name : {A : Type 0} → Named A → List ℕ → Option A
-at_name table name = get_by (λ (k : Bor (List ℕ)). bytes_eq name k.now) table
 
 -- the wires that are ports, in order of their numbers
 abbrev pub ports_in : List Wire → List Wire

@@ -9,13 +9,13 @@ ghost use Rattle.rtl_ir.specs.Decisions.{expanded, leaves_of};
 ghost use Rattle.rtl_ir.specs.Flat.Start.{first_constant, process_starts, start_of};
 ghost use Rattle.rtl_ir.specs.Tree.{CaseView};
 ghost use Rattle.process_trees.specs.Rounds.{AreLeaves};
-ghost use Rattle.flat_net.specs.Starts.{AreStarts, Gains, IsStart, starts_by, starts_of};
+ghost use Rattle.flat_net.specs.Starts.{AreStarts, Gains, IsStart, starts_by};
 
 use crate::rooted::Rooted;
 use net_index::BitTable;
 use process_trees::Leaves;
 use rtl_bits::{Bit, Bits, Memory};
-use rtl_ir::{Join, Process, Wire, attribute_bits, init_joins};
+use rtl_ir::{Join, Process, Wire, init_joins, inits};
 use rtl_sig::{SigBit, WireBit};
 use std::alloc::Global;
 
@@ -45,7 +45,7 @@ impl Starts {
         ensures value { IfOk result (λ starts. AreStarts starts wires.now []) }
     {
         Ok(Starts {
-            said: said_of(alloc, wires)?,
+            said: inits(alloc, wires)?,
             given: BitTable::of(alloc, wires)?,
         })
     }
@@ -105,17 +105,6 @@ fn constant_of(leaves: &Leaves, source: SigBit) -> Result<Bit, Memory>
         Some(SigBit::Fixed(value)) => Ok(value),
         _ => Err(Memory),
     }
-}
-
-/// The bits of the attribute `\init` of each wire, none where it has no such attribute.
-fn said_of(alloc: Global, wires: &[Wire]) -> Result<Vec<Bits>, Memory>
-    ensures value { IfOk result (λ said. said.items ≡ starts_of wires.now) }
-{
-    let mut said = Vec::with_capacity(alloc, wires.len())?;
-    for wire in wires {
-        said.push(attribute_bits(alloc, wire.attributes.as_slice(), b"\\init")?)?;
-    }
-    Ok(said)
 }
 
 /// What is said of a bit, x where nothing is.

@@ -18,7 +18,7 @@ use Rattle.opt_clean.specs.Clean.{clean_of, is_all_inside, reduced}
 use Rattle.opt_clean.specs.Kept.{kept_marks, marked}
 use Rattle.opt_clean.specs.Runs.{links_of}
 use Rattle.opt_clean.specs.Wires.{moved_cell, named_bits, trimmed, wire_marks}
-use Rattle.opt_merge.specs.Merge.{Merging, after_cells, after_kind, drives_own, has_traits, join, merge_of, merging_of, stay, with_merging}
+use Rattle.opt_merge.specs.Merge.{Merging, after_cells, after_kind, has_traits, join, merge_of, stay}
 use Rattle.opt_merge.specs.Traits.{merging_kind, traits_of}
 use Rattle.tech_map.specs.Gates.{HasGatesAlone, IsGateOrInstance}
 
@@ -39,11 +39,7 @@ module _ (start : SigBit → Bit) where
       merged_gates (after_kind start merging c (merging_kind c)) cells (kind_gates merging c (merging_kind c) gates (more c (inl refl))) (λ d i. more d (inr i))
 
 pub merge_gates : (m : Module) → HasGatesAlone m → HasGatesAlone (merge_of m)
-merge_gates m gates = by (drives_own m)
-  where
-    by : (t : Bool) → HasGatesAlone (if t then with_merging m (merging_of m) else m)
-    by true = merged_gates (start_of m.wires m.processes) (record { cells = []; links = m.links }) m.cells (each_none IsGateOrInstance) gates
-    by false = gates
+merge_gates m gates = merged_gates (start_of m.wires m.processes) (record { cells = []; links = m.links }) m.cells (each_none IsGateOrInstance) gates
 
 -- cells with other signals at their pins
 pub mapped_gates : (f : Cell → Cell) (cells : List Cell) → ((c : Cell) → IsGateOrInstance c → IsGateOrInstance (f c)) → Each IsGateOrInstance cells → Each IsGateOrInstance (map f cells)

@@ -94,6 +94,15 @@ pub low-length : (u : ℕ → Bit) (n : ℕ) → length (low_of u n) ≡ n
 low-length u zero = refl
 low-length u (suc n) = ap suc (low-length (λ i. u (suc i)) n)
 
+-- a known bit and its inverse are one
+pub inverse_digit : (a : Bit) → IsKnown a → digit_of (not_of a) + digit_of a ≡ 1
+inverse_digit S0 k = refl
+inverse_digit S1 k = refl
+inverse_digit X k = absurd k
+inverse_digit Z k = absurd k
+inverse_digit M k = absurd k
+inverse_digit Dash k = absurd k
+
 -- the number of an inverse is what is left to the greatest one
 pub inverse_number : (n : ℕ) (u : ℕ → Bit) → AreKnown (low_of u n) → number_of (low_of (λ i. not_of (u i)) n) + number_of (low_of u n) + 1 ≡ 2 ^ n
 inverse_number zero u k = refl
@@ -102,14 +111,6 @@ inverse_number (suc n) u k =
     let e : 2 ^ suc n ≡ 2 * 2 ^ n = omega arith in
     let d : digit_of (not_of (u 0)) + digit_of (u 0) ≡ 1 = inverse_digit (u 0) k.0 in
     omega arith
-  where
-    inverse_digit : (a : Bit) → IsKnown a → digit_of (not_of a) + digit_of a ≡ 1
-    inverse_digit S0 k = refl
-    inverse_digit S1 k = refl
-    inverse_digit X k = absurd k
-    inverse_digit Z k = absurd k
-    inverse_digit M k = absurd k
-    inverse_digit Dash k = absurd k
 
 pub inverse_known : (n : ℕ) (u : ℕ → Bit) → AreKnown (low_of u n) → AreKnown (low_of (λ i. not_of (u i)) n)
 inverse_known zero u k = tt

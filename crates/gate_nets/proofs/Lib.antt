@@ -12,4 +12,5 @@ pub mod Values
 pub mod Folds
 pub mod Widths
 pub mod Residues
+pub mod Extended
 pub mod Lawful

@@ -31,7 +31,7 @@ module _ (l : Logic) where
   goods_own g d (b ∷ bits) k = (k b (inl refl), goods_own g d bits (λ x i. k x (inr i)))
 
   -- a word that goes on with a last bit has that bit's value from its end on
-  goods_filled : (g : SigBit → Bit) (d : Bit) (s : SigBit) → l.Has d s → (n : ℕ) (bits : List SigBit) → ((x : SigBit) → In x bits → l.Has (g x) x)
+  pub goods_filled : (g : SigBit → Bit) (d : Bit) (s : SigBit) → l.Has d s → (n : ℕ) (bits : List SigBit) → ((x : SigBit) → In x bits → l.Has (g x) x)
       → Goods l (λ at. slice_index_or (map g bits) at d) (take n bits ++ replicate (n - length bits) s)
   goods_filled g d s h zero [] k = tt
   goods_filled g d s h zero (b ∷ bits) k =
@@ -58,7 +58,8 @@ module _ (l : Logic) where
       let rest : l.Has (top_of (map g (c ∷ bits))) (unwrap_or (slice_get (c ∷ bits) (length bits)) (Fixed S0)) = subst (λ z. l.Has (top_of (map g (c ∷ bits))) (unwrap_or (slice_get (c ∷ bits) z) (Fixed S0))) e (top_has g (c ∷ bits) (λ x i. k x (inr i))) in
       subst (λ z. l.Has (top_of (map g (c ∷ bits))) (unwrap_or (slice_get (b ∷ c ∷ bits) z) (Fixed S0))) (sym f) rest
 
-  fill_has : (g : SigBit → Bit) (signed : Bool) (bits : List SigBit) → ((x : SigBit) → In x bits → l.Has (g x) x) → l.Has (words.fill_of signed (map g bits)) (fill_of bits signed)
+  -- what a word goes on with has its value
+  pub fill_has : (g : SigBit → Bit) (signed : Bool) (bits : List SigBit) → ((x : SigBit) → In x bits → l.Has (g x) x) → l.Has (words.fill_of signed (map g bits)) (fill_of bits signed)
   fill_has g true bits k = top_has g bits k
   fill_has g false bits k = l.constant S0
 

@@ -11,9 +11,10 @@ use Rattle.rtl_bits.specs.Numbers.{digit_of, number_of, top_of}
 use Rattle.rtl_bits.specs.Tables.{not_of}
 use Rattle.rtl_bits.specs.declared.bit.Bit.{Bit}
 use Rattle.rtl_bits.specs.declared.bit.Bit.TheVariants.{S0, S1, X, Z, M, Dash}
-use Rattle.gate_nets.proofs.Adding.{inverse_known, inverse_number, low-length, low_of, sums}
+use Rattle.gate_nets.proofs.Adding.{inverse_digit, inverse_known, inverse_number, low-length, low_of, sums}
 use Rattle.gate_nets.proofs.Nets.{carry_at, sum_bit}
-use Rattle.gate_nets.proofs.Residues.{going_integer, going_on}
+use Rattle.gate_nets.proofs.Extended.{doubled, exact_number, last_bit}
+use Rattle.gate_nets.proofs.Residues.{going_integer}
 use Rattle.map_add.proofs.Nets.{flipped, less_bit, ranked}
 
 -- the bit of a truth value
@@ -38,36 +39,6 @@ less_number n u v j k =
     let fits : number_of bits < 2 ^ n = subst (λ z. number_of bits < 2 ^ z) (low-length (λ at. sum_bit (u at) (not_of (v at)) (carry_at u (λ i. not_of (v i)) S1 at)) n) (number_of_small bits) in
     let small : number_of (low_of u n) < 2 ^ n = subst (λ z. number_of (low_of u n) < 2 ^ z) (low-length u n) (number_of_small (low_of u n)) in
     carry_tells (2 ^ n) (number_of (low_of u n)) (number_of (low_of v n)) (number_of (low_of (λ i. not_of (v i)) n)) (number_of bits) (carry_at u (λ i. not_of (v i)) S1 n) h.carry fits (inverse_number n v k) h.adds small
-
-doubled : (j p e : ℕ) → e ≡ 2 * p → j * e ≡ j * p + j * p
-doubled j p e h = ap (λ z. j * z) h ∙ grind arith
-
--- the number of a word that goes on with a last bit, at a width that it fits
-exact_number : (n : ℕ) (d : Bit) (bits : List Bit) → length bits ≤ n → pos (number_of (low_of (λ at. slice_index_or bits at d) n)) ≡ going_on d bits +ℤ pos (digit_of d * 2 ^ n)
-exact_number zero d [] h = omega (arith, ints)
-exact_number zero d (b ∷ bits) h = absurd (omega arith)
-exact_number (suc n) d [] h =
-    let e : 2 ^ suc n ≡ 2 * 2 ^ n = omega arith in
-    omega (arith, ints, exact_number n d [] (omega arith), doubled (digit_of d) (2 ^ n) (2 ^ suc n) e)
-exact_number (suc n) d (b ∷ bits) h =
-    let e : 2 ^ suc n ≡ 2 * 2 ^ n = omega arith in
-    omega (arith, ints, exact_number n d bits (omega arith), doubled (digit_of d) (2 ^ n) (2 ^ suc n) e)
-
--- the last bit of an extended signed word
-last_bit : (bits : List Bit) (k : ℕ) → length bits ≤ suc k → slice_index_or bits k (top_of bits) ≡ top_of bits
-last_bit [] k h = refl
-last_bit (b ∷ []) zero h = refl
-last_bit (b ∷ []) (suc k) h = refl
-last_bit (b ∷ c ∷ bits) zero h = absurd (omega arith)
-last_bit (b ∷ c ∷ bits) (suc k) h = last_bit (c ∷ bits) k (omega arith)
-
-inverse_digit : (a : Bit) → IsKnown a → digit_of (not_of a) + digit_of a ≡ 1
-inverse_digit S0 k = refl
-inverse_digit S1 k = refl
-inverse_digit X k = absurd k
-inverse_digit Z k = absurd k
-inverse_digit M k = absurd k
-inverse_digit Dash k = absurd k
 
 -- the number of a word with its top bit inverted
 flipped_number : (n : ℕ) (u : ℕ → Bit) → AreKnown (low_of u (suc n)) → number_of (low_of (flipped (suc n) u) (suc n)) + digit_of (u n) * 2 ^ suc n ≡ number_of (low_of u (suc n)) + 2 ^ n

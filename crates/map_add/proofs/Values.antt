@@ -2,6 +2,7 @@
 use Rattle.std.proofs.Common.{◌≡◌, ◌≤◌, ℕ, zero, suc, ◌+◌, Bool, true, false, not, List, [], ◌∷◌, length, refl, sym, ◌∙◌, ap, subst, arith, ℤ, neg_ℤ, ◌+ℤ◌, ◌-ℤ◌}
 use Rattle.std.specs.Prelude.{◌&&◌, if◌then◌else◌, int_lt, slice_index_or}
 use Rattle.std.proofs.lemmas.Int.{ints}
+use Rattle.std.proofs.lemmas.Bool.{and_parts}
 use Rattle.cell_types.specs.declared.kind.CellKind.TheVariants.{Word}
 use Rattle.cell_types.specs.declared.shape.Shape.{Shape}
 use Rattle.cell_types.specs.declared.word.ArithKind.TheVariants.{Add, Sub}
@@ -94,11 +95,6 @@ module _ (n : ℕ) (signed : Bool) (a b : List Bit) (j : AreKnown a) (k : AreKno
       zeros_known zero = tt
       zeros_known (suc n) = (tt, zeros_known n)
 
-both_true : (x y : Bool) → x && y ≡ true → (x ≡ true) × (y ≡ true)
-both_true true true e = (refl, refl)
-both_true true false e = absurd (cc)
-both_true false y e = absurd (cc)
-
 bit_if : (t : Bool) → bit_of t ≡ (if t then S1 else S0)
 bit_if true = refl
 bit_if false = refl
@@ -135,12 +131,12 @@ module _ (f : SigBit → Bit) (is : IsReading f) where
       (λ t. negative_is shape.widths.y shape.signs.a a a (all_known_true a t) (all_known_true a t))
   value_below (Arith Add) shape n a b s bits m d e h w =
       if_known f is (all_known a && all_known b) _ shape.widths.y _ bits h w
-      (λ t. let p = both_true (all_known a) (all_known b) t in sum_is shape.widths.y (both_signed shape) a b (all_known_true a p.0) (all_known_true b p.1))
+      (λ t. let p = and_parts (all_known a) (all_known b) t in sum_is shape.widths.y (both_signed shape) a b (all_known_true a p.0) (all_known_true b p.1))
   value_below (Arith Sub) shape n a b s bits m d e h w =
       if_known f is (all_known a && all_known b) _ shape.widths.y _ bits h w
-      (λ t. let p = both_true (all_known a) (all_known b) t in difference_is shape.widths.y (both_signed shape) a b (all_known_true a p.0) (all_known_true b p.1))
+      (λ t. let p = and_parts (all_known a) (all_known b) t in difference_is shape.widths.y (both_signed shape) a b (all_known_true a p.0) (all_known_true b p.1))
   value_below (Order kind) shape n a b s bits m d e h w =
       one_below f is (cells.order_of kind (both_signed shape) a b) shape.widths.y _ bits h w
       (order_below (all_known a && all_known b) _ (order_bit kind (both_signed shape) n (extended_at (both_signed shape) a) (extended_at (both_signed shape) b))
-      (λ t. let p = both_true (all_known a) (all_known b) t in order_is kind (both_signed shape) n a b d e (all_known_true a p.0) (all_known_true b p.1)))
+      (λ t. let p = and_parts (all_known a) (all_known b) t in order_is kind (both_signed shape) n a b d e (all_known_true a p.0) (all_known_true b p.1)))
   value_below kind shape n a b s bits m d e h w = absurd (cc)

@@ -69,9 +69,16 @@ fn storage_gates(
     let qs = pin_signal(cell, PinName::Q);
     for (at, q) in qs.iter().enumerate() {
         let gate = bit_gate(kind, shape, at);
-        storage_gate(alloc, kind, gate, cell, at, *q, builder)?;
+        storage_gate(alloc, kind, gate, cell, OutputBit { at, q: *q }, builder)?;
     }
     Ok(())
+}
+
+/// A bit of Q: its place, and the bit itself.
+#[derive(Clone, Copy)]
+struct OutputBit {
+    at: usize,
+    q: SigBit,
 }
 
 /// The gate of a bit, which drives this bit of Q.
@@ -80,15 +87,15 @@ fn storage_gate(
     kind: StorageKind,
     gate: StorageGate,
     cell: &Cell,
-    at: usize,
-    q: SigBit,
+    output: OutputBit,
     builder: &mut Builder,
 ) -> Result<(), PassFault>
-    ensures exact { OnOk result (builder.new ≡ storage_gate kind gate cell.now at q builder.old) }
-    ensures over { result ≡ Err PassFault.Over → PassesLimit (storage_gate kind gate cell.now at q builder.old) }
+    ensures exact { OnOk result (builder.new ≡ storage_gate kind gate cell.now output.at output.q builder.old) }
+    ensures over { result ≡ Err PassFault.Over →
+        PassesLimit (storage_gate kind gate cell.now output.at output.q builder.old) }
     ensures within { OnOk result (IsInLimits builder.new) }
 {
-    let pins = gate_pins(alloc, kind, gate, cell, at, q)?;
+    let pins = gate_pins(alloc, kind, gate, cell, output.at, output.q)?;
     builder.add_cell(CellKind::StorageGate(gate), &[], pins.as_slice())?;
     Ok(())
 }

@@ -2,6 +2,7 @@
 use Rattle.std.proofs.Common.{◌≡◌, ◌<◌, ◌≤◌, ℕ, ◌+◌, ◌-◌, ◌*◌, ◌%◌, ◌^◌, Bool, suc, true, false, not, List, [], ◌∷◌, Option, Some, None, Ok, length, inl, inr, refl, sym, ◌∙◌, ap, subst, arith, ℤ, ◌*ℤ◌}
 use Rattle.std.proofs.lemmas.Bool.Decides.{nat_tests}
 use Rattle.std.specs.Prelude.{◌==◌, ◌&&◌, if◌then◌else◌, unsigned_abs, map, replicate, slice_index_or}
+use Rattle.std.proofs.lemmas.Bool.{and_parts}
 use Rattle.cell_types.specs.Fault.{fault_of}
 use Rattle.cell_types.specs.PinName.{pin_text}
 use Rattle.cell_types.specs.Shape.{made_shape, unless}
@@ -50,7 +51,7 @@ use Rattle.gate_divide.proofs.Dividing.{Stands, divide_stands, net_divide}
 use Rattle.map_mul.specs.Expand.{divided_of, given, greatest_width, is_mapped, map_of, multiplied_of, operand_of, value_of}
 use Rattle.map_mul.proofs.Operands.{length_extended, operand, operand_is, reads_operand}
 use Rattle.map_mul.proofs.Products.{net_product, product_word}
-use Rattle.map_mul.proofs.Values.{both_true, narrow_below, integer_below, residue_product, residue_rest}
+use Rattle.map_mul.proofs.Values.{narrow_below, integer_below, residue_product, residue_rest}
 
 given_shape : (fault : Option CellFault) (made shape : Shape) → unless fault made ≡ Ok shape → shape ≡ made
 given_shape None made shape e = cc
@@ -84,10 +85,10 @@ module _ (g : SigBit → Bit) (shape : Shape) (c : Cell) where
   Known = Knows g c ≡ true
 
   a_known : Known → AreKnown (map g (pin_signal c A))
-  a_known k = all_known_true (map g (pin_signal c A)) (both_true (all_known (map g (pin_signal c A))) (all_known (map g (pin_signal c B))) k).0
+  a_known k = all_known_true (map g (pin_signal c A)) (and_parts (all_known (map g (pin_signal c A))) (all_known (map g (pin_signal c B))) k).0
 
   b_known : Known → AreKnown (map g (pin_signal c B))
-  b_known k = all_known_true (map g (pin_signal c B)) (both_true (all_known (map g (pin_signal c A))) (all_known (map g (pin_signal c B))) k).1
+  b_known k = all_known_true (map g (pin_signal c B)) (and_parts (all_known (map g (pin_signal c A))) (all_known (map g (pin_signal c B))) k).1
 
   -- the number of an operand at the width of Y
   abbrev number_at : List SigBit → ℕ
@@ -145,11 +146,11 @@ module _ (g : SigBit → Bit) (shape : Shape) (c : Cell) where
   IsDivided = Divides ≡ true
 
   operands_known : IsDivided → Known g shape c
-  operands_known k = (both_true (Knows g c) (not (unsigned_abs (integer_at (pin_signal c B)) == 0)) k).0
+  operands_known k = (and_parts (Knows g c) (not (unsigned_abs (integer_at (pin_signal c B)) == 0)) k).0
 
   not_zero : IsDivided → 0 < unsigned_abs (integer_at (pin_signal c B))
   not_zero k =
-      let e : not (unsigned_abs (integer_at (pin_signal c B)) == 0) ≡ true = (both_true (Knows g c) (not (unsigned_abs (integer_at (pin_signal c B)) == 0)) k).1 in
+      let e : not (unsigned_abs (integer_at (pin_signal c B)) == 0) ≡ true = (and_parts (Knows g c) (not (unsigned_abs (integer_at (pin_signal c B)) == 0)) k).1 in
       grind (arith, nat_tests)
 
   dividend_known : IsDivided → AreKnown (map g (pin_signal c A))

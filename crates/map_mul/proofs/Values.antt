@@ -1,6 +1,6 @@
 -- The bits of the nets are at least those of the values of cells.
 use Rattle.std.proofs.Common.{◌≡◌, ◌≤◌, ℕ, zero, suc, ◌+◌, ◌*◌, ◌/◌, ◌%◌, ◌^◌, Bool, true, false, List, [], ◌∷◌, length, refl, sym, ◌∙◌, ap, subst, arith, ℤ, pos, ◌+ℤ◌, ◌*ℤ◌}
-use Rattle.std.specs.Prelude.{◌&&◌, if◌then◌else◌, slice_index_or}
+use Rattle.std.specs.Prelude.{if◌then◌else◌, slice_index_or}
 use Rattle.std.proofs.Math.Nat.{div-add-mod}
 use Rattle.std.proofs.lemmas.Int.{ints}
 use Rattle.std.proofs.lemmas.Nat.{pow-add}
@@ -106,11 +106,6 @@ unknown_below : (n at : ℕ) (z : Bit) → Below (slice_index_or (unknown_of n) 
 unknown_below zero at z = tt
 unknown_below (suc n) zero z = tt
 unknown_below (suc n) (suc at) z = unknown_below n at z
-
-pub both_true : (x y : Bool) → x && y ≡ true → (x ≡ true) × (y ≡ true)
-both_true true true e = (refl, refl)
-both_true true false e = absurd (cc)
-both_true false y e = absurd (cc)
 
 module _ (f : SigBit → Bit) (is : IsReading f) where
   -- bits that are read at least as a function gives are read at least as the word of the function

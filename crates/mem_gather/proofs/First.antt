@@ -15,14 +15,12 @@ use Rattle.rtl_ir.specs.Flat.Access.{cell_access, cell_accesses, first_trigger, 
 use Rattle.rtl_ir.specs.Flat.Cell.{cell_kind}
 use Rattle.rtl_ir.specs.Flat.Memory.{addresses_of, in_priority_order, init_cells, is_init_kind, is_read_kind, start_word_bit}
 use Rattle.rtl_ir.specs.WritePorts.{is_of_memory, is_write_cell, is_write_kind}
+use Rattle.net_model.proofs.MemoryCells.{IsPlain}
 use Rattle.net_model.specs.Lists.{In}
 use Rattle.net_model.specs.Mem.Expand.{is_memory_kind}
 use Rattle.net_model.specs.Mem.Gather.{clock_bit, gathered, is_rising, read_port, read_ports, words_of, write_port}
 use Rattle.net_model.specs.Within.{Each}
 use Rattle.mem_gather.specs.First.{gathered_from}
-
-abbrev pub IsPlain : Cell → Type 0
-IsPlain c = is_memory_kind (cell_kind c) ≡ false
 
 no_read : (k : Option CellKind) → is_memory_kind k ≡ false → is_read_kind k ≡ false
 no_read None e = refl
@@ -113,10 +111,3 @@ planned_first m count first at s is plain =
             let le = ltb-false count (length m.cells) f in
             let over : length m.cells ≤ first = omega (arith, is, le) in
             λ c i. absurd (subst (In c) (drop_of_length-le m.cells over) i)
-
--- no cell comes after all
-pub none_after : (cells all : List Cell) (count : ℕ) → count ≡ length all → all ≡ cells → Each IsPlain (drop count cells)
-none_after cells all count is same c i =
-    let as_long = ap length same in
-    let over : length cells ≤ count = omega (arith, is, as_long) in
-    absurd (subst (In c) (drop_of_length-le cells over) i)

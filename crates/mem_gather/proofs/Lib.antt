@@ -2,5 +2,4 @@ mod Tabling
 mod Starting
 mod Planning
 mod Placing
-mod Asking
 mod First

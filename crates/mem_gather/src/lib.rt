@@ -32,8 +32,8 @@ pub fn gather(alloc: Global, module: &Module, store: u64) -> Result<MemPlan, Mem
     gather_first(alloc, module, store, cells.len())
 }
 
-/// The plan of the memory at this place of the module's list, as `gather` gives it, where no cell after the first `count`
-/// cells is one of a memory: these are not looked at.
+/// The plan of the memory at this place of the module's list, as `gather` gives it, where no cell after the first
+/// `count` cells is one of a memory: these are not looked at.
 pub fn gather_first(
     alloc: Global,
     module: &Module,

@@ -113,7 +113,6 @@ fn start_word(
 /// The start word of this number of a cell whose first one stands at this address goes into the words, where its
 /// address is one of them.
 fn put_word(
-    alloc: Global,
     base: u32,
     width: u32,
     words: &mut Vec<Bits>,
@@ -130,6 +129,7 @@ fn put_word(
         return Ok(());
     }
     let at = (address - base) as usize;
+    let alloc = *words.allocator();
     let word = start_word(alloc, width, cell, number, words[at].as_slice())?;
     words[at] = word;
     Ok(())
@@ -149,7 +149,7 @@ fn put_cell(
     let first = first_address(alloc, cell)?;
     let count = word_count(alloc, cell)?;
     for number in 0..count {
-        put_word(alloc, base, width, words, cell, first, number)?;
+        put_word(base, width, words, cell, first, number)?;
     }
     Ok(())
 }

@@ -7,5 +7,4 @@ pub mod Passing
 pub mod Trees
 pub mod StayingCells
 pub mod Wiring
-pub mod Asking
 pub mod Promised

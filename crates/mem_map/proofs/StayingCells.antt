@@ -1,18 +1,10 @@
 -- Cells that are none of a memory, one after another.
 use Rattle.std.proofs.Common.{◌≡◌, ℕ, zero, suc, Bool, false, true, cond, eqb, List, [], ◌∷◌, ◌++◌, drop, inl, inr, refl, sym, ◌∙◌, ap, subst, append_assoc, arith}
 use Rattle.std.specs.Prelude.{◌-◌, ◌&&◌, filter, not}
-use Rattle.rtl_ir.specs.Flat.Cell.{cell_kind}
 use Rattle.rtl_ir.specs.WritePorts.{is_of_memory}
 use Rattle.rtl_ir.specs.declared.cell.Cell.{Cell}
-use Rattle.net_model.specs.Mem.Expand.{is_memory_kind}
 use Rattle.net_model.specs.Within.{Each}
-
-abbrev pub IsPlain : Cell → Type 0
-IsPlain c = is_memory_kind (cell_kind c) ≡ false
-
--- the cell is none of the memory of this name
-abbrev pub stays : List ℕ → Cell → Bool
-stays name c = not (is_memory_kind (cell_kind c) && is_of_memory name c)
+use Rattle.net_model.proofs.MemoryCells.{IsPlain, stays}
 
 module _ {A : Type 0} (p : A → Bool) (done : List A) (x : A) (rest all : List A) (before : done ++ filter p (x ∷ rest) ≡ all) where
   -- one more passes the test

@@ -21,7 +21,7 @@ fn is_memory_kind(kind: Option<CellKind>) -> bool
 }
 
 /// Whether the cell is none of this memory.
-#[tactic(auto, using(crate::proofs::Asking::asked_first), unfolding(rtl_ir::specs::Flat::Cell::cell_kind))]
+#[tactic(auto, using(rtl_ir::proofs::Asking::asked_first), unfolding(rtl_ir::specs::Flat::Cell::cell_kind))]
 fn stays(name: &[u8], cell: &Cell) -> bool
     ensures value { result ≡ not (is_memory_kind (cell_kind cell.now) && is_of_memory name.now cell.now) }
 {
@@ -78,8 +78,8 @@ fn other_memories(at: usize, memories: Seq<Store>) -> Seq<Store>
     Seq::from_vec(others)
 }
 
-/// The module without the memory at this place, which has this name, and its cells, where no cell after the first `count`
-/// cells is one of a memory.
+/// The module without the memory at this place, which has this name, and its cells, where no cell after the first
+/// `count` cells is one of a memory.
 pub(crate) fn without_memory(
     alloc: Global,
     at: usize,

@@ -1,7 +1,6 @@
 -- After the first cells no cell is one of a memory.
 use Rattle.std.proofs.Common.{◌≡◌, ℕ, ◌≤◌, Bool, true, false, cond, List, [], ◌∷◌, ◌++◌, length, get_or, ltb, take, drop, Some, ⊎_elim, inl, inr, refl, sym, ◌∙◌, ap, subst, append_assoc, arith}
 use Rattle.std.specs.Prelude.{◌==◌, ◌&&◌, filter, min, not, slice_get}
-use Rattle.std.proofs.Math.ListN.{drop_of_length-le}
 use Rattle.std.proofs.Math.Seq.{drop-append_seam}
 use Rattle.std.proofs.lemmas.Bool.{ltb-false, ltb-true}
 use Rattle.std.proofs.lemmas.List.{take-append-drop, take_all}
@@ -17,6 +16,7 @@ use Rattle.rtl_ir.specs.declared.module.Module.{Module}
 use Rattle.rtl_ir.specs.declared.plan.MemPlan.{MemPlan}
 use Rattle.rtl_ir.specs.declared.store.Store.{Store}
 use Rattle.net_model.proofs.Members.{In-cases}
+use Rattle.net_model.proofs.MemoryCells.{IsPlain}
 use Rattle.net_model.specs.Lists.{In}
 use Rattle.net_model.specs.Mem.Expand.{expanded_memory, is_memory_kind, memory_step}
 use Rattle.net_model.specs.Within.{Each}
@@ -26,9 +26,6 @@ use Rattle.net_model.specs.Mem.Gather.{plan_of}
 use Rattle.mem_map.specs.Limits.{planned_store}
 use Rattle.mem_steps.proofs.Turns.{store_is}
 use Rattle.mem_steps.specs.Staying.{stays}
-
-abbrev pub IsPlain : Cell → Type 0
-IsPlain c = is_memory_kind (cell_kind c) ≡ false
 
 -- a cell that is added is none of a memory
 plain_kind : (kind : CellKind) → faults.is_memory_kind kind ≡ false → is_memory_kind (Some kind) ≡ false
@@ -96,13 +93,6 @@ first_ones xs first count is = by (ltb count (length xs)) refl
         let le = ltb-false count (length xs) f in
         let over : length xs ≤ first = omega (arith, is, le) in
         take_all first xs over ∙ sym (take_all count xs le)
-
--- no cell comes after all
-pub none_after : (cells all : List Cell) (count : ℕ) → count ≡ length all → all ≡ cells → Each IsPlain (drop count cells)
-none_after cells all count is same c i =
-    let as_long = ap length same in
-    let over : length cells ≤ count = omega (arith, is, as_long) in
-    absurd (subst (In c) (drop_of_length-le cells over) i)
 
 -- the first memory is the one at the place 0
 first_is : (stores : List Store) (x s : Store) → x ≡ get_or stores 0 x → slice_get stores 0 ≡ Some s → x ≡ s

@@ -59,7 +59,8 @@ fn each_memory(alloc: Global, module: Module) -> Result<Module, PassFault>
     ensures over { result ≡ Err PassFault.Over → are_within (length «module».memories) «module» ≡ false }
     ensures within { OnOk result (are_within (length «module».memories) «module» ≡ true) }
 {
-    // What is made of a memory goes last, and none of it is a cell of a memory, so only these first cells are looked at.
+    // What is made of a memory goes last, and none of it is a cell of a memory, so only these first cells are looked
+    // at.
     let mut first = module.cells.as_slice().len();
     let mut after = module;
     while !after.memories.as_slice().is_empty() {

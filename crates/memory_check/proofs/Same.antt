@@ -3,15 +3,10 @@ use Rattle.std.proofs.Common.{◌≡◌, ℕ, suc, ◌+◌, ◌<◌, ◌≤◌, 
 use Rattle.std.proofs.Math.Seq.{drop-cons}
 use Rattle.std.proofs.lemmas.Bool.{false≢true, and_parts}
 use Rattle.std.proofs.lemmas.List.{drop_all}
-use Rattle.std.specs.Bool.{one_answer}
 use Rattle.rtl_sig.specs.declared.sig.SigBit.{SigBit}
 use Rattle.rtl_ir.specs.Signals.{same_place, same_signal}
 use Rattle.rtl_ir.specs.WritePorts.{Clocking, same_clocking, same_flag}
-use Rattle.rtl_ir.proofs.SamePlaces.{place-decides, signal-decides}
-
--- a comparison of places is the test of the definition
-pub place_is : (same : Bool) (a b : SigBit) → (same ≡ true → a ≡ b) → (a ≡ b → same ≡ true) → same ≡ same_place a b
-place_is same a b equal complete = one_answer same (same_place a b) (equal, complete) (place-decides a b)
+use Rattle.rtl_ir.proofs.SamePlaces.{signal-decides}
 
 flag_same : (a b : Bool) → same_flag a b ≡ true → a ≡ b
 flag_same true true e = refl

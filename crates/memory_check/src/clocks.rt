@@ -15,7 +15,7 @@ ghost use Rattle.memory_check.specs.Shapes.{HasShape};
 use cell_types::{Level, PinName, Shape};
 use net_index::Drivers;
 use rtl_bits::{Memory, Seq};
-use rtl_ir::{Cell, Event, Module, PortTable, Same, pin_signal};
+use rtl_ir::{Cell, Event, Module, PortTable, pin_signal, same_place};
 use rtl_sig::SigBit;
 use std::alloc::Global;
 
@@ -139,13 +139,5 @@ fn have_same_end(index: &Drivers, one: SigBit, other: SigBit) -> bool
 {
     let here = index.follow(one);
     let there = index.follow(other);
-    is_same_place(here, there)
-}
-
-/// Whether the two bits or constants are the same.
-#[tactic(auto, using(crate::proofs::Same::place_is))]
-fn is_same_place(one: SigBit, other: SigBit) -> bool
-    ensures value { result ≡ signals.same_place one other }
-{
-    one.same(&other)
+    same_place(here, there)
 }

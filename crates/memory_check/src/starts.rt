@@ -26,8 +26,7 @@ pub(crate) fn are_words(store: &Store, cell: &Cell, shape: &Shape) -> bool
 }
 
 /// Whether so many words from this address on stand in the memory, where the count may be cut off at the greatest
-/// `u32`. Of
-/// no words nothing is asked.
+/// `u32`. Of no words nothing is asked.
 fn are_inside(store: &Store, address: &[SigBit], count: u32) -> bool
     ensures value { (words : ℕ) → count ≡ small words → result ≡ are_inside store.now address.now words }
 {

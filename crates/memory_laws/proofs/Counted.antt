@@ -25,7 +25,7 @@ use Rattle.pass_laws.specs.Bits.{cells_bits, pin_bits}
 use Rattle.pass_laws.proofs.Counting.{count, count_more}
 use Rattle.pass_laws.proofs.Faultless.{type_is}
 use Rattle.pass_laws.proofs.Outputs.{drives_own}
-use Rattle.memory_laws.proofs.KeptRows.{stays}
+use Rattle.net_model.proofs.MemoryCells.{stays}
 
 -- the pin of a name that is driven is among those that are
 module _ (type : CellType) (name : List ℕ) (is : (pin : List ℕ) → drives_pin type pin ≡ bytes_eq pin name) (b : WireBit) where

@@ -45,7 +45,8 @@ use Rattle.build_laws.proofs.CountingItems.{distinct_once, in_often, often, ofte
 use Rattle.build_laws.proofs.RebuildBits.{port_name}
 use Rattle.build_laws.proofs.RebuildSpots.{IsKept, rows_kept}
 use Rattle.build_laws.proofs.Staying.{memories_same}
-use Rattle.memory_laws.proofs.KeptRows.{cells_same, instances_stay, memories_stay, no_instances, stays, without, without_is}
+use Rattle.net_model.proofs.MemoryCells.{stays}
+use Rattle.memory_laws.proofs.KeptRows.{cells_same, instances_stay, memories_stay, no_instances, without, without_is}
 use Rattle.memory_laws.proofs.Made.{Makes}
 use Rattle.build_laws.proofs.CountingPlaces.{times}
 use Rattle.memory_laws.proofs.MadeSteps.{data_bits, memory_makes}

@@ -19,7 +19,7 @@ use Rattle.pass_laws.proofs.Finding.{in_place}
 use Rattle.memory_laws.proofs.Fitting.{IsFit}
 use Rattle.memory_laws.proofs.FittingPlan.{built_fits}
 use Rattle.memory_laws.proofs.FittingSteps.{AreFit}
-use Rattle.memory_laws.proofs.KeptRows.{stays}
+use Rattle.net_model.proofs.MemoryCells.{stays}
 
 module _ (ports : Ports) (m : Module) (s : Store) (at : ℕ) (ready : IsReady ports m) (named : HaveOwnNames m) (there : slice_get m.memories at ≡ Some s) where
   fit : AreFit m.cells m.links (memory_step (gathered m at s) s (building_of m))

@@ -7,7 +7,7 @@ use Rattle.cell_types.specs.PinName.{pin_text}
 use Rattle.cell_types.specs.declared.kind.CellKind.{CellKind}
 use Rattle.cell_types.specs.declared.kind.CellKind.TheVariants.{Storage, Word}
 use Rattle.cell_types.specs.declared.param_name.ParamName.TheVariants.{ASigned, AWidth, BSigned, BWidth, YWidth}
-use Rattle.cell_types.specs.declared.pin_name.PinName.TheVariants.{A, B, D, Q, S, Y}
+use Rattle.cell_types.specs.declared.pin_name.PinName.TheVariants.{A, B, Y}
 use Rattle.cell_types.specs.declared.storage.StorageKind.TheVariants.{Dff}
 use Rattle.cell_types.specs.declared.word.BitwiseKind.TheVariants.{And}
 use Rattle.cell_types.specs.declared.word.EqualKind.TheVariants.{Eq}

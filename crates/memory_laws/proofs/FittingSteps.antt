@@ -27,7 +27,7 @@ use Rattle.build_laws.proofs.CellFits.{no_constant}
 use Rattle.memory_laws.proofs.Fitting.{IsFit, and_fit, dff_fit, eq_fit, mux_fit}
 use Rattle.memory_laws.proofs.PortCells.{whole_long}
 use Rattle.memory_laws.proofs.PortRuns.{run_length_long}
-use Rattle.memory_laws.proofs.PortSteps.{port_long, ports_long}
+use Rattle.memory_laws.proofs.PortSteps.{port_by, port_long, ports_long}
 use Rattle.memory_laws.proofs.ReadTrees.{IsAsWide, tree_wide}
 use Rattle.memory_laws.proofs.WordWires.{fixed_wide, wires_wide}
 
@@ -90,14 +90,6 @@ module _ (old : List Cell) (links : List Link) where
       (omega (arith, length-drop n acc, length-drop (run_length e enable) enable, la))
       (omega (arith, length-drop n new, length-drop (run_length e enable) enable, ln))
       (omega (arith, length-drop (run_length e enable) enable, few))
-
-  abbrev port_by : Bool → ℕ → WritePort → List SigBit → Building → List SigBit × Building
-  port_by t address port acc b =
-      if t
-      then
-      (let match = address_match port.address address b in
-      port_runs match.0 (run_lengths (length port.enable) port.enable) acc port.data port.enable match.1)
-      else (acc, b)
 
   module _ (n : ℕ) (some : 0 < n) (few : n ≤ 4096) where
     port_fits : (address : ℕ) (port : WritePort) (acc : List SigBit) (b : Building) → AreFit b → WriteFits n port → length acc ≡ n → AreFit (port_step address port acc b).1

@@ -1,5 +1,5 @@
 -- All that is built for a memory names wires that are there.
-use Rattle.std.proofs.Common.{◌≡◌, ◌<◌, ◌≤◌, ℕ, zero, suc, ◌+◌, ◌^◌, Bool, true, false, List, [], ◌∷◌, ◌++◌, length, if◌then◌else◌, inl, inr, refl, arith, length-append}
+use Rattle.std.proofs.Common.{◌≡◌, ◌<◌, ◌≤◌, ℕ, zero, suc, ◌+◌, ◌^◌, Bool, true, false, List, [], ◌∷◌, ◌++◌, length, inl, inr, refl, arith, length-append}
 use Rattle.std.specs.Prelude.{codes, drop, map, nat_lt, replicate, take}
 use Rattle.rtl_bits.specs.Numbers.{bits_of}
 use Rattle.rtl_bits.specs.declared.bit.Bit.{Bit}
@@ -17,6 +17,7 @@ use Rattle.net_model.specs.Mem.Expand.{address_match, low_bit, mux_of_signals, p
 use Rattle.net_model.specs.Within.{BitIn, CellIn, Each, LinkIn, SigIn}
 use Rattle.map_laws.proofs.Wholes.{cell_more, link_more}
 use Rattle.build_laws.proofs.CellFits.{whole_within}
+use Rattle.memory_laws.proofs.PortSteps.{port_by}
 
 -- how many wires there are
 abbrev pub count_of : Building → ℕ
@@ -179,14 +180,6 @@ pub record PortIn (n : ℕ) (port : WritePort) : Type 0 where
 pub port_more : (few many : ℕ) → few ≤ many → (port : WritePort) → PortIn few port → PortIn many port
 port_more few many h port i =
     record { address = sig_more few many h port.address i.address; new = sig_more few many h port.data i.new; enable = sig_more few many h port.enable i.enable }
-
-abbrev port_by : Bool → ℕ → WritePort → List SigBit → Building → List SigBit × Building
-port_by t address port acc b =
-    if t
-    then
-    (let match = address_match port.address address b in
-    port_runs match.0 (run_lengths (length port.enable) port.enable) acc port.data port.enable match.1)
-    else (acc, b)
 
 port_gives : (address : ℕ) (port : WritePort) (acc : List SigBit) (b : Building) → IsIn b → PortIn (count_of b) port → SigIn (count_of b) acc → Gives b (port_step address port acc b).1 (port_step address port acc b).0
 port_gives address port acc b h i j = by (nat_lt address (2 ^ length port.address))

@@ -22,13 +22,10 @@ use Rattle.rtl_ir.specs.Parameters.{memory_name}
 use Rattle.rtl_ir.specs.WritePorts.{is_of_memory, is_write_cell}
 use Rattle.net_model.specs.Mem.Expand.{is_memory_kind}
 use Rattle.net_model.proofs.Members.{In-cases, In-left, In-right}
+use Rattle.net_model.proofs.MemoryCells.{stays}
 use Rattle.net_model.specs.Lists.{In}
 use Rattle.net_model.specs.Within.{Each}
 use Rattle.build_laws.proofs.Growing.{IsPlainCell}
-
--- a cell that is none of the memory of this name
-abbrev pub stays : List ℕ → Cell → Bool
-stays name c = not (is_memory_kind (cell_kind c) && is_of_memory name c)
 
 -- rows of a cell that goes there are none
 no_rows : (start : SigBit → Bit) (ports : Ports) (p : Path) (wires : List Wire) (c : Cell) (o : Option CellKind) → is_memory_kind o ≡ true → cell_rows start ports p wires c o ≡ []

@@ -33,6 +33,7 @@ use Rattle.pass_laws.proofs.Placing.{bits_places}
 use Rattle.build_laws.proofs.CellFits.{bits_back}
 use Rattle.build_laws.proofs.Growing.{with_more}
 use Rattle.memory_laws.proofs.Made.{Makes, bits_more, makes_both, makes_driver, makes_link, makes_none, makes_plain, makes_store}
+use Rattle.memory_laws.proofs.PortSteps.{port_by}
 use Rattle.build_laws.proofs.CountingPlaces.{times, times_bits}
 
 match_makes : (address : List SigBit) (number : ℕ) (b : Building) → Makes b (address_match address number b).1 [] []
@@ -55,14 +56,6 @@ runs_make match (n ∷ runs) acc new enable b =
     let mux = mux_of_signals (take n acc) (take n new) select.0 select.1 in
     makes_plain b select.1 _ (select_makes match (low_bit enable) b)
     (makes_plain select.1 mux.1 _ (mux_makes (take n acc) (take n new) select.0 select.1) (runs_make match runs (drop n acc) (drop n new) (drop n enable) mux.1))
-
-abbrev port_by : Bool → ℕ → WritePort → List SigBit → Building → List SigBit × Building
-port_by t address port acc b =
-    if t
-    then
-    (let match = address_match port.address address b in
-    port_runs match.0 (run_lengths (length port.enable) port.enable) acc port.data port.enable match.1)
-    else (acc, b)
 
 port_makes : (address : ℕ) (port : WritePort) (acc : List SigBit) (b : Building) → Makes b (port_step address port acc b).1 [] []
 port_makes address port acc b = by (nat_lt address (2 ^ length port.address))

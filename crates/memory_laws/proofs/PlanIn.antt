@@ -23,7 +23,7 @@ use Rattle.net_model.specs.Within.{BitIn, CellIn, Each, IsWithin, ProcessIn, Sig
 use Rattle.memory_laws.proofs.Faultless.{in_order}
 use Rattle.memory_laws.proofs.Inside.{PortIn, StaysIn}
 use Rattle.memory_laws.proofs.InsideSteps.{ReadIn, memory_stays}
-use Rattle.memory_laws.proofs.KeptRows.{stays}
+use Rattle.net_model.proofs.MemoryCells.{stays}
 use Rattle.memory_laws.proofs.MemoryThere.{before, built, grown, plan}
 use Rattle.pass_laws.proofs.Finding.{filtered_in}
 

@@ -26,7 +26,7 @@ abbrev pub AreWide : ℕ → List WritePort → Type 0
 AreWide n ports = (port : WritePort) → In port ports → length port.enable ≡ n
 
 -- a port, by whether it can reach the address
-abbrev port_by : Bool → ℕ → WritePort → List SigBit → Building → List SigBit × Building
+abbrev pub port_by : Bool → ℕ → WritePort → List SigBit → Building → List SigBit × Building
 port_by t address port acc b =
     if t
     then

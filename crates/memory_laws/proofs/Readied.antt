@@ -1,5 +1,5 @@
 -- Where a module may be given to a pass, so may the module in which a memory of it became words.
-use Rattle.std.proofs.Common.{◌≡◌, ◌<◌, ◌≤◌, ℕ, zero, suc, ◌+◌, List, [], ◌∷◌, ◌++◌, length, Some, ◌⊎◌, inl, inr, ⊎_elim, refl, sym, ◌∙◌, ap, subst, arith}
+use Rattle.std.proofs.Common.{◌≡◌, ◌<◌, ◌≤◌, ℕ, zero, suc, ◌+◌, List, [], ◌∷◌, ◌++◌, length, Some, inl, inr, ⊎_elim, refl, sym, ◌∙◌, ap, subst, arith}
 use Rattle.std.specs.Prelude.{filter, flat_map, map, slice_get}
 use Rattle.std.proofs.lemmas.List.Elements.{filter-append}
 use Rattle.rtl_sig.specs.declared.sig.WireBit.{WireBit}
@@ -42,7 +42,8 @@ use Rattle.pass_laws.proofs.Finding.{in_place}
 use Rattle.memory_laws.proofs.Fitting.{IsFit}
 use Rattle.memory_laws.proofs.FittingPlan.{built_fits}
 use Rattle.memory_laws.proofs.FittingSteps.{AreFit}
-use Rattle.memory_laws.proofs.KeptRows.{stays, without}
+use Rattle.net_model.proofs.MemoryCells.{stays}
+use Rattle.memory_laws.proofs.KeptRows.{without}
 use Rattle.memory_laws.proofs.MemoryThere.{before, built, plan}
 use Rattle.memory_laws.proofs.PlanIn.{expanded_within}
 use Rattle.memory_laws.proofs.StillFine.{cells_new_fine, cells_stay_fine, faults_split}

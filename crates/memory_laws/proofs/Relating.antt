@@ -35,7 +35,8 @@ use Rattle.pass_laws.proofs.Passes.{refines_in_turn}
 use Rattle.pass_laws.proofs.Rewriting.{links-append}
 use Rattle.build_laws.proofs.Staying.{memories_same}
 use Rattle.memory_laws.proofs.FreeRows.{IsFreeRow, free_cells, free_links, free_memories, free_places}
-use Rattle.memory_laws.proofs.KeptRows.{apart_from_one, cells_stay, instances_stay, memories_stay, no_instances, stays, without, without_is}
+use Rattle.net_model.proofs.MemoryCells.{stays}
+use Rattle.memory_laws.proofs.KeptRows.{apart_from_one, cells_stay, instances_stay, memories_stay, no_instances, without, without_is}
 use Rattle.memory_laws.proofs.MemoryThere.{IsBuilt, before, grown, in_range, plan, says, start, wires, words, writes, writes_are}
 use Rattle.memory_laws.proofs.PortSteps.{AreWide}
 use Rattle.memory_laws.proofs.ReadKept.{read_kept}

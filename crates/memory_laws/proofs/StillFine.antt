@@ -31,7 +31,8 @@ use Rattle.pass_laws.proofs.Alone.{own_kind}
 use Rattle.pass_laws.proofs.Faultless.{none_left, none_right}
 use Rattle.memory_laws.proofs.Faultless.{no_fault}
 use Rattle.pass_laws.proofs.Finding.{found_there}
-use Rattle.memory_laws.proofs.KeptRows.{filter_stays, of_other, stays, without}
+use Rattle.net_model.proofs.MemoryCells.{stays}
+use Rattle.memory_laws.proofs.KeptRows.{filter_stays, of_other, without}
 
 -- what is found among the others, where the one that goes is not looked for
 find_without : (test : Store → Bool) (at : ℕ) (xs : List Store) (s : Store) → slice_get xs at ≡ Some s → test s ≡ false → find test (without at xs) ≡ find test xs

@@ -95,7 +95,7 @@ zip_places n (p ∷ pattern) [] h k = each_none (PlaceIn n)
 zip_places n (p ∷ pattern) (s ∷ signal) h k =
     each_more (PlaceIn n) (p, s) (zip pattern signal) (h p (inl refl), k s (inl refl)) (zip_places n pattern signal (λ x i. h x (inr i)) (λ x i. k x (inr i)))
 
-asked_few : (pattern signal : List SigBit) → length (asked_places pattern signal) ≤ length signal
+pub asked_few : (pattern signal : List SigBit) → length (asked_places pattern signal) ≤ length signal
 asked_few [] signal = omega arith
 asked_few (p ∷ pattern) [] = omega arith
 asked_few (p ∷ pattern) (s ∷ signal) = by (is_asked (p, s)) (asked_few pattern signal)

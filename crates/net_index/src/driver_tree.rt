@@ -2,7 +2,7 @@
 //! (RTLIL)", the section "RTLIL::Process".
 
 ghost use Rattle.std.specs.Prelude.{◌≡◌, [], ◌++◌, IfOk, OnOk};
-ghost use Rattle.rtl_ir.specs.Assigns.{cases_assigns, left_bits, named_bits, switches_assigns};
+ghost use Rattle.rtl_ir.specs.Assigns.{assigned_bits, cases_assigns, left_bits, switches_assigns};
 ghost use Rattle.rtl_ir.specs.SwitchRules.{cases_by_rules, root_by_rules, switches_by_rules};
 ghost use Rattle.net_index.specs.DriverTree.{rule_lefts};
 
@@ -14,7 +14,7 @@ use std::alloc::Global;
 
 /// The bits that the assigns of a tree name, those of cases that never act left out.
 pub fn assigned_bits(alloc: Global, root: &Case) -> Result<Vec<WireBit>, Memory>
-    ensures value { IfOk result (λ bits. bits.items ≡ named_bits (root_by_rules root.now)) }
+    ensures value { IfOk result (λ bits. bits.items ≡ assigned_bits (root_by_rules root.now)) }
 {
     let mut bits = Vec::new(alloc);
     put_case(alloc, &mut bits, root)?;

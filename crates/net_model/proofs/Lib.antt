@@ -1,4 +1,5 @@
 pub mod Members
+pub mod MemoryCells
 pub mod Settling
 pub mod Running
 pub mod Places

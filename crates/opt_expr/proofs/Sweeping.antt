@@ -18,7 +18,7 @@ use Rattle.opt_expr.specs.Sweep.{Visit, by_rules, expr_of, swept, visit_of, with
 use Rattle.opt_expr.proofs.Ruling.{ruled}
 
 -- the cells that have not gone, with one more
-standing-more : (done : List (Option Cell)) (slot : Option Cell) (rest : List Cell) → flat_map listed done ++ (listed slot ++ rest) ≡ flat_map listed (done ++ slot ∷ []) ++ rest
+pub standing-more : (done : List (Option Cell)) (slot : Option Cell) (rest : List Cell) → flat_map listed done ++ (listed slot ++ rest) ≡ flat_map listed (done ++ slot ∷ []) ++ rest
 standing-more done slot rest =
     sym (append_assoc (flat_map listed done) (listed slot) rest)
     ∙ ap (λ z. (flat_map listed done ++ z) ++ rest) (sym (append-nil (listed slot)))

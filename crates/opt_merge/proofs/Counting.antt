@@ -1,5 +1,5 @@
 -- How many cells stay: all of them only where nothing changes.
-use Rattle.std.proofs.Common.{◌≡◌, ◌⊎◌, ◌+◌, ◌<◌, Bool, true, false, cond, List, [], ◌∷◌, ◌++◌, append_assoc, length, find, Option, Some, None, inl, inr, refl, sym, ◌∙◌, ap, arith}
+use Rattle.std.proofs.Common.{◌≡◌, ◌⊎◌, ◌+◌, ◌<◌, List, [], ◌∷◌, ◌++◌, append_assoc, length, find, Option, Some, None, inl, inr, refl, sym, ◌∙◌, ap, arith}
 use Rattle.std.specs.Prelude.{IfOk, Result, Ok, Err}
 use Rattle.std.specs.Option.{option_map_or}
 use Rattle.std.proofs.lemmas.List.{append-nil, length-append}
@@ -10,7 +10,7 @@ use Rattle.cell_types.specs.declared.kind.CellKind.{CellKind}
 use Rattle.rtl_ir.specs.declared.cell.Cell.{Cell}
 use Rattle.rtl_ir.specs.declared.module.Module.{Module}
 use Rattle.rtl_ir.specs.Flat.Start.{start_of}
-use Rattle.opt_merge.specs.Merge.{Merging, after_cells, after_kind, drives_own, has_traits, join, merge_of, merging_of, stay, with_merging}
+use Rattle.opt_merge.specs.Merge.{Merging, after_cells, after_kind, has_traits, join, merge_of, merging_of, stay, with_merging}
 use Rattle.opt_merge.specs.Traits.{merging_kind, traits_of}
 
 -- all of the cells behind those before
@@ -62,15 +62,11 @@ module _ (start : SigBit → Bit) where
 
 -- a module that keeps all of its cells stays as it is
 pub merge_counts : (m : Module) → length (merge_of m).cells ≡ length m.cells → merge_of m ≡ m
-merge_counts m = by (drives_own m)
+merge_counts m = of_sweep (all_or_fewer (start_of m.wires m.processes) (record { cells = []; links = m.links }) m.cells)
   where
     of_sweep : AllOrFewer (record { cells = []; links = m.links }) m.cells (merging_of m) → length (merging_of m).cells ≡ length m.cells → with_merging m (merging_of m) ≡ m
     of_sweep (inl all) e = ap (with_merging m) all
     of_sweep (inr h) e = absurd (omega (arith, h, e))
-
-    by : (t : Bool) → length (cond t (with_merging m (merging_of m)) m).cells ≡ length m.cells → cond t (with_merging m (merging_of m)) m ≡ m
-    by true e = of_sweep (all_or_fewer (start_of m.wires m.processes) (record { cells = []; links = m.links }) m.cells) e
-    by false e = refl
 
 pub counts_so : (m : Module) (r : Result Module Memory) → IfOk r (λ after. after ≡ merge_of m) → IfOk r (λ after. length after.cells ≡ length m.cells → after ≡ m)
 counts_so m (Ok after) e = λ same. e ∙ merge_counts m (sym (ap (λ (n : Module). length n.cells) e) ∙ same)

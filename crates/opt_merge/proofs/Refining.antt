@@ -52,7 +52,7 @@ use Rattle.pass_laws.proofs.Passes.{IsPass_refl, IsPass_trans}
 use Rattle.pass_laws.proofs.Rewriting.{links_in, more_in, pre_in}
 use Rattle.follow_laws.specs.Alike.{Alike, AlikeBefore}
 use Rattle.follow_laws.proofs.Following.{follow_read}
-use Rattle.opt_merge.specs.Merge.{Merging, after_cells, after_kind, drives_own, has_traits, join, merge_of, merging_of, stay, traits_by, with_merging}
+use Rattle.opt_merge.specs.Merge.{Merging, after_cells, after_kind, has_traits, join, merge_of, merging_of, stay, traits_by}
 use Rattle.opt_merge.specs.Traits.{Traits, logic_kind, merging_kind, output_of, traits_of}
 use Rattle.opt_merge.proofs.Drivers.{SameStart, drives_alike}
 use Rattle.opt_merge.proofs.Finding.{tested}
@@ -269,14 +269,7 @@ module _ (table : PortTable) (m : Module) where
       let one = step s c rest ready in
       IsPass_trans table (body s (c ∷ rest)) (body (after_kind begins s c (merging_kind c)) rest) (body (after_cells begins s (c ∷ rest)) []) one (all_go rest (after_kind begins s c (merging_kind c)) (one.ready ready))
 
-  pub merged_pass : IsReady (types.table_ports table.modules) m → IsPass table m (with_merging m (merging_of m))
-  merged_pass ready =
+  pub merge_pass : IsReady (types.table_ports table.modules) m → IsPass table m (merge_of m)
+  merge_pass ready =
       subst (λ cs. IsPass table m (record m { cells = cs; links = (merging_of m).links })) (append-nil (merging_of m).cells)
       (all_go m.cells (record { cells = []; links = m.links }) ready)
-
-  pub merge_pass : IsReady (types.table_ports table.modules) m → IsPass table m (merge_of m)
-  merge_pass ready = by (drives_own m)
-    where
-      by : (t : Bool) → IsPass table m (cond t (with_merging m (merging_of m)) m)
-      by true = merged_pass ready
-      by false = IsPass_refl table m

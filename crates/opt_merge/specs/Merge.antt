@@ -1,7 +1,6 @@
 -- The pass `opt_merge`: a cell goes where an earlier one gives the same.
-use Rattle.std.specs.Prelude.{Bool, false, if◌then◌else◌, List, [], ◌∷◌, ◌++◌, find, option_map, Option, Some, None}
-use Rattle.std.specs.List.{list_all}
-use Rattle.std.specs.Option.{is_some, option_map_or}
+use Rattle.std.specs.Prelude.{Bool, false, List, [], ◌∷◌, ◌++◌, find, option_map, Option, Some, None}
+use Rattle.std.specs.Option.{option_map_or}
 use Rattle.rtl_bits.specs.declared.bit.Bit.{Bit}
 use Rattle.rtl_sig.specs.declared.sig.SigBit.{SigBit}
 use Rattle.rtl_sig.specs.declared.sig.WireBit.{WireBit}
@@ -11,7 +10,6 @@ use Rattle.rtl_ir.specs.declared.module.Link.{Link}
 use Rattle.rtl_ir.specs.declared.module.Module.{Module}
 use Rattle.rtl_ir.specs.Flat.Start.{start_of}
 use Rattle.rtl_ir.specs.Signals.{wire_bits}
-use Rattle.net_index.specs.Numbering.{number_of, widths_of}
 use Rattle.opt_merge.specs.Traits.{Traits, merging_kind, output_of, same_traits, traits_of}
 
 -- the cells that stay, and the connections
@@ -71,10 +69,6 @@ with_merging m merging = record m { cells = merging.cells; links = merging.links
 abbrev pub bits_by : Cell → List WireBit
 bits_by c = option_map_or (λ kind. wire_bits (output_of kind c)) (merging_kind c) []
 
--- each bit that such a cell drives is one that a wire has
-abbrev pub drives_own : Module → Bool
-drives_own m = list_all (λ c. list_all (λ b. is_some (number_of (widths_of m.wires) b)) (bits_by c)) m.cells
-
--- the module after the pass; it stays where a cell drives a bit past the end of a wire
+-- the module after the pass
 abbrev pub merge_of : Module → Module
-merge_of m = if drives_own m then with_merging m (merging_of m) else m
+merge_of m = with_merging m (merging_of m)

@@ -12,26 +12,19 @@ mod signals;
 mod table;
 
 ghost use Rattle.std.specs.Prelude.{◌≡◌, ◌==◌, ◌∷◌, ◌++◌, [], false, IfOk, OnOk, if◌then◌else◌, length, slice_get};
-ghost use Rattle.std.specs.List.{list_all};
-ghost use Rattle.std.specs.Option.{is_some, option_map_or};
-ghost use Rattle.rtl_ir.specs.Signals.{wire_bits};
-ghost use Rattle.rtl_ir.specs.Types as types;
+ghost use Rattle.std.specs.Option.{option_map_or};
+ghost use Rattle.rtl_ir.specs.Flat.Tree as flat;
 ghost use Rattle.rtl_ir.specs.Types.{table_ports};
-ghost use Rattle.net_index.specs.Numbering.{number_of};
+ghost use Rattle.net_model.specs.Refine.{IsWellDriven};
 ghost use Rattle.pass_laws.specs.Pass.{IsPass};
 ghost use Rattle.pass_laws.specs.Ready.{IsReady};
-ghost use Rattle.opt_merge.specs.Merge.{bits_by, drives_own, first_of, merge_of, merging_of, swept_of};
-ghost use Rattle.opt_merge.specs.Merge.{with_merging};
+ghost use Rattle.opt_merge.specs.Merge.{first_of, merge_of, merging_of, swept_of, with_merging};
 ghost use Rattle.opt_merge.specs.Picked.{AreThese, picked};
 ghost use Rattle.opt_merge.specs.State.{IsDrivenOnce};
 
-use crate::kinds::merging_kind;
 use crate::merger::Merger;
-use crate::signals::output_of;
-use net_index::Numbering;
 use rtl_bits::{Copied, Memory, Seq};
 use rtl_ir::{Cell, Link, Module, PortTable};
-use rtl_sig::SigBit;
 use std::alloc::Global;
 
 /// The module in which a cell goes, its output connected to that of an earlier cell, where both give the same: cells of
@@ -39,6 +32,7 @@ use std::alloc::Global;
 /// memories, instances and cells with a nonzero `\keep` stay. In the Yosys manual, `opt_merge`.
 pub fn apply(alloc: Global, module: &Module, ports: &PortTable) -> Result<Module, Memory>
     requires ready { IsReady (table_ports ports.now.modules) «module».now }
+    requires driven { IsWellDriven (flat.table_ports ports.now) «module».now }
     ensures exact { IfOk result (λ after. after ≡ merge_of «module».now) }
     ensures pass { IfOk result (IsPass ports.now «module».now) }
 {
@@ -49,67 +43,12 @@ pub fn apply(alloc: Global, module: &Module, ports: &PortTable) -> Result<Module
 /// many cells as the module only where it is the module.
 pub fn apply_owned(alloc: Global, module: Module, ports: &PortTable) -> Result<Module, Memory>
     requires ready { IsReady (table_ports ports.now.modules) «module» }
+    requires driven { IsWellDriven (flat.table_ports ports.now) «module» }
     ensures exact { IfOk result (λ after. after ≡ merge_of «module») }
     ensures pass { IfOk result (IsPass ports.now «module») }
     ensures fewer { IfOk result (λ after. length after.cells ≡ length «module».cells → after ≡ «module») }
 {
-    merge(alloc, module)
-}
-
-/// The module after the pass.
-fn merge(alloc: Global, module: Module) -> Result<Module, Memory>
-    ensures exact { IfOk result (λ after. (ports : types.Ports) → IsReady ports «module» → after ≡ merge_of «module») }
-{
-    if !drives_own(alloc, &module)? {
-        return Ok(module);
-    }
-    let after = merged(alloc, module)?;
-    Ok(after)
-}
-
-/// Whether each bit that a cell drives is one that a wire has, of the cells that may be merged.
-fn drives_own(alloc: Global, module: &Module) -> Result<bool, Memory>
-    ensures value { IfOk result (λ own. own ≡ drives_own «module».now) }
-{
-    let numbering = Numbering::of(alloc, module.wires.as_slice())?;
-    for cell in module.cells.as_slice() {
-        if !cell_drives_own(alloc, &numbering, cell)? {
-            return Ok(false);
-        }
-    }
-    Ok(true)
-}
-
-/// Whether each bit that the cell drives is one that a wire has, if it may be merged.
-fn cell_drives_own(alloc: Global, numbering: &Numbering, cell: &Cell) -> Result<bool, Memory>
-    ensures value { IfOk result (λ own. own ≡ list_all (λ b. is_some (number_of numbering.now b)) (bits_by cell.now)) }
-{
-    match merging_kind(alloc, cell)? {
-        Some(kind) => Ok(are_own(numbering, output_of(kind, cell))),
-        None => Ok(true),
-    }
-}
-
-/// Whether wires have each bit of the signal.
-fn are_own(numbering: &Numbering, signal: &[SigBit]) -> bool
-    ensures value { result ≡ list_all (λ b. is_some (number_of numbering.now b)) (wire_bits signal.now) }
-{
-    for bit in signal {
-        if !is_own(numbering, *bit) {
-            return false;
-        }
-    }
-    true
-}
-
-/// Whether it is a constant, or a wire has it.
-fn is_own(numbering: &Numbering, bit: SigBit) -> bool
-    ensures value { result ≡ list_all (λ b. is_some (number_of numbering.now b)) (wire_bits (bit ∷ [])) }
-{
-    match bit {
-        SigBit::Fixed(_) => true,
-        SigBit::Wire(bit) => numbering.find(bit).is_some(),
-    }
+    merged(alloc, module)
 }
 
 /// What a sweep over the cells leaves: the places of the cells that stay, and the connections.

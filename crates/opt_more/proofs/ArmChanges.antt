@@ -1,5 +1,5 @@
 -- What comes of a multiplexer chooses as it does, and leads where it leads.
-use Rattle.std.proofs.Common.{◌≡◌, ℕ, Bool, true, false, List, [], ◌∷◌, length, map, Option, Some, None, ◌⊎◌, inl, inr, ⊎_elim, refl, sym, ◌∙◌, ap}
+use Rattle.std.proofs.Common.{◌≡◌, true, false, List, [], ◌∷◌, length, map, Option, Some, inl, inr, ⊎_elim, refl, sym, ◌∙◌, ap}
 use Rattle.std.specs.Prelude.{◌&&◌, if◌then◌else◌}
 use Rattle.std.specs.Str.{bytes_eq}
 use Rattle.std.proofs.lemmas.Bool.{eq-eqb}
@@ -25,11 +25,10 @@ use Rattle.rtl_ir.specs.declared.module.Link.{Link}
 use Rattle.follow_laws.proofs.Signals.{output_stays, signal_followed}
 use Rattle.follow_laws.specs.Inputs.{followed_cell}
 use Rattle.pass_laws.proofs.Faultless.{type_is}
-use Rattle.opt_more.specs.Changed.{with_signal}
-use Rattle.opt_more.specs.Muxtree.{arm_end, chooses_as, is_mux, standing_now, walked, way_on, with_arm}
+use Rattle.opt_more.specs.Muxtree.{arm_end, chooses_as, standing_now, walked, way_on, with_arm}
 use Rattle.opt_more.proofs.Changing.{other_pin, own_pin}
 use Rattle.opt_more.proofs.Knowing.{IsChange, arm_at}
-use Rattle.opt_more.proofs.MuxBits.{IsArm, IsMuxCell, IsMuxKind, First, Second, OfBits, OfWords, mux_cell}
+use Rattle.opt_more.proofs.MuxBits.{IsArm, IsMuxCell, IsMuxKind, First, Second, OfBits, OfWords}
 use Rattle.opt_more.proofs.MuxSteps.{followed_twice, walked_keeps}
 use Rattle.opt_more.proofs.Muxing.{arm_free}
 use Rattle.opt_more.proofs.Walks.{stays_at}

@@ -1,5 +1,5 @@
 -- What is known of where ways end stays so where a cell is changed.
-use Rattle.std.proofs.Common.{◌≡◌, ℕ, zero, suc, ◌+◌, ◌<◌, ◌≤◌, arith, Bool, true, false, List, [], ◌∷◌, ◌++◌, length, map, Option, Some, None, ◌⊎◌, inl, inr, refl, sym, ◌∙◌, ap, subst}
+use Rattle.std.proofs.Common.{◌≡◌, ℕ, zero, suc, ◌+◌, ◌<◌, ◌≤◌, arith, Bool, true, false, List, [], ◌∷◌, length, map, Option, Some, None, ◌⊎◌, inl, inr, refl, sym, ◌∙◌, ap, subst}
 use Rattle.std.specs.Prelude.{◌&&◌, nat_eq, if◌then◌else◌, slice_index_or}
 use Rattle.std.specs.Arc.{arc_value}
 use Rattle.std.specs.HashMap.{get_by}
@@ -8,7 +8,7 @@ use Rattle.std.proofs.lemmas.Bool.{and_parts, eqb-true}
 use Rattle.std.proofs.lemmas.Slice.Eq.{bytes_eq-Decides}
 use Rattle.cell_types.specs.PinName.{pin_text}
 use Rattle.cell_types.specs.declared.pin_name.PinName.{PinName}
-use Rattle.cell_types.specs.declared.pin_name.PinName.TheVariants.{A, B, S, Y}
+use Rattle.cell_types.specs.declared.pin_name.PinName.TheVariants.{S, Y}
 use Rattle.rtl_sig.specs.declared.sig.SigBit.{SigBit}
 use Rattle.rtl_ir.specs.Follow.{follow}
 use Rattle.rtl_ir.specs.Parameters.{signal_at}

@@ -1,5 +1,5 @@
 -- What is known of the ways from both arms stays known where a multiplexer is visited.
-use Rattle.std.proofs.Common.{◌≡◌, Bool, true, List, map, Option, refl, sym, ◌∙◌, ap, subst}
+use Rattle.std.proofs.Common.{◌≡◌, true, List, map, Option, refl, sym, ◌∙◌, ap, subst}
 use Rattle.std.specs.Prelude.{if◌then◌else◌}
 use Rattle.cell_types.specs.PinName.{pin_text}
 use Rattle.cell_types.specs.declared.pin_name.PinName.TheVariants.{A, B, S}

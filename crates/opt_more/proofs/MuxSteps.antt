@@ -1,6 +1,6 @@
 -- The steps from a word to the arm of the multiplexer that gives it.
 use Rattle.std.proofs.Common.{◌≡◌, ℕ, zero, suc, ◌+◌, arith, Bool, true, false, List, [], ◌∷◌, ◌++◌, length, map, Option, Some, None, ◌⊎◌, inl, inr, ⊎_elim, refl, sym, ◌∙◌, ap, subst}
-use Rattle.std.specs.Prelude.{◌&&◌, flat_map, if◌then◌else◌, slice_index_or, unwrap_or}
+use Rattle.std.specs.Prelude.{flat_map, if◌then◌else◌, slice_index_or, unwrap_or}
 use Rattle.std.specs.Option.{option_map_or}
 use Rattle.std.specs.Str.{bytes_eq}
 use Rattle.std.proofs.lemmas.Bool.{and_parts}
@@ -9,23 +9,21 @@ use Rattle.std.proofs.lemmas.Slice.Eq.{bytes_eq-Decides}
 use Rattle.cell_types.specs.Kind.{kind_of}
 use Rattle.cell_types.specs.PinName.{pin_text}
 use Rattle.cell_types.specs.declared.pin_name.PinName.{PinName}
-use Rattle.cell_types.specs.declared.pin_name.PinName.TheVariants.{A, B, S, Y}
+use Rattle.cell_types.specs.declared.pin_name.PinName.TheVariants.{S, Y}
 use Rattle.rtl_sig.specs.declared.sig.SigBit.{SigBit}
 use Rattle.rtl_ir.specs.Flat.Cell.{cell_kind, listed}
 use Rattle.rtl_ir.specs.Follow.{all_joins, back, end_within, follow, follow_joins}
 use Rattle.rtl_ir.specs.declared.follow.Join.{Join}
 use Rattle.rtl_ir.specs.Parameters.{signal_at}
 use Rattle.rtl_ir.specs.Signals.{same_signal}
-use Rattle.rtl_ir.specs.Types.{Ports}
 use Rattle.rtl_ir.specs.declared.cell.Cell.{Cell}
 use Rattle.rtl_ir.specs.declared.module.Link.{Link}
-use Rattle.follow_laws.specs.Inputs.{followed_cell}
 use Rattle.net_index.proofs.IndexEnds.{ends_here}
 use Rattle.net_model.proofs.Members.{In-right}
 use Rattle.net_model.specs.Lists.{In}
 use Rattle.pass_laws.proofs.SamePlaces.{signal_is}
 use Rattle.opt_expr.specs.Places.{place_of}
-use Rattle.opt_more.specs.Muxtree.{arm_of, chooses_as, gives_as, is_mux, muxed, muxed_arms, now_at, standing_now, walked, with_arm}
+use Rattle.opt_more.specs.Muxtree.{arm_of, chooses_as, gives_as, now_at, standing_now, walked}
 
 -- where connections lead to, none leads on from
 no_way_on : (js : List Join) (n : ℕ) (s r : SigBit) → end_within js n s ≡ Some r → back js r ≡ None

@@ -23,7 +23,7 @@ use Rattle.opt_more.specs.Changed.{with_signal}
 use Rattle.opt_more.specs.Muxtree.{arm_end, is_mux, muxed_arms, muxtree_of, muxtree_visit, standing_now, with_arm}
 use Rattle.opt_more.proofs.ArmChanges.{arm_fixed}
 use Rattle.opt_more.proofs.Changing.{other_pin}
-use Rattle.opt_more.proofs.MuxBits.{IsArm, First, Second, IsMuxCell, mux_cell}
+use Rattle.opt_more.proofs.MuxBits.{First, Second, IsMuxCell, mux_cell}
 use Rattle.opt_more.proofs.Muxing.{arm_passes}
 use Rattle.opt_more.proofs.Sweeping.{ArePasses, sweep_passes}
 

@@ -1,5 +1,5 @@
 -- Lists that are one, or longer than a fold may read.
-use Rattle.std.proofs.Common.{◌≡◌, ℕ, ◌<◌, ◌+◌, ◌≤◌, arith, Bool, true, false, List, [], ◌∷◌, ◌++◌, drop, length, ◌⊎◌, inl, inr, refl, sym, ◌∙◌, ap, subst}
+use Rattle.std.proofs.Common.{◌≡◌, ℕ, ◌<◌, ◌+◌, ◌≤◌, arith, Bool, true, false, List, [], ◌∷◌, ◌++◌, drop, length, inl, inr, refl, sym, ◌∙◌, ap, subst}
 use Rattle.std.specs.Prelude.{◌||◌, flat_map, if◌then◌else◌, nat_le, nat_lt, slice_index_or}
 use Rattle.std.specs.List.{fold, list_any}
 use Rattle.std.proofs.lemmas.Bool.{lt-leb, ltb-true}
@@ -12,7 +12,7 @@ use Rattle.rtl_ir.specs.declared.cell.Cell.{Cell}
 use Rattle.opt_more.specs.Changed.{with_inputs}
 use Rattle.opt_more.specs.Gather.{AreAlike}
 use Rattle.opt_more.specs.Reduce.{or_neutral, reduced_to, with_bit}
-use Rattle.opt_more.proofs.FoldSteps.{bits_through, fold_append, none_left}
+use Rattle.opt_more.proofs.FoldSteps.{bits_through, none_left}
 
 pub alike_trans : (xs ys zs : List SigBit) → AreAlike xs ys → AreAlike ys zs → AreAlike xs zs
 alike_trans xs ys zs (inl e) h = subst (λ q. AreAlike q zs) (sym e) h

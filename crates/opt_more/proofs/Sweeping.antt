@@ -1,8 +1,7 @@
 -- A sweep is a pass where each visit is one.
-use Rattle.std.proofs.Common.{◌≡◌, List, [], ◌∷◌, ◌++◌, Option, Some, None, refl, sym, ◌∙◌, ap, subst, append_assoc}
+use Rattle.std.proofs.Common.{◌≡◌, List, [], ◌∷◌, ◌++◌, Option, Some, None, refl, sym, ◌∙◌, subst}
 use Rattle.std.specs.Prelude.{flat_map}
 use Rattle.std.proofs.lemmas.List.{append-nil}
-use Rattle.std.proofs.lemmas.List.Concat.{flat_map-append}
 use Rattle.rtl_bits.specs.declared.bit.Bit.{Bit}
 use Rattle.rtl_ir.specs.Flat.Cell.{listed}
 use Rattle.rtl_ir.specs.Types as types
@@ -16,17 +15,11 @@ use Rattle.pass_laws.proofs.Passes.{IsPass_refl, IsPass_trans}
 use Rattle.pass_laws.specs.Pass.{IsPass}
 use Rattle.pass_laws.specs.Ready.{IsReady}
 use Rattle.opt_expr.specs.Sweep.{Visit, with_swept}
+use Rattle.opt_expr.proofs.Sweeping.{standing-more}
 use Rattle.opt_more.specs.Reduce.{fold_of, reduce_of, reduce_visit, reduced, reduced_fold}
 use Rattle.opt_more.specs.Sweep.{Visiting, swept_by}
 use Rattle.opt_more.proofs.FoldCells.{fold_stays}
 use Rattle.opt_more.proofs.Reducing.{reduced_passes}
-
--- the cells that have not gone, with one more
-standing-more : (done : List (Option Cell)) (slot : Option Cell) (rest : List Cell) → flat_map listed done ++ (listed slot ++ rest) ≡ flat_map listed (done ++ slot ∷ []) ++ rest
-standing-more done slot rest =
-    sym (append_assoc (flat_map listed done) (listed slot) rest)
-    ∙ ap (λ z. (flat_map listed done ++ z) ++ rest) (sym (append-nil (listed slot)))
-    ∙ ap (λ z. z ++ rest) (sym (flat_map-append listed done (slot ∷ [])))
 
 module _ (table : PortTable) (m : Module) where
   -- the module in the midst of a sweep

@@ -4,6 +4,7 @@ pub mod Changed
 pub mod Reduce
 pub mod Gather
 pub mod Muxtree
+pub mod Turns
 pub mod Ends
 pub mod Ways
 pub mod Dff

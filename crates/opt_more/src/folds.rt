@@ -1,6 +1,6 @@
 //! Folds that read what other folds read.
 
-ghost use Rattle.std.specs.Prelude.{◌≡◌, ◌||◌, List, IfOk, OnOk, flat_map, map};
+ghost use Rattle.std.specs.Prelude.{◌≡◌, List, IfOk, OnOk, map};
 ghost use Rattle.std.specs.List.{fold};
 ghost use Rattle.rtl_ir.specs.Flat.Cell.{cell_kind};
 ghost use Rattle.rtl_ir.specs.Follow.{follow};
@@ -25,57 +25,54 @@ ghost use Rattle.opt_more.specs.Reduce.{
 
 use crate::changed::with_inputs;
 use crate::gather::{Gathered, MOST};
-use crate::others::other_of;
+use crate::others::{Others, other_of};
 use cell_types::{CellKind, FoldKind, PinName, WordKind, kind_of};
 use net_alias::Aliases;
 use net_index::Types;
-use opt_expr::{Places, followed_cell};
+use opt_expr::followed_cell;
 use rtl_bits::{Bit, Memory};
 use rtl_ir::{Cell, is_kept, same_value, signal_at};
 use rtl_sig::{SigBit, SigSpec, WireBit};
 use std::alloc::Global;
-use std::collections::VecDeque;
 
-/// What comes of a cell between those that are done and the rest: a fold without a nonzero `\keep` reads what other
-/// such folds read, any other cell stays.
+/// What comes of a cell among the others: a fold without a nonzero `\keep` reads what other such folds read, any other
+/// cell stays.
 pub(crate) fn reduced(
     alloc: Global,
     types: &Types,
-    places: &Places,
+    others: &Others<'_>,
     aliases: &mut Aliases,
-    done: &[Option<Cell>],
-    rest: &VecDeque<Cell>,
     cell: Cell,
 ) -> Result<Cell, Memory>
     ensures value { IfOk result (λ after. (ports : rtl.Ports) (cells : List Cell) (links : List Link) →
-        AreTypes types.now ports → ArePlaces places.now cells → IsAliases aliases.old links →
-        after ≡ reduced (fold_of cell) ports cells done.now rest.now.items links cell) }
+        AreTypes types.now ports → ArePlaces others.now.places.now cells → IsAliases aliases.old links →
+        after ≡ reduced (fold_of cell) ports cells others.now.done.now others.now.rest.now.items links cell) }
     ensures keeps { (links : List Link) → IsAliases aliases.old links → IsAliases aliases.new links }
 {
     let Some(neutral) = fold_of(alloc, &cell)? else {
         return Ok(cell);
     };
     let followed = followed_cell(alloc, types, aliases, cell)?;
-    let after = reduced_fold(alloc, places, aliases, done, rest, neutral, followed.cell)?;
+    let after = reduced_fold(alloc, others, aliases, neutral, followed.cell)?;
     Ok(after)
 }
 
 /// A fold whose inputs are followed.
 fn reduced_fold(
     alloc: Global,
-    places: &Places,
+    others: &Others<'_>,
     aliases: &mut Aliases,
-    done: &[Option<Cell>],
-    rest: &VecDeque<Cell>,
     neutral: Bit,
     cell: Cell,
 ) -> Result<Cell, Memory>
-    ensures value { IfOk result (λ after. (cells : List Cell) (links : List Link) → ArePlaces places.now cells →
-        IsAliases aliases.old links → after ≡ reduced_fold neutral cells done.now rest.now.items links cell) }
+    ensures value { IfOk result (λ after. (cells : List Cell) (links : List Link) →
+        ArePlaces others.now.places.now cells →
+        IsAliases aliases.old links →
+        after ≡ reduced_fold neutral cells others.now.done.now others.now.rest.now.items links cell) }
     ensures keeps { (links : List Link) → IsAliases aliases.old links → IsAliases aliases.new links }
 {
     let inputs = signal_at(cell.pins.as_slice(), PinName::A.text());
-    let bits = gathered(alloc, places, aliases, done, rest, neutral, inputs)?;
+    let bits = gathered(alloc, others, aliases, neutral, inputs)?;
     let after = reduced_to(alloc, bits, cell)?;
     Ok(after)
 }
@@ -94,20 +91,20 @@ fn reduced_to(alloc: Global, bits: SigSpec, cell: Cell) -> Result<Cell, Memory>
 /// What a fold of these bits reads, or some of it that is more than a fold may read.
 fn gathered(
     alloc: Global,
-    places: &Places,
+    others: &Others<'_>,
     aliases: &mut Aliases,
-    done: &[Option<Cell>],
-    rest: &VecDeque<Cell>,
     neutral: Bit,
     inputs: &[SigBit],
 ) -> Result<SigSpec, Memory>
-    ensures value { IfOk result (λ bits. (cells : List Cell) (links : List Link) → ArePlaces places.now cells →
-        IsAliases aliases.old links → AreAlike bits (gathered neutral cells done.now rest.now.items links inputs.now)) }
+    ensures value { IfOk result (λ bits. (cells : List Cell) (links : List Link) →
+        ArePlaces others.now.places.now cells →
+        IsAliases aliases.old links → AreAlike bits
+        (gathered neutral cells others.now.done.now others.now.rest.now.items links inputs.now)) }
     ensures keeps { (links : List Link) → IsAliases aliases.old links → IsAliases aliases.new links }
 {
     let mut bits = Gathered::make(alloc);
     for bit in inputs {
-        add_standing(alloc, places, aliases, done, rest, neutral, *bit, &mut bits)?;
+        add_standing(alloc, others, aliases, neutral, *bit, &mut bits)?;
     }
     let all = bits.or_neutral(neutral)?;
     Ok(all)
@@ -116,19 +113,19 @@ fn gathered(
 /// Adds what stands for the bit, until there are more bits than a fold may read.
 fn add_standing(
     alloc: Global,
-    places: &Places,
+    others: &Others<'_>,
     aliases: &mut Aliases,
-    done: &[Option<Cell>],
-    rest: &VecDeque<Cell>,
     neutral: Bit,
     bit: SigBit,
     bits: &mut Gathered,
 ) -> Result<(), Memory>
     requires seen { AreSeen bits.old }
-    ensures bits { OnOk result ((cells : List Cell) (links : List Link) → ArePlaces places.now cells →
+    ensures bits { OnOk result ((cells : List Cell) (links : List Link) →
+        ArePlaces others.now.places.now cells →
         IsAliases aliases.old links →
         AreAlike bits.new.bits
-        (fold (with_bit neutral) bits.old.bits (standing_for neutral cells done.now rest.now.items links bit))) }
+        (fold (with_bit neutral) bits.old.bits
+        (standing_for neutral cells others.now.done.now others.now.rest.now.items links bit))) }
     ensures seen { OnOk result (AreSeen bits.new) }
     ensures keeps { (links : List Link) → IsAliases aliases.old links → IsAliases aliases.new links }
 {
@@ -138,7 +135,7 @@ fn add_standing(
     let SigBit::Wire(wire) = bit else {
         return bits.add(neutral, bit);
     };
-    match other_of(places, done, rest, wire) {
+    match other_of(others.places, others.done, others.rest, wire) {
         Some(other) if folds_to(alloc, neutral, wire, other)? => {
             let inputs = signal_at(other.pins.as_slice(), PinName::A.text());
             add_followed(aliases, neutral, inputs, bits)

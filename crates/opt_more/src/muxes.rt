@@ -9,21 +9,21 @@ ghost use Rattle.net_index.specs.Types.{AreTypes};
 ghost use Rattle.net_alias.specs.Aliases.{IsAliases};
 ghost use Rattle.opt_expr.specs.Places.{ArePlaces};
 ghost use Rattle.opt_more.specs.Ends.{AreArms, AreEnds};
-ghost use Rattle.opt_more.specs.Muxtree.{arm_end, gives_as, is_mux, is_mux_kind, muxed, standing_now, with_arm};
+ghost use Rattle.opt_more.specs.Muxtree.{arm_end, gives_as, is_mux, is_mux_kind, muxed, with_arm};
+ghost use Rattle.opt_more.specs.Turns.{slots_with};
 ghost use Rattle.opt_more.specs.Ways.{IsWay, IsWithin};
 
 use crate::changed::with_signal;
 use crate::ends::{Arm, Arms, End};
-use crate::others::now_at;
+use crate::others::{Others, Turn, now_at};
 use cell_types::{CellKind, GateKind, PinName, WordKind, kind_of};
 use net_alias::Aliases;
 use net_index::Types;
-use opt_expr::{Places, followed_cell, followed_signal, place_of};
+use opt_expr::{followed_cell, followed_signal, place_of};
 use rtl_bits::{Copied, Memory};
 use rtl_ir::{Cell, is_kept, pin_signal, same_signal};
 use rtl_sig::{SigBit, SigSpec};
 use std::alloc::Global;
-use std::collections::VecDeque;
 
 /// The way on from a word.
 #[derive(Drop)]
@@ -36,26 +36,24 @@ enum Way {
     Known(End),
 }
 
-/// What comes of a cell between those that are done and the rest: the arms of a multiplexer without a nonzero `\keep`
-/// pass those that choose by the same bit, any other cell stays.
+/// What comes of a cell among the others: the arms of a multiplexer without a nonzero `\keep` pass those that choose by
+/// the same bit, any other cell stays.
 pub(crate) fn muxed(
     alloc: Global,
     types: &Types,
-    places: &Places,
+    others: &Others<'_>,
     arms: &mut Arms,
     aliases: &mut Aliases,
-    done: &[Option<Cell>],
-    rest: &VecDeque<Cell>,
     cell: Cell,
 ) -> Result<Cell, Memory>
     ensures value { IfOk result (λ after. (ports : rtl.Ports) (cells : List Cell) (links : List Link) →
-        AreTypes types.now ports → ArePlaces places.now cells → IsAliases aliases.old links →
-        AreArms arms.old cells (standing_now done.now cell rest.now.items) links →
-        after ≡ muxed ports cells done.now rest.now.items links cell) }
+        AreTypes types.now ports → ArePlaces others.now.places.now cells → IsAliases aliases.old links →
+        AreArms arms.old cells (slots_with others.now cell) links →
+        after ≡ muxed ports cells others.now.done.now others.now.rest.now.items links cell) }
     ensures arms { IfOk result (λ after. (ports : rtl.Ports) (cells : List Cell) (links : List Link) →
-        AreTypes types.now ports → ArePlaces places.now cells → IsAliases aliases.old links →
-        AreArms arms.old cells (standing_now done.now cell rest.now.items) links →
-        AreArms arms.new cells (standing_now done.now after rest.now.items) links) }
+        AreTypes types.now ports → ArePlaces others.now.places.now cells → IsAliases aliases.old links →
+        AreArms arms.old cells (slots_with others.now cell) links →
+        AreArms arms.new cells (slots_with others.now after) links) }
     ensures keeps { (links : List Link) → IsAliases aliases.old links → IsAliases aliases.new links }
 {
     let mux = is_mux(alloc, &cell)?;
@@ -63,16 +61,8 @@ pub(crate) fn muxed(
         return Ok(cell);
     }
     let followed = followed_cell(alloc, types, aliases, cell)?;
-    let first = with_arm(
-        alloc,
-        &mut arms.a,
-        places,
-        aliases,
-        done,
-        rest,
-        followed.cell,
-    )?;
-    let after = with_arm(alloc, &mut arms.b, places, aliases, done, rest, first)?;
+    let first = with_arm(alloc, &mut arms.a, others, aliases, followed.cell)?;
+    let after = with_arm(alloc, &mut arms.b, others, aliases, first)?;
     Ok(after)
 }
 
@@ -80,22 +70,26 @@ pub(crate) fn muxed(
 fn with_arm(
     alloc: Global,
     arm: &mut Arm,
-    places: &Places,
+    others: &Others<'_>,
     aliases: &mut Aliases,
-    done: &[Option<Cell>],
-    rest: &VecDeque<Cell>,
     cell: Cell,
 ) -> Result<Cell, Memory>
-    ensures value { IfOk result (λ after. (cells : List Cell) (links : List Link) → ArePlaces places.now cells →
-        IsAliases aliases.old links → AreEnds arm.old cells (standing_now done.now cell rest.now.items) links →
-        after ≡ with_arm arm.old.name cells done.now rest.now.items links cell) }
+    ensures value { IfOk result (λ after. (cells : List Cell) (links : List Link) →
+        ArePlaces others.now.places.now cells →
+        IsAliases aliases.old links → AreEnds arm.old cells (slots_with others.now cell) links →
+        after ≡ with_arm arm.old.name cells others.now.done.now others.now.rest.now.items links cell) }
     ensures name { arm.new.name ≡ arm.old.name }
-    ensures ends { OnOk result ((cells : List Cell) (links : List Link) → ArePlaces places.now cells →
-        IsAliases aliases.old links → AreEnds arm.old cells (standing_now done.now cell rest.now.items) links →
-        AreEnds arm.new cells (standing_now done.now cell rest.now.items) links) }
+    ensures ends { OnOk result ((cells : List Cell) (links : List Link) →
+        ArePlaces others.now.places.now cells →
+        IsAliases aliases.old links → AreEnds arm.old cells (slots_with others.now cell) links →
+        AreEnds arm.new cells (slots_with others.now cell) links) }
     ensures keeps { (links : List Link) → IsAliases aliases.old links → IsAliases aliases.new links }
 {
-    let word = arm_end(alloc, arm, places, aliases, done, rest, &cell)?;
+    let turn = Turn {
+        others,
+        cell: &cell,
+    };
+    let word = arm_end(alloc, arm, &turn, aliases)?;
     let pins = with_signal(alloc, arm.name, word.as_slice(), cell.pins.as_slice())?;
     Ok(Cell { pins, ..cell })
 }
@@ -104,36 +98,26 @@ fn with_arm(
 fn arm_end(
     alloc: Global,
     arm: &mut Arm,
-    places: &Places,
+    turn: &Turn<'_>,
     aliases: &mut Aliases,
-    done: &[Option<Cell>],
-    rest: &VecDeque<Cell>,
-    cell: &Cell,
 ) -> Result<SigSpec, Memory>
-    ensures value { IfOk result (λ word. (cells : List Cell) (links : List Link) → ArePlaces places.now cells →
-        IsAliases aliases.old links → AreEnds arm.old cells (standing_now done.now cell.now rest.now.items) links →
-        word ≡ arm_end arm.old.name cells (standing_now done.now cell.now rest.now.items) links cell.now) }
+    ensures value { IfOk result (λ word. (cells : List Cell) (links : List Link) →
+        ArePlaces turn.now.others.now.places.now cells → IsAliases aliases.old links →
+        AreEnds arm.old cells (slots_with turn.now.others.now turn.now.cell.now) links →
+        word ≡
+        arm_end arm.old.name cells (slots_with turn.now.others.now turn.now.cell.now) links turn.now.cell.now) }
     ensures name { arm.new.name ≡ arm.old.name }
-    ensures ends { OnOk result ((cells : List Cell) (links : List Link) → ArePlaces places.now cells →
-        IsAliases aliases.old links → AreEnds arm.old cells (standing_now done.now cell.now rest.now.items) links →
-        AreEnds arm.new cells (standing_now done.now cell.now rest.now.items) links) }
+    ensures ends { OnOk result ((cells : List Cell) (links : List Link) →
+        ArePlaces turn.now.others.now.places.now cells → IsAliases aliases.old links →
+        AreEnds arm.old cells (slots_with turn.now.others.now turn.now.cell.now) links →
+        AreEnds arm.new cells (slots_with turn.now.others.now turn.now.cell.now) links) }
     ensures keeps { (links : List Link) → IsAliases aliases.old links → IsAliases aliases.new links }
 {
-    let mut word = SigSpec::from_slice(alloc, pin_signal(cell.pins.as_slice(), arm.name))?;
+    let mut word = SigSpec::from_slice(alloc, pin_signal(turn.cell.pins.as_slice(), arm.name))?;
     let mut passed = Vec::new(alloc);
-    let most = done.len() + 1 + rest.len();
+    let most = turn.others.done.len() + 1 + turn.others.rest.len();
     for step in 0..most {
-        let way = way_on(
-            alloc,
-            arm,
-            places,
-            aliases,
-            done,
-            rest,
-            cell,
-            word.as_slice(),
-            most - step,
-        )?;
+        let way = way_on(alloc, arm, turn, aliases, word.as_slice(), most - step)?;
         match way {
             Way::On(place, next) => {
                 passed.push(place)?;
@@ -156,27 +140,27 @@ fn arm_end(
 fn way_on(
     alloc: Global,
     arm: &Arm,
-    places: &Places,
+    turn: &Turn<'_>,
     aliases: &mut Aliases,
-    done: &[Option<Cell>],
-    rest: &VecDeque<Cell>,
-    cell: &Cell,
     word: &[SigBit],
     left: usize,
 ) -> Result<Way, Memory>
-    ensures way { IfOk result (λ way. (cells : List Cell) (links : List Link) → ArePlaces places.now cells →
-        IsAliases aliases.old links → AreEnds arm.now cells (standing_now done.now cell.now rest.now.items) links →
-        IsWay arm.now.name cells (standing_now done.now cell.now rest.now.items) links cell.now word.now way) }
+    ensures way { IfOk result (λ way. (cells : List Cell) (links : List Link) →
+        ArePlaces turn.now.others.now.places.now cells → IsAliases aliases.old links →
+        AreEnds arm.now cells (slots_with turn.now.others.now turn.now.cell.now) links →
+        IsWay arm.now.name cells (slots_with turn.now.others.now turn.now.cell.now) links turn.now.cell.now
+        word.now way) }
     ensures within { IfOk result (IsWithin left) }
     ensures keeps { (links : List Link) → IsAliases aliases.old links → IsAliases aliases.new links }
 {
-    let Some(place) = place_of(places, word) else {
+    let others = turn.others;
+    let Some(place) = place_of(others.places, word) else {
         return Ok(Way::Ends);
     };
-    let Some(other) = now_at(place, done, cell, rest) else {
+    let Some(other) = now_at(place, others.done, turn.cell, others.rest) else {
         return Ok(Way::Ends);
     };
-    if !gives_as(alloc, aliases, cell, word, other)? {
+    if !gives_as(alloc, aliases, turn.cell, word, other)? {
         return Ok(Way::Ends);
     }
     if let Some(end) = arm.known(place, left) {

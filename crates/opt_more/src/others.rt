@@ -11,6 +11,22 @@ use rtl_ir::Cell;
 use rtl_sig::WireBit;
 use std::collections::VecDeque;
 
+/// The cells but one, as they stand at its turn: those that are done before it, and the rest. The places are those of
+/// the module's cells by the bits that their outputs begin with.
+#[derive(Clone, Copy)]
+pub(crate) struct Others<'a> {
+    pub(crate) places: &'a Places,
+    pub(crate) done: &'a [Option<Cell>],
+    pub(crate) rest: &'a VecDeque<Cell>,
+}
+
+/// The cells as they stand at the turn of one of them: the others, and the one.
+#[derive(Clone, Copy)]
+pub(crate) struct Turn<'a> {
+    pub(crate) others: &'a Others<'a>,
+    pub(crate) cell: &'a Cell,
+}
+
 /// The combinational cell whose output begins with the bit, as it stands now, unless it is the one between those that
 /// are done and the rest.
 pub(crate) fn other_of<'a>(

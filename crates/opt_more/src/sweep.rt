@@ -14,6 +14,7 @@ ghost use Rattle.rtl_ir.specs.Starts.{inits_of};
 ghost use Rattle.opt_more.specs.Visits.{visit_by};
 
 use crate::folds::reduced;
+use crate::others::Others;
 use crate::registers::{Visited, registered};
 use net_alias::Aliases;
 use net_index::Types;
@@ -30,6 +31,14 @@ pub(crate) enum Pass {
     Reduce,
     /// Registers that never change go, and those that are always enabled lose their enable.
     Dff,
+}
+
+/// What the visits of a sweep go by: the pass, the types of the cells, and the start values of the wires.
+#[derive(Clone, Copy)]
+struct By<'a, 't> {
+    pass: Pass,
+    types: &'a Types<'t>,
+    inits: &'a [Bits],
 }
 
 /// What a sweep leaves: the cells, each in its place unless it went, and the connections.
@@ -51,15 +60,13 @@ pub(crate) fn sweep(
 {
     let aliases = Aliases::of(alloc, &module)?;
     let inits = inits(alloc, module.wires.as_slice())?;
-    let swept = sweep_cells(
-        alloc,
+    let types = Types::of_table(alloc, ports)?;
+    let by = By {
         pass,
-        ports,
-        inits.as_slice(),
-        aliases,
-        module.cells.into_vec(),
-        module.links,
-    )?;
+        types: &types,
+        inits: inits.as_slice(),
+    };
+    let swept = sweep_cells(alloc, &by, aliases, module.cells.into_vec(), module.links)?;
     let cells = standing(alloc, swept.slots)?;
     Ok(Module {
         cells,
@@ -68,109 +75,83 @@ pub(crate) fn sweep(
     })
 }
 
-/// The sweep over these cells. The tables that it needs are gone when it ends.
+/// The sweep over these cells. The tables that it needs of them are gone when it ends.
 fn sweep_cells(
     alloc: Global,
-    pass: Pass,
-    ports: &PortTable,
-    inits: &[Bits],
+    by: &By<'_, '_>,
     aliases: Aliases,
     cells: Vec<Cell>,
     links: Seq<Link>,
 ) -> Result<Swept, Memory>
     requires aliases { IsAliases aliases links }
-    ensures swept { IfOk result (λ after. (wires : List Wire) → inits.now ≡ inits_of wires →
-        record { cells = after.slots.items; links = after.links } ≡
-        swept_by (visit_by pass (table_ports ports.now.modules) wires cells.items) [] cells.items links) }
+    ensures swept { IfOk result (λ after. (ports : rtl.Ports) (wires : List Wire) → AreTypes by.now.types.now ports →
+        by.now.inits.now ≡ inits_of wires → record { cells = after.slots.items; links = after.links } ≡
+        swept_by (visit_by by.now.pass ports wires cells.items) [] cells.items links) }
 {
-    let types = Types::of_table(alloc, ports)?;
     let places = places_of(alloc, cells.as_slice())?;
     let mut aliases = aliases;
     let mut links = links;
-    let mut slots = Vec::with_capacity(alloc, cells.len())?;
-    visit_all(
-        alloc,
-        pass,
-        &types,
-        &places,
-        inits,
-        &mut aliases,
-        cells,
-        &mut slots,
-        &mut links,
-    )?;
+    let slots = visit_all(alloc, by, &places, &mut aliases, cells, &mut links)?;
     Ok(Swept { slots, links })
 }
 
-/// Visits the cells in order, where none is done. After an error some visits are missing.
+/// What stays of the cells, each in its place, once all are visited in order. After an error some visits are missing.
 fn visit_all(
     alloc: Global,
-    pass: Pass,
-    types: &Types,
+    by: &By<'_, '_>,
     places: &Places,
-    inits: &[Bits],
     aliases: &mut Aliases,
     cells: Vec<Cell>,
-    done: &mut Vec<Option<Cell>>,
     links: &mut Seq<Link>,
-) -> Result<(), Memory>
+) -> Result<Vec<Option<Cell>>, Memory>
     requires places { ArePlaces places.now cells.items }
-    requires none { done.old.items ≡ [] }
     requires aliases { IsAliases aliases.old links.old }
-    ensures swept { OnOk result ((ports : rtl.Ports) (wires : List Wire) → AreTypes types.now ports →
-        inits.now ≡ inits_of wires → record { cells = done.new.items; links = links.new } ≡
-        swept_by (visit_by pass ports wires cells.items) [] cells.items links.old) }
+    ensures swept { IfOk result (λ slots. (ports : rtl.Ports) (wires : List Wire) → AreTypes by.now.types.now ports →
+        by.now.inits.now ≡ inits_of wires → record { cells = slots.items; links = links.new } ≡
+        swept_by (visit_by by.now.pass ports wires cells.items) [] cells.items links.old) }
 {
+    let mut done = Vec::with_capacity(alloc, cells.len())?;
     let mut rest = VecDeque::from_vec(cells);
     while let Some(cell) = rest.pop_front() {
-        let slot = visit(
-            alloc,
-            pass,
-            types,
+        let others = Others {
             places,
-            inits,
-            aliases,
-            done.as_slice(),
-            &rest,
-            cell,
-            links,
-        )?;
+            done: done.as_slice(),
+            rest: &rest,
+        };
+        let slot = visit(alloc, by, &others, aliases, cell, links)?;
         done.push(slot)?;
     }
-    Ok(())
+    Ok(done)
 }
 
-/// Visits a cell between those that are done and the rest. Connections that come of it go last. After an error its
-/// visit is not whole.
+/// Visits a cell among the others. Connections that come of it go last. After an error its visit is not whole.
 fn visit(
     alloc: Global,
-    pass: Pass,
-    types: &Types,
-    places: &Places,
-    inits: &[Bits],
+    by: &By<'_, '_>,
+    others: &Others<'_>,
     aliases: &mut Aliases,
-    done: &[Option<Cell>],
-    rest: &VecDeque<Cell>,
     cell: Cell,
     links: &mut Seq<Link>,
 ) -> Result<Option<Cell>, Memory>
     ensures cell { IfOk result (λ slot. (ports : rtl.Ports) (wires : List Wire) (cells : List Cell) →
-        AreTypes types.now ports →
-        inits.now ≡ inits_of wires → ArePlaces places.now cells → IsAliases aliases.old links.old →
-        slot ≡ (visit_by pass ports wires cells done.now rest.now.items links.old cell).cell) }
+        AreTypes by.now.types.now ports → by.now.inits.now ≡ inits_of wires →
+        ArePlaces others.now.places.now cells → IsAliases aliases.old links.old →
+        slot ≡ (visit_by by.now.pass ports wires cells others.now.done.now others.now.rest.now.items
+        links.old cell).cell) }
     ensures links { OnOk result ((ports : rtl.Ports) (wires : List Wire) (cells : List Cell) →
-        AreTypes types.now ports →
-        inits.now ≡ inits_of wires → ArePlaces places.now cells → IsAliases aliases.old links.old →
-        links.new ≡ links.old ++ (visit_by pass ports wires cells done.now rest.now.items links.old cell).links) }
+        AreTypes by.now.types.now ports → by.now.inits.now ≡ inits_of wires →
+        ArePlaces others.now.places.now cells → IsAliases aliases.old links.old →
+        links.new ≡ links.old ++ (visit_by by.now.pass ports wires cells others.now.done.now others.now.rest.now.items
+        links.old cell).links) }
     ensures aliases { OnOk result (IsAliases aliases.old links.old → IsAliases aliases.new links.new) }
 {
-    match pass {
+    match by.pass {
         Pass::Reduce => {
-            let after = reduced(alloc, types, places, aliases, done, rest, cell)?;
+            let after = reduced(alloc, by.types, others, aliases, cell)?;
             Ok(Some(after))
         }
         Pass::Dff => {
-            let visited = registered(alloc, types, inits, aliases, cell)?;
+            let visited = registered(alloc, by.types, by.inits, aliases, cell)?;
             leave(visited, aliases, links)
         }
     }

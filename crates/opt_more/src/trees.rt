@@ -9,6 +9,7 @@ ghost use Rattle.opt_more.specs.Sweep.{swept_by};
 
 use crate::ends::Arms;
 use crate::muxes::muxed;
+use crate::others::Others;
 use net_alias::Aliases;
 use net_index::Types;
 use opt_expr::{places_of, standing};
@@ -49,16 +50,12 @@ fn visit_trees(
     let mut done = Vec::with_capacity(alloc, cells.len())?;
     let mut rest = VecDeque::from_vec(cells);
     while let Some(cell) = rest.pop_front() {
-        let after = muxed(
-            alloc,
-            &types,
-            &places,
-            &mut arms,
-            &mut aliases,
-            done.as_slice(),
-            &rest,
-            cell,
-        )?;
+        let others = Others {
+            places: &places,
+            done: done.as_slice(),
+            rest: &rest,
+        };
+        let after = muxed(alloc, &types, &others, &mut arms, &mut aliases, cell)?;
         done.push(Some(after))?;
     }
     Ok(done)

@@ -1,10 +1,14 @@
 -- Rounds of the three passes, one after another.
-use Rattle.std.proofs.Common.{◌≡◌, ℕ, zero, suc, ◌+◌, ◌-◌, ◌<◌, ◌≤◌, [], Bool, true, false, cond, refl, sym, ◌∙◌, ap, arith}
+use Rattle.std.proofs.Common.{◌≡◌, ℕ, zero, suc, ◌+◌, ◌-◌, ◌<◌, ◌≤◌, List, [], ◌∷◌, Bool, true, false, cond, refl, sym, ◌∙◌, ap, arith}
 use Rattle.std.specs.Prelude.{◌&&◌}
 use Rattle.std.proofs.lemmas.Bool.{and_parts}
+use Rattle.rtl_ir.specs.Flat.Cell.{instances}
+use Rattle.rtl_ir.specs.Flat.Place.{Frame}
+use Rattle.rtl_ir.specs.Flat.Tree as flat
 use Rattle.rtl_ir.specs.Types as types
 use Rattle.rtl_ir.specs.declared.module.Module.{Module}
 use Rattle.rtl_ir.specs.declared.ports.PortTable.{PortTable}
+use Rattle.net_model.specs.Refine.{AgreeOn, IsWellDriven}
 use Rattle.pass_laws.specs.Pass.{IsPass}
 use Rattle.pass_laws.specs.Ready.{IsReady}
 use Rattle.pass_laws.proofs.Passes.{IsPass_refl, IsPass_trans}
@@ -93,6 +97,15 @@ module _ (table : PortTable) where
   abbrev P : types.Ports
   P = types.table_ports table.modules
 
+  -- what a table says of instances it says
+  agree_refl : (frames : List Frame) → AgreeOn (flat.table_ports table) (flat.table_ports table) frames
+  agree_refl [] = tt
+  agree_refl (f ∷ frames) = (refl, agree_refl frames)
+
+  -- where no bit has two drivers, none has after a pass
+  pub pass_driven : (m n : Module) → IsPass table m n → IsWellDriven (flat.table_ports table) m → IsWellDriven (flat.table_ports table) n
+  pass_driven m n h = h.driven (flat.table_ports table) (agree_refl (instances m.cells))
+
   pub round_pass : (m : Module) → IsReady P m → IsPass table m (round_of P m)
   unfolding round_of
   round_pass m h =
@@ -114,3 +127,6 @@ module _ (table : PortTable) where
 
   pub round_ready : (m : Module) → IsReady P m → IsReady P (round_of P m)
   round_ready m h = (round_pass m h).ready h
+
+  pub round_driven : (m : Module) → IsReady P m → IsWellDriven (flat.table_ports table) m → IsWellDriven (flat.table_ports table) (round_of P m)
+  round_driven m h = pass_driven m (round_of P m) (round_pass m h)

@@ -4,7 +4,9 @@
 pub mod laws;
 
 ghost use Rattle.std.specs.Prelude.{◌≡◌, ◌&&◌, true, IfOk};
+ghost use Rattle.rtl_ir.specs.Flat.Tree as flat;
 ghost use Rattle.rtl_ir.specs.Types.{table_ports};
+ghost use Rattle.net_model.specs.Refine.{IsWellDriven};
 ghost use Rattle.pass_laws.specs.Pass.{IsPass};
 ghost use Rattle.pass_laws.specs.Ready.{IsReady};
 ghost use Rattle.opt_merge.specs.Merge.{merge_of};
@@ -23,6 +25,7 @@ const MAX_ROUNDS: u32 = 32;
 /// In the Yosys manual, "Optimization passes", the section "The opt pass".
 pub fn apply(alloc: Global, module: Module, ports: &PortTable) -> Result<Module, Memory>
     requires ready { IsReady (table_ports ports.now.modules) «module» }
+    requires driven { IsWellDriven (flat.table_ports ports.now) «module» }
     ensures exact { IfOk result (λ after. after ≡ opt_of (table_ports ports.now.modules) «module») }
     ensures pass { IfOk result (IsPass ports.now «module») }
 {
@@ -33,6 +36,7 @@ pub fn apply(alloc: Global, module: Module, ports: &PortTable) -> Result<Module,
 #[tactic(auto, using(crate::proofs::Rounding::all_left))]
 fn rounds(alloc: Global, module: Module, ports: &PortTable) -> Result<Module, Memory>
     requires ready { IsReady (table_ports ports.now.modules) «module» }
+    requires driven { IsWellDriven (flat.table_ports ports.now) «module» }
     ensures exact { IfOk result (λ after. after ≡ opt_of (table_ports ports.now.modules) «module») }
 {
     let mut module = module;
@@ -49,6 +53,7 @@ fn rounds(alloc: Global, module: Module, ports: &PortTable) -> Result<Module, Me
 /// One round. Each pass takes the module over, so no more than two stand beside each other at a time.
 fn round(alloc: Global, module: Module, ports: &PortTable) -> Result<Turn, Memory>
     requires ready { IsReady (table_ports ports.now.modules) «module» }
+    requires driven { IsWellDriven (flat.table_ports ports.now) «module» }
     ensures exact { IfOk result (λ turn. turn.after ≡ round_of (table_ports ports.now.modules) «module») }
     ensures same { IfOk result (λ turn. turn.is_same ≡ true → turn.after ≡ «module») }
 {
@@ -71,6 +76,7 @@ fn are_all(one: bool, two: bool, three: bool) -> bool
 /// `opt_merge`, which takes cells away wherever it changes something.
 fn merged(alloc: Global, module: Module, ports: &PortTable) -> Result<Turn, Memory>
     requires ready { IsReady (table_ports ports.now.modules) «module» }
+    requires driven { IsWellDriven (flat.table_ports ports.now) «module» }
     ensures exact { IfOk result (λ turn. turn.after ≡ merge_of «module») }
     ensures ready { IfOk result (λ turn. IsReady (table_ports ports.now.modules) turn.after) }
     ensures same { IfOk result (λ turn. turn.is_same ≡ true → turn.after ≡ «module») }

@@ -5,7 +5,8 @@ use Rattle.std.specs.List.{list_any}
 use Rattle.std.proofs.Math.Seq.{drop-cons}
 use Rattle.rtl_ir.specs.declared.process.SyncRule.{SyncRule}
 use Rattle.rtl_ir.specs.Rules.{acting_rules}
-use Rattle.proc_latch.specs.Steps.{acts, lone}
+use Rattle.process_trees.specs.Acting.{acts}
+use Rattle.proc_latch.specs.Steps.{lone}
 
 -- where one rule acts, and none behind it, it is the only one
 pub lone_at : (rules : List SyncRule) (at : ℕ) (r : SyncRule) → at < length rules → r ≡ get_or rules at r → acts r ≡ true → acting_rules (drop at rules) ≡ acting_rules rules → lone (acting_rules rules) ≡ (if list_any acts (drop (at + 1) rules) then None else Some r)

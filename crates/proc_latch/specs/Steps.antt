@@ -1,5 +1,5 @@
 -- Bits that are always updated, over a tree whose nodes are known by numbers.
-use Rattle.std.specs.Prelude.{Bool, not, ◌&&◌, List, [], ◌∷◌, Option, Some, None, if◌then◌else◌, length}
+use Rattle.std.specs.Prelude.{List, [], ◌∷◌, Option, Some, None, if◌then◌else◌, length}
 use Rattle.rtl_sig.specs.declared.sig.SigBit.{SigBit}
 use Rattle.rtl_sig.specs.declared.sig.SigBit.TheVariants.{Wire as OnWire}
 use Rattle.rtl_sig.specs.declared.sig.WireBit.{WireBit}
@@ -10,7 +10,6 @@ use Rattle.rtl_ir.specs.Build.{Building, new_link}
 use Rattle.rtl_ir.specs.Flat.Process.{may_hold}
 use Rattle.rtl_ir.specs.Follow.{all_joins}
 use Rattle.rtl_ir.specs.declared.follow.Join.{Join}
-use Rattle.rtl_ir.specs.Rules.{has_line, is_init}
 use Rattle.rtl_ir.specs.Tree.{CaseView}
 use Rattle.net_model.specs.Proc.Latch.{Side, ForData, ForEnable, latch_cell}
 use Rattle.net_model.specs.Proc.Latch as by_places
@@ -46,10 +45,6 @@ always_steps root bits (j ∷ js) t = always_steps root bits js (always_step roo
 abbrev pub always_process : CaseView → List Link → Building → Building
 always_process root updates b =
     (by_places.always_steps root (tree_bits root) (all_joins updates) (record { building = b; made = [] })).building
-
--- a rule has a line, and gives no start values
-abbrev pub acts : SyncRule → Bool
-acts rule = has_line rule && not (is_init rule.event)
 
 -- the one rule of these, where it is the only one
 abbrev pub lone : List SyncRule → Option SyncRule

@@ -1,19 +1,21 @@
 //! Processes, one after another.
 
-ghost use Rattle.std.specs.Prelude.{◌≡◌, ◌&&◌, Err, IfOk, Some, None, false, filter, if◌then◌else◌, map, true};
+ghost use Rattle.std.specs.Prelude.{◌≡◌, Err, IfOk, Some, None, false, filter, if◌then◌else◌, map, true};
 ghost use Rattle.std.specs.List.{list_any};
 ghost use Rattle.std.specs.Option.{option_map_or};
 ghost use Rattle.rtl_ir.specs.declared.process.SyncRule.{SyncRule};
-ghost use Rattle.rtl_ir.specs.Rules.{acting_rules, has_line};
+ghost use Rattle.rtl_ir.specs.Rules.{acting_rules};
 ghost use Rattle.net_index.specs.Builder.{IsInLimits, PassesLimit};
 ghost use Rattle.net_model.specs.Proc.Latch.{is_always, latch_process, latches_step, without_always};
-ghost use Rattle.proc_latch.specs.Steps.{acts, always_process, lone};
+ghost use Rattle.process_trees.specs.Acting.{acts};
+ghost use Rattle.proc_latch.specs.Steps.{always_process, lone};
 
 use crate::chains::Chains;
 use crate::reading::tables_of;
 use indexmap::IndexMap;
 use match_cells::Trees;
 use net_index::{Builder, PassFault};
+use process_trees::acts;
 use rtl_bits::{Copied, Memory, Seq};
 use rtl_ir::{Case, Event, Link, Process, SyncRule};
 use std::alloc::Global;
@@ -96,14 +98,6 @@ fn any_acts(rules: &[SyncRule]) -> bool
     ensures value { result ≡ list_any acts rules.now }
 {
     rules.iter().any(|rule| acts(rule))
-}
-
-/// Whether the rule has a line, and gives no start values.
-fn acts(rule: &SyncRule) -> bool
-    ensures value { result ≡ acts rule.now }
-{
-    let has_line = !rule.updates.as_slice().is_empty() || !rule.writes.as_slice().is_empty();
-    has_line && !matches!(rule.event, Event::Init)
 }
 
 /// Whether the event is that of a rule that always acts.

@@ -12,7 +12,7 @@ ghost use Rattle.proc_mux.specs.Trees.{run_step, switches_value};
 use crate::given::{Given, given_of, unknowns};
 use crate::rows::{Rows, rows_of};
 use crate::runs::tree_runs;
-use crate::walk::{start_of, switches_value};
+use crate::walk::{Walk, start_of, switches_value};
 use match_cells::{Trees, nodes_behind};
 use net_index::{Builder, PassFault};
 use rtl_bits::Memory;
@@ -92,7 +92,8 @@ fn tree_value(
         PassesLimit (switches_value given.now 1 root.now.switches start (seen trees.old)).1.building }
     ensures within { IsInLimits trees.old.builder → OnOk result (IsInLimits trees.new.builder) }
 {
-    switches_value(trees, table, given, 1, root.switches.as_slice(), start)
+    let by = Walk { table, given };
+    switches_value(trees, &by, 1, root.switches.as_slice(), start)
 }
 
 /// The signal of the run.

@@ -15,29 +15,43 @@ use rtl_ir::{Case, Switch};
 use rtl_sig::{SigBit, SigSpec};
 use std::alloc::Global;
 
-/// The switches act in order on the value of a run. The first of them is the node of this number; the table
-/// has of each node the first node behind it.
+/// By what the way of a run goes: a table that has of each node the first node behind it, and what the assigns of cases
+/// give the run.
+#[derive(Clone, Copy)]
+pub(crate) struct Walk<'a> {
+    pub(crate) table: &'a [usize],
+    pub(crate) given: &'a [Given],
+}
+
+/// A switch as its cases meet it: the signal that it tests, and the value of the run before it.
+#[derive(Clone, Copy)]
+struct Entered<'a> {
+    signal: &'a [SigBit],
+    prior: &'a [SigBit],
+}
+
+/// The switches act in order on the value of a run. The first of them is the node of this number.
 #[cycle(tree)]
 pub(crate) fn switches_value(
     trees: &mut Trees,
-    table: &[usize],
-    given: &[Given],
+    by: &Walk<'_>,
     node: usize,
     switches: &[Switch],
     prior: SigSpec,
 ) -> Result<SigSpec, PassFault>
-    requires table { HasSwitches table.now node (switches_of switches.now) }
+    requires table { HasSwitches by.now.table.now node (switches_of switches.now) }
     ensures exact { IfOk result (λ value. (value, seen trees.new) ≡
-        switches_value given.now node (switches_of switches.now) prior (seen trees.old)) }
+        switches_value by.now.given.now node (switches_of switches.now) prior (seen trees.old)) }
     ensures over { result ≡ Err PassFault.Over →
-        PassesLimit (switches_value given.now node (switches_of switches.now) prior (seen trees.old)).1.building }
+        PassesLimit
+        (switches_value by.now.given.now node (switches_of switches.now) prior (seen trees.old)).1.building }
     ensures within { IsInLimits trees.old.builder → OnOk result (IsInLimits trees.new.builder) }
 {
     let mut node = node;
     let mut value = prior;
     for switch in switches {
-        value = switch_value(trees, table, given, node, switch, value)?;
-        node = behind(table, node);
+        value = switch_value(trees, by, node, switch, value)?;
+        node = behind(by.table, node);
     }
     Ok(value)
 }
@@ -46,67 +60,54 @@ pub(crate) fn switches_value(
 #[cycle(tree)]
 fn switch_value(
     trees: &mut Trees,
-    table: &[usize],
-    given: &[Given],
+    by: &Walk<'_>,
     node: usize,
     switch: &Switch,
     prior: SigSpec,
 ) -> Result<SigSpec, PassFault>
-    requires behind { slice_get table.now node ≡ Some (behind_switch node switch.now.cases) }
-    requires table { HasCases table.now (node + 1) switch.now.cases }
+    requires behind { slice_get by.now.table.now node ≡ Some (behind_switch node switch.now.cases) }
+    requires table { HasCases by.now.table.now (node + 1) switch.now.cases }
     ensures exact { IfOk result (λ value. (value, seen trees.new) ≡
-        switch_value given.now node switch.now.signal switch.now.cases prior (seen trees.old)) }
+        switch_value by.now.given.now node switch.now.signal switch.now.cases prior (seen trees.old)) }
     ensures over { result ≡ Err PassFault.Over →
-        PassesLimit (switch_value given.now node switch.now.signal switch.now.cases prior (seen trees.old)).1.building }
+        PassesLimit
+        (switch_value by.now.given.now node switch.now.signal switch.now.cases prior (seen trees.old)).1.building }
     ensures within { IsInLimits trees.old.builder → OnOk result (IsInLimits trees.new.builder) }
 {
-    if !has_between(given, node, behind(table, node)) {
+    if !has_between(by.given, node, behind(by.table, node)) {
         return Ok(prior);
     }
     let signal = switch.signal.as_slice();
-    cases_value(
-        trees,
-        table,
-        given,
-        node + 1,
-        signal,
-        switch.cases.as_slice(),
-        prior,
-    )
+    cases_value(trees, by, node + 1, signal, switch.cases.as_slice(), prior)
 }
 
 /// The cases of a switch act, the last one first, on the value of a run before the switch.
 #[cycle(tree)]
 fn cases_value(
     trees: &mut Trees,
-    table: &[usize],
-    given: &[Given],
+    by: &Walk<'_>,
     node: usize,
     signal: &[SigBit],
     cases: &[Case],
     prior: SigSpec,
 ) -> Result<SigSpec, PassFault>
-    requires table { HasCases table.now node (cases_of cases.now) }
+    requires table { HasCases by.now.table.now node (cases_of cases.now) }
     ensures exact { IfOk result (λ value. (value, seen trees.new) ≡
-        cases_value given.now node signal.now (cases_of cases.now) prior (seen trees.old)) }
+        cases_value by.now.given.now node signal.now (cases_of cases.now) prior (seen trees.old)) }
     ensures over { result ≡ Err PassFault.Over →
-        PassesLimit (cases_value given.now node signal.now (cases_of cases.now) prior (seen trees.old)).1.building }
+        PassesLimit
+        (cases_value by.now.given.now node signal.now (cases_of cases.now) prior (seen trees.old)).1.building }
     ensures within { IsInLimits trees.old.builder → OnOk result (IsInLimits trees.new.builder) }
 {
-    let nodes = case_nodes(trees.alloc, table, node, cases)?;
+    let nodes = case_nodes(trees.alloc, by.table, node, cases)?;
     let nodes = nodes.as_slice();
     let mut value = prior.copy()?;
+    let entered = Entered {
+        signal,
+        prior: prior.as_slice(),
+    };
     for at in (0..cases.len()).rev() {
-        value = case_value(
-            trees,
-            table,
-            given,
-            nodes[at],
-            signal,
-            &cases[at],
-            prior.as_slice(),
-            value,
-        )?;
+        value = case_value(trees, by, &entered, nodes[at], &cases[at], value)?;
     }
     Ok(value)
 }
@@ -115,34 +116,26 @@ fn cases_value(
 #[cycle(tree)]
 fn case_value(
     trees: &mut Trees,
-    table: &[usize],
-    given: &[Given],
+    by: &Walk<'_>,
+    entered: &Entered<'_>,
     node: usize,
-    signal: &[SigBit],
     case: &Case,
-    prior: &[SigBit],
     acc: SigSpec,
 ) -> Result<SigSpec, PassFault>
-    requires behind { slice_get table.now node ≡ Some (behind_case node case.now.switches) }
-    requires table { HasSwitches table.now (node + 1) case.now.switches }
+    requires behind { slice_get by.now.table.now node ≡ Some (behind_case node case.now.switches) }
+    requires table { HasSwitches by.now.table.now (node + 1) case.now.switches }
     ensures exact { IfOk result (λ value. (value, seen trees.new) ≡
-        case_value given.now node signal.now case.now.patterns case.now.switches prior.now acc (seen trees.old)) }
+        case_value by.now.given.now node entered.now.signal.now case.now.patterns case.now.switches
+        entered.now.prior.now acc (seen trees.old)) }
     ensures over { result ≡ Err PassFault.Over →
         PassesLimit
-        (case_value given.now node signal.now case.now.patterns case.now.switches prior.now acc
-        (seen trees.old)).1.building }
+        (case_value by.now.given.now node entered.now.signal.now case.now.patterns case.now.switches
+        entered.now.prior.now acc (seen trees.old)).1.building }
     ensures within { IsInLimits trees.old.builder → OnOk result (IsInLimits trees.new.builder) }
 {
-    let start = start_of(trees.alloc, given, node, prior)?;
-    let body = switches_value(
-        trees,
-        table,
-        given,
-        node + 1,
-        case.switches.as_slice(),
-        start,
-    )?;
-    trees.with_case(node, signal, case.patterns.as_slice(), body, acc)
+    let start = start_of(trees.alloc, by.given, node, entered.prior)?;
+    let body = switches_value(trees, by, node + 1, case.switches.as_slice(), start)?;
+    trees.with_case(node, entered.signal, case.patterns.as_slice(), body, acc)
 }
 
 /// What a run has once the assigns of the case at this node have acted.

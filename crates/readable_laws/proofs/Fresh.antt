@@ -1,5 +1,5 @@
 -- Fresh names: they are names, none of them stands twice, and none is one that a module has already.
-use Rattle.std.proofs.Common.{◌≡◌, ℕ, zero, suc, ◌+◌, ◌%◌, ◌<◌, ◌≤◌, ◌^◌, max, Bool, true, false, cond, List, [], ◌∷◌, ◌++◌, length, refl, ◌∙◌, ap, arith}
+use Rattle.std.proofs.Common.{◌≡◌, ℕ, zero, suc, ◌+◌, ◌%◌, ◌<◌, ◌≤◌, ◌^◌, max, Bool, true, false, List, [], ◌∷◌, ◌++◌, length, refl, ◌∙◌, ap, arith}
 use Rattle.std.specs.Prelude.{◌&&◌, map, nat_lt}
 use Rattle.std.specs.Fmt.{decimal}
 use Rattle.std.specs.List.{fold, list_all}
@@ -13,7 +13,7 @@ use Rattle.rtl_ir.specs.declared.module.Module.{Module}
 use Rattle.map_laws.proofs.FreshNames.{number_of_made}
 use Rattle.rtl_readable.specs.Changing.{times}
 use Rattle.rtl_readable.specs.Readable.{IsName, item_names}
-use Rattle.rtl_readable.proofs.Counting.{item_times, times_more}
+use Rattle.rtl_readable.proofs.Counting.{counted, item_times, times_more}
 use Rattle.readable_laws.specs.Extends.{made_names}
 
 -- a fresh name is a name
@@ -47,10 +47,6 @@ names_split name low (suc n) m (suc k) e =
     let here : (low + 1) + n ≡ low + suc n = omega arith in
     let same : times name (made_names ((low + 1) + n) m) ≡ times name (made_names (low + suc n) m) = ap (λ z. times name (made_names z m)) here in
     omega (arith, later, same)
-
--- what a test counts for
-abbrev counted : Bool → ℕ
-counted t = cond t 1 0
 
 -- the name of a smaller number is none of them
 pub none_made : (name : List ℕ) (low n : ℕ) → 0 < low → low + n ≤ 1000000000 → made_number name < low → times name (made_names low n) ≤ 0

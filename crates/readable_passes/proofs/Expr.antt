@@ -1,9 +1,8 @@
 -- What a text can give, it can give with cells made simpler.
-use Rattle.std.proofs.Common.{◌≡◌, ℕ, ◌≤◌, false, List, [], ◌∷◌, ◌++◌, length, Option, Some, None, refl, sym, ◌∙◌, ap, subst, arith, append_assoc}
+use Rattle.std.proofs.Common.{◌≡◌, ℕ, ◌≤◌, false, List, [], ◌∷◌, ◌++◌, length, Option, Some, None, refl, sym, ◌∙◌, ap, subst, arith}
 use Rattle.std.specs.Prelude.{codes, flat_map}
 use Rattle.std.specs.List.{All}
 use Rattle.std.specs.Option.{option_map}
-use Rattle.std.proofs.lemmas.Grind.{flat_map-append}
 use Rattle.std.proofs.lemmas.List.{append-nil}
 use Rattle.std.proofs.lemmas.List.Elements.{All-cons, All-nil}
 use Rattle.cell_types.specs.declared.gate.GateKind.TheVariants as gate
@@ -53,6 +52,7 @@ use Rattle.opt_expr.proofs.Fitting.{all_wide, extended-length, output_wide}
 use Rattle.opt_expr.proofs.Making.{IfMade, IsBecome, IsShaped, Chooser, Inverter, at_place, change_made, extended_has}
 use Rattle.opt_expr.proofs.Others.{inverted_bit_is, inverted_is}
 use Rattle.opt_expr.proofs.Ruling.{IsRuled, is_ruled, ruled}
+use Rattle.opt_expr.proofs.Sweeping.{standing-more}
 use Rattle.opt_expr.proofs.Visiting.{other_cell, own_cell, whole}
 use Rattle.readable_passes.proofs.Follow.{cell_follows}
 use Rattle.readable_passes.proofs.Replaced.{MayReplace, all_each, each_all, replaced_reads}
@@ -256,12 +256,6 @@ module _ (table : PortTable) (m : Module) (ready : IsReady (types.table_ports ta
     count = omega arith;
     links = All-nil (IsLink m.wires);
   }
-
-pub standing-more : (done : List (Option Cell)) (slot : Option Cell) (rest : List Cell) → flat_map listed done ++ (listed slot ++ rest) ≡ flat_map listed (done ++ slot ∷ []) ++ rest
-standing-more done slot rest =
-    sym (append_assoc (flat_map listed done) (listed slot) rest)
-    ∙ ap (λ z. (flat_map listed done ++ z) ++ rest) (sym (append-nil (listed slot)))
-    ∙ ap (λ z. z ++ rest) (sym (flat_map-append listed done (slot ∷ [])))
 
 module _ (table : PortTable) (m : Module) (cells : List Cell) where
   abbrev so_far : List (Option Cell) → List Cell → List Link → Module

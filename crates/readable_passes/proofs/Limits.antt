@@ -27,7 +27,8 @@ items_of m is = record {
 pub widths_more : (w : Wire) (ws : List Wire) → sum_by (λ (v : Wire). v.width) (w ∷ ws) ≡ w.width + sum_by (λ (v : Wire). v.width) ws
 widths_more w ws = omega (arith, sum_by-append (λ (v : Wire). v.width) (w ∷ []) ws)
 
-counted : (ws : List Wire) → sum_by (λ (w : Wire). w.width) ws ≡ bit_count (widths_of ws)
+-- the bits of the wires, counted by the wires or by their widths
+pub counted : (ws : List Wire) → sum_by (λ (w : Wire). w.width) ws ≡ bit_count (widths_of ws)
 counted [] = refl
 counted (w ∷ ws) = omega (arith, widths_more w ws, counted ws)
 

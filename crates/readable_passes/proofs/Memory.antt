@@ -30,6 +30,7 @@ use Rattle.memory_laws.proofs.PortRuns.{run_length_long}
 use Rattle.memory_laws.proofs.PortSteps.{port_long}
 use Rattle.memory_laws.proofs.ReadTrees.{IsAsWide, tree_wide}
 use Rattle.memory_laws.proofs.WordWires.{fixed_wide, wires_wide}
+use Rattle.memory_laws.proofs.PortSteps.{port_by}
 
 -- what is built, with a bit over its wires
 record BuildsBit (old new : Building) (s : SigBit) : Type 0 where
@@ -104,14 +105,6 @@ write_later a b e port h = record { address = signal_later a b e port.address h.
 
 read_later : (a b : Building) → Extends a b → (port : ReadPort) → ReadReads a.body.wires port → ReadReads b.body.wires port
 read_later a b e port h = record { address = signal_later a b e port.address h.address; new = signal_later a b e port.data h.new }
-
-abbrev port_by : Bool → ℕ → WritePort → List SigBit → Building → List SigBit × Building
-port_by t address port acc b =
-    if t
-    then
-    (let match = address_match port.address address b in
-    port_runs match.0 (run_lengths (length port.enable) port.enable) acc port.data port.enable match.1)
-    else (acc, b)
 
 -- a word over wires, of a width
 abbrev WordReads : ℕ → List Wire → Word → Type 0

@@ -21,7 +21,7 @@ use Rattle.rtl_readable.specs.Readable.{IsCell, IsLink, IsReadableModule, IsSign
 use Rattle.rtl_readable.proofs.Changing.{recelled_reads}
 use Rattle.rtl_readable.proofs.Counting.{times_more}
 use Rattle.rtl_readable.proofs.Signals.{no_signal, pin_signal}
-use Rattle.opt_merge.specs.Merge.{Merging, after_cells, after_kind, drives_own, has_traits, join, merge_of, merging_of, stay, with_merging}
+use Rattle.opt_merge.specs.Merge.{Merging, after_cells, after_kind, has_traits, join, merge_of, merging_of, stay}
 use Rattle.opt_merge.specs.Traits.{merging_kind, output_of, traits_of}
 
 module _ (wires : List Wire) where
@@ -89,11 +89,8 @@ module _ (wires : List Wire) where
         }
 
 pub merge_reads : (m : Module) → IsReadableModule m → IsReadableModule (merge_of m)
-merge_reads m is = by (drives_own m)
+merge_reads m is =
+    recelled_reads m (merging_of m).cells (merging_of m).links is (record { cells = swept.cells; names = λ name. omega (arith, swept.names name); count = omega (arith, swept.count); links = swept.links })
   where
     swept : Leaves m.wires (record { cells = []; links = m.links }) m.cells (merging_of m)
     swept = all_visited m.wires (start_of m.wires m.processes) m.cells (record { cells = []; links = m.links }) (All-nil (IsCell m.wires)) is.links is.cells
-
-    by : (t : Bool) → IsReadableModule (cond t (with_merging m (merging_of m)) m)
-    by true = recelled_reads m (merging_of m).cells (merging_of m).links is (record { cells = swept.cells; names = λ name. omega (arith, swept.names name); count = omega (arith, swept.count); links = swept.links })
-    by false = is

@@ -32,6 +32,7 @@ use Rattle.pass_laws.proofs.Faultless.{no_faults}
 use Rattle.pass_laws.specs.Ready.{IsReadyWithin}
 use Rattle.proc_laws.proofs.RebuildProcesses.{each_good}
 use Rattle.build_laws.proofs.CellFits.{whole_length as whole_is}
+use Rattle.mux_laws.proofs.FrameTrees.{asked_few}
 use Rattle.mux_laws.proofs.FrameRuns.{IsRun, run_in, tree_fit}
 use Rattle.mux_laws.proofs.FrameTrees.{value_wide}
 use Rattle.rtl_readable.specs.Readable.{AreCases, AreSwitches, IsBitOf, IsLink, IsProcess, IsSignal, IsSomeSignal, item_names}
@@ -87,15 +88,6 @@ zip_places wires [] signal h k = each_none (PlaceIs wires)
 zip_places wires (p ∷ pattern) [] h k = each_none (PlaceIs wires)
 zip_places wires (p ∷ pattern) (s ∷ signal) h k =
     each_more (PlaceIs wires) (p, s) (zip pattern signal) (h p (inl refl), k s (inl refl)) (zip_places wires pattern signal (λ x i. h x (inr i)) (λ x i. k x (inr i)))
-
-asked_few : (pattern signal : List SigBit) → length (asked_places pattern signal) ≤ length signal
-asked_few [] signal = omega arith
-asked_few (p ∷ pattern) [] = omega arith
-asked_few (p ∷ pattern) (s ∷ signal) = by (is_asked (p, s)) (asked_few pattern signal)
-  where
-    by : (t : Bool) → length (asked_places pattern signal) ≤ length signal → length (if t then (p, s) ∷ asked_places pattern signal else asked_places pattern signal) ≤ length (s ∷ signal)
-    by true h = omega (arith, h)
-    by false h = omega (arith, h)
 
 pub bits_later : (a b : Building) → Extends a b → (signal : List SigBit) → Each (IsBitOf a.body.wires) signal → Each (IsBitOf b.body.wires) signal
 bits_later a b e signal h s i = bit_later a b e s (h s i)

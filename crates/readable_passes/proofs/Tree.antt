@@ -1,5 +1,5 @@
 -- The first two steps of `proc` leave a module that a text can give: switches by their rules, and start values in attributes.
-use Rattle.std.proofs.Common.{◌≡◌, ℕ, zero, suc, ◌+◌, ◌<◌, ◌≤◌, Bool, true, false, cond, if◌then◌else◌, List, [], ◌∷◌, ◌++◌, length, true≢false, refl, sym, ◌∙◌, ap, subst, arith}
+use Rattle.std.proofs.Common.{◌≡◌, ℕ, zero, suc, ◌+◌, ◌<◌, ◌≤◌, Bool, true, false, if◌then◌else◌, List, [], ◌∷◌, ◌++◌, length, true≢false, refl, sym, ◌∙◌, ap, subst, arith}
 use Rattle.std.specs.Prelude.{IsSomeAnd, filter, map, not, slice_get}
 use Rattle.std.specs.List.{All, range_with_len, sum_by}
 use Rattle.std.specs.Str.{bytes_eq}
@@ -21,20 +21,14 @@ use Rattle.rtl_ir.specs.declared.process.SyncRule.{SyncRule}
 use Rattle.rtl_ir.specs.declared.value.Attribute.{Attribute}
 use Rattle.rtl_ir.specs.declared.wire.Wire.{Wire}
 use Rattle.net_model.specs.Proc.Start.{begun_wires, init_attribute, is_begun, proc_tree_of, ruled_process, wire_starts, with_attribute}
+use Rattle.build_laws.proofs.CellFits.{range_length}
 use Rattle.rtl_readable.specs.Changing.{times}
 use Rattle.rtl_readable.specs.Readable.{AreAttributes, AreCases, AreSwitches, IsAttribute, IsBitOf, IsCell, IsLink, IsProcess, IsReadableModule, IsRule, IsSomeSignal, IsWire, item_names}
-use Rattle.rtl_readable.proofs.Counting.{distinct_from_times, item_times, process_names, still_distinct, times_from_distinct, wire_names}
+use Rattle.rtl_readable.proofs.Counting.{counted, distinct_from_times, item_times, itself, process_names, still_distinct, times_from_distinct, wire_names}
 use Rattle.readable_passes.proofs.Carried.{carried_cell, carried_link, carried_process}
 use Rattle.readable_passes.proofs.Limits.{widths_more}
 
 -- attributes
-
--- what a test counts for
-abbrev counted : Bool → ℕ
-counted t = cond t 1 0
-
-itself : (name : List ℕ) → counted (bytes_eq name name) ≡ 1
-itself name = ap counted ((bytes_eq-Decides name name).1 refl)
 
 differs_back : (x y : List ℕ) → bytes_eq x y ≡ false → counted (bytes_eq y x) ≡ 0
 differs_back x y e = by (bytes_eq y x) refl
@@ -88,12 +82,8 @@ with_is a attributes own are = record {
 }
 
 -- wires with start values
-range_long : (from n : ℕ) → length (range_with_len from n) ≡ n
-range_long from zero = refl
-range_long from (suc n) = omega (arith, range_long (from + 1) n)
-
 starts_long : (m : Module) (at width : ℕ) → length (wire_starts m at width) ≡ width
-starts_long m at width = length-map (range_with_len 0 width) (λ k. start_of m.wires m.processes (OnWire (record { wire = at; at = k }))) ∙ range_long 0 width
+starts_long m at width = length-map (range_with_len 0 width) (λ k. start_of m.wires m.processes (OnWire (record { wire = at; at = k }))) ∙ range_length 0 width
 
 begun_wire : (t : Bool) (bits : List Bit) (w : Wire) → length bits ≤ 1048576 → IsWire w → IsWire (if t then record w { attributes = with_attribute (init_attribute bits) w.attributes } else w)
 begun_wire true bits w few is = record {

@@ -27,7 +27,7 @@ use Rattle.opt_more.specs.Sweep.{Visiting, swept_by, swept_of}
 use Rattle.rtl_readable.specs.Changing.{times}
 use Rattle.rtl_readable.specs.Readable.{IsCell, IsLink, IsName, IsPin, IsReadableModule, IsSignal}
 use Rattle.rtl_readable.proofs.Signals.{followed_signal, pin_signal}
-use Rattle.readable_passes.proofs.Expr.{standing-more}
+use Rattle.opt_expr.proofs.Sweeping.{standing-more}
 use Rattle.readable_passes.proofs.Replaced.{MayReplace, all_each, replaced_reads}
 
 -- one cell in the place of another of its name

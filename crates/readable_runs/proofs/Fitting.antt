@@ -1,7 +1,6 @@
 -- What the passes with limits leave is within the limits of a text.
-use Rattle.std.proofs.Common.{◌≡◌, ℕ, zero, suc, ◌+◌, ◌≤◌, Bool, true, false, if◌then◌else◌, List, [], ◌∷◌, ◌++◌, length, length-append, Option, Some, None, refl, sym, ◌∙◌, ap, subst, append_assoc, arith}
+use Rattle.std.proofs.Common.{◌≡◌, ℕ, zero, suc, ◌+◌, ◌≤◌, Bool, true, false, if◌then◌else◌, List, [], ◌∷◌, ◌++◌, length, length-append, Option, Some, None, sym, ◌∙◌, ap, subst, append_assoc, arith}
 use Rattle.std.specs.Prelude.{◌==◌}
-use Rattle.std.specs.List.{sum_by}
 use Rattle.std.specs.Option.{option_map_or}
 use Rattle.std.proofs.lemmas.Bool.{and_parts}
 use Rattle.std.proofs.lemmas.List.{append-nil}
@@ -30,15 +29,11 @@ use Rattle.mem_steps.specs.Within as memories
 use Rattle.mem_steps.proofs.Turns as memory_turns
 use Rattle.memory_laws.proofs.Commuting.{left_out, made_without}
 use Rattle.rtl_readable.specs.Readable.{IsReadableModule}
-use Rattle.readable_passes.proofs.Limits.{widths_more}
+use Rattle.readable_passes.proofs.Limits.{counted}
 
 -- a module within the limits on cells and bits
 abbrev pub Fits : Module → Type 0
 Fits m = IsInLimits (building_from 0 m)
-
-counted : (ws : List Wire) → sum_by (λ (w : Wire). w.width) ws ≡ bit_count (widths_of ws)
-counted [] = refl
-counted (w ∷ ws) = omega (arith, widths_more w ws, counted ws)
 
 pub readable_fits : (m : Module) → IsReadableModule m → Fits m
 readable_fits m is = record {

@@ -1,7 +1,6 @@
 -- Edited designs: which modules stayed, which ports moved, and which faults there may be.
-use Rattle.std.proofs.Common.{◌≡◌, ◌⊎◌, ⊎_elim, ℕ, List, [], ◌∷◌, ◌++◌, Bool, true, false, not, cond, ◌||◌, Option, Some, None, inl, inr, refl, sym, ap, subst, ◌∙◌, true≢false}
+use Rattle.std.proofs.Common.{◌≡◌, ◌⊎◌, ⊎_elim, ℕ, List, [], ◌∷◌, ◌++◌, Bool, true, false, not, cond, ◌||◌, Some, None, inl, inr, refl, sym, ap, subst, ◌∙◌, true≢false}
 use Rattle.std.specs.Prelude.{filter, flat_map}
-use Rattle.std.specs.List.{list_any}
 use Rattle.std.specs.Option.{option_map}
 use Rattle.std.specs.Str.{bytes_eq}
 use Rattle.std.proofs.lemmas.Slice.Eq.{bytes_eq-Decides}
@@ -17,7 +16,7 @@ use Rattle.net_model.specs.Lists.{In}
 use Rattle.net_model.specs.Within.{Each}
 use Rattle.design_edit.specs.Modules.{with_module, with_modules, without_module}
 use Rattle.rtl_check.specs.declared.due.Due.{Due}
-use Rattle.rtl_check.specs.Due.{IsEdited, IsNoted, KeepsPorts, due_faults, faults_of_due, is_due, sees}
+use Rattle.rtl_check.specs.Due.{IsEdited, IsNoted, KeepsPorts, due_faults, is_due, sees}
 use Rattle.rtl_check.proofs.OverPorts.{same_faults}
 
 same_name : (a b : List ℕ) → bytes_eq a b ≡ true → a ≡ b

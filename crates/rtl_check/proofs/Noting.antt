@@ -1,7 +1,6 @@
 -- What an edit is about, noted edit by edit, and the modules that are due, one after another.
-use Rattle.std.proofs.Common.{◌≡◌, ◌⊎◌, ⊎_elim, ℕ, zero, suc, ◌+◌, ◌<◌, List, [], ◌∷◌, ◌++◌, Bool, true, false, cond, ◌||◌, Option, Some, None, length, get_or, take, drop, slice_get, flat_map, inl, inr, refl, sym, ap, subst, ◌∙◌, arith, add-one, ◌≤◌}
+use Rattle.std.proofs.Common.{◌≡◌, ◌⊎◌, ⊎_elim, ℕ, zero, suc, ◌+◌, ◌<◌, List, [], ◌∷◌, ◌++◌, Bool, true, false, cond, ◌||◌, Some, length, get_or, take, drop, slice_get, flat_map, inl, inr, refl, sym, ap, subst, ◌∙◌, arith, add-one, ◌≤◌}
 use Rattle.std.specs.Prelude.{filter}
-use Rattle.std.specs.List.{list_any}
 use Rattle.std.specs.Option.{option_map}
 use Rattle.std.specs.Str.{bytes_eq}
 use Rattle.std.proofs.Math.Seq.{drop-cons, take-suc}
@@ -13,7 +12,7 @@ use Rattle.rtl_ir.specs.declared.cell.Cell.{Cell}
 use Rattle.rtl_ir.specs.declared.module.Module.{Module}
 use Rattle.rtl_ir.specs.declared.ports.PortLine.{PortLine}
 use Rattle.rtl_ir.specs.Fault as rtl
-use Rattle.rtl_ir.specs.Types.{Ports, design_ports, module_named, port_lines}
+use Rattle.rtl_ir.specs.Types.{Ports, design_ports, port_lines}
 use Rattle.net_index.specs.Types.{Named, at_name}
 use Rattle.net_model.specs.Lists.{In}
 use Rattle.net_model.specs.Within.{Each}

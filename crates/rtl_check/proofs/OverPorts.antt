@@ -1,12 +1,11 @@
 -- The faults of a module over ports that give the types of its cells the same meaning.
-use Rattle.std.proofs.Common.{◌≡◌, ℕ, ◌+◌, List, [], ◌∷◌, ◌++◌, cond, inl, inr, refl, ap, ◌∙◌}
+use Rattle.std.proofs.Common.{◌≡◌, ℕ, ◌+◌, List, [], ◌∷◌, ◌++◌, inl, inr, refl, ap}
 use Rattle.rtl_ir.specs.declared.cell.Cell.{Cell}
-use Rattle.rtl_ir.specs.declared.cell.Pin.{Pin}
 use Rattle.rtl_ir.specs.declared.module.Module.{Module}
 use Rattle.rtl_ir.specs.declared.process.Process.{Process}
-use Rattle.rtl_ir.specs.Drivers.{Drive, cell_drives, drives_of, link_drives, pin_drives, port_drives, rule_drives, tree_drives}
+use Rattle.rtl_ir.specs.Drivers.{cell_drives, link_drives, pin_drives, port_drives, rule_drives, tree_drives}
 use Rattle.rtl_ir.specs.EventTests.{combinational_kind}
-use Rattle.rtl_ir.specs.Fault.{Fault, TooWide, Width, BadPort, BadProcess, BadMemory, UnsupportedCell, fault_if, spot}
+use Rattle.rtl_ir.specs.Fault.{TooWide, Width, BadPort, BadProcess, BadMemory, UnsupportedCell, fault_if, spot}
 use Rattle.rtl_ir.specs.Faults.{module_faults}
 use Rattle.rtl_ir.specs.Faults.Bits.{bits_faults}
 use Rattle.rtl_ir.specs.Faults.Cells.{cell_faults, faults_by_type}
@@ -16,7 +15,7 @@ use Rattle.rtl_ir.specs.Faults.Processes.{faults_of_process, has_bad_line, is_ba
 use Rattle.rtl_ir.specs.Faults.Stores.{store_faults}
 use Rattle.rtl_ir.specs.Faults.Wires.{wire_faults}
 use Rattle.rtl_ir.specs.Scope.{Scope}
-use Rattle.rtl_ir.specs.Types.{CellType, Ports, cell_type, type_by}
+use Rattle.rtl_ir.specs.Types.{Ports, cell_type, type_by}
 use Rattle.rtl_ir.specs.WritePorts.{write_lines}
 use Rattle.std.specs.Prelude.{flat_map, not}
 use Rattle.cell_types.specs.Kind.{kind_of}

@@ -1,12 +1,13 @@
 -- The counts of the bits tell which are driven more than once.
-use Rattle.std.proofs.Common.{◌≡◌, ◌≢◌, ℕ, zero, suc, ◌+◌, ◌<◌, ◌≤◌, min, Bool, true, false, cond, ltb, List, [], ◌∷◌, length, get_or, map, replicate, Option, Some, None, refl, sym, ◌∙◌, ap, subst, arith, nat_eq, ◌&&◌}
+use Rattle.std.proofs.Common.{◌≡◌, ◌≢◌, ℕ, zero, suc, ◌+◌, ◌<◌, ◌≤◌, min, Bool, true, false, cond, ltb, List, [], ◌∷◌, length, get_or, map, replicate, Option, Some, None, refl, sym, ◌∙◌, ap, subst, arith}
 use Rattle.std.proofs.lemmas.List.{length-set, get_or-set_same, get_or-set_other, get_or-replicate, length-replicate}
-use Rattle.std.proofs.lemmas.Bool.{eq-eqb, eqb-true, false≢true, lt-ltb}
+use Rattle.std.proofs.lemmas.Bool.{false≢true, lt-ltb}
 use Rattle.std.proofs.lemmas.List.Recursion.{is_count_by}
 use Rattle.std.specs.Option.{option_map_or}
 use Rattle.rtl_sig.specs.declared.sig.WireBit.{WireBit}
 use Rattle.rtl_ir.specs.Drivers.{Drive, drive_count}
 use Rattle.rtl_ir.specs.Signals.{same_bit}
+use Rattle.net_index.proofs.IndexTables.{same_bit-refl, same_bit-true}
 use Rattle.net_index.specs.Numbering.{bit_count, number_of}
 use Rattle.net_index.proofs.Numbers.{number-inj, number_within}
 use Rattle.process_check.specs.Updates.{AreAlike, times}
@@ -18,21 +19,6 @@ driven drives = map (λ (d : Drive). d.bit) drives
 
 times-driven : (drives : List Drive) (b : WireBit) → times (driven drives) b ≡ drive_count drives b
 times-driven drives b = is_count_by (λ ds. times (driven ds) b) (λ (d : Drive). same_bit d.bit b) refl (λ x xs. refl) drives
-
-same_bit-refl : (b : WireBit) → same_bit b b ≡ true
-same_bit-refl b = rw (eq-eqb b.wire b.wire refl, eq-eqb b.at b.at refl) refl
-
-both_true : (x y : Bool) → (x && y) ≡ true → (x ≡ true) × (y ≡ true)
-both_true true true e = (refl, refl)
-both_true true false e = absurd (cc)
-both_true false y e = absurd (cc)
-
-same_bit-true : (b c : WireBit) → same_bit b c ≡ true → b ≡ c
-same_bit-true b c e =
-    let p = both_true (nat_eq b.wire c.wire) (nat_eq b.at c.at) e in
-    let wire = eqb-true b.wire c.wire p.0 in
-    let at = eqb-true b.at c.at p.1 in
-    (λ i. record { wire = wire i; at = at i })
 
 -- a tally that has a count for each bit, at a number of at most 2
 pub record IsSized (t : Tallied) (n : ℕ) : Type 0 where

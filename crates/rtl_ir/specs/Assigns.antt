@@ -31,8 +31,8 @@ abbrev pub left_bits : List Link → List WireBit
 left_bits lines = flat_map (λ (l : Link). wire_bits l.left) lines
 
 -- the bits that the assigns in a case and below it name, in order
-abbrev pub named_bits : CaseView → List WireBit
-named_bits c = left_bits (case_assigns c)
+abbrev pub assigned_bits : CaseView → List WireBit
+assigned_bits c = left_bits (case_assigns c)
 
 -- the bits without those that come again later
 abbrev pub each_once : List WireBit → List WireBit

@@ -13,8 +13,8 @@ use std::marker::Model;
 /// How many names are compared one by one.
 const FEW: usize = 16;
 
-/// The names of the parts of one item, each once, in the order in which they came. The first of them are compared one by
-/// one, which is faster than a table while they are few; those after them are looked up in one.
+/// The names of the parts of one item, each once, in the order in which they came. The first of them are compared one
+/// by one, which is faster than a table while they are few; those after them are looked up in one.
 #[derive(Drop)]
 pub struct FewNames {
     first: Vec<Text>,

@@ -17,7 +17,7 @@ times_more name [] ys = omega arith
 times_more name (x ∷ xs) ys = omega (arith, times_more name xs ys)
 
 -- what a test counts for
-abbrev counted : Bool → ℕ
+abbrev pub counted : Bool → ℕ
 counted t = cond t 1 0
 
 -- a name that is not counted is none of these
@@ -35,7 +35,8 @@ apart_none name (y ∷ ys) h =
     let other : counted (bytes_eq name y) ≡ 0 = ap counted h.0 in
     omega (arith, other, apart_none name ys h.1)
 
-itself : (name : List ℕ) → counted (bytes_eq name name) ≡ 1
+-- a name counts for itself
+pub itself : (name : List ℕ) → counted (bytes_eq name name) ≡ 1
 itself name = ap counted ((bytes_eq-Decides name name).1 refl)
 
 pub distinct_from_times : (names : List (List ℕ)) → ((name : List ℕ) → times name names ≤ 1) → AreDistinct names

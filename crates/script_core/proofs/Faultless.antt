@@ -22,7 +22,7 @@ use Rattle.rtl_ir.specs.declared.store.Store.{Store}
 use Rattle.rtl_ir.specs.declared.wire.Wire.{Wire}
 use Rattle.rtl_ir.specs.Drivers.{Drive, FromCell, drives_of, port_drives, places_by, pin_drives, cell_drives, link_drives, tree_drives, rule_drives}
 use Rattle.rtl_ir.specs.Fault.{Fault, Width, BadParameterOrPort, BadPort, BadProcess, BadMemory, TooWide, UnsupportedCell, Spot, spot, link_spot, fault_if}
-use Rattle.rtl_ir.specs.Faults.{module_faults, faults_within}
+use Rattle.rtl_ir.specs.Faults.{check_faults, module_faults, faults_within}
 use Rattle.rtl_ir.specs.Faults.Bits.{has_two, faults_of_two, bit_faults, bits_faults}
 use Rattle.rtl_ir.specs.Faults.Cells.{misfit, shape_fault, lacks_port, has_other_width, has_constant_output, is_memory_kind, memory_faults, faults_by_type, cell_faults}
 use Rattle.rtl_ir.specs.Faults.Links.{is_uneven, link_faults}
@@ -37,7 +37,7 @@ use Rattle.rtl_ir.specs.Flat.Tree.{named}
 use Rattle.rtl_ir.specs.Outputs.{drives_pin, is_output}
 use Rattle.rtl_ir.specs.Ports.{is_port, place_wire, in_number_order, line_of, ports_of}
 use Rattle.rtl_ir.specs.Rules.{has_item}
-use Rattle.rtl_ir.specs.Scope.{Scope}
+use Rattle.rtl_ir.specs.Scope.{Scope, everything}
 use Rattle.rtl_ir.specs.Signals.{has_constant}
 use Rattle.rtl_ir.specs.WritePorts.{write_lines}
 use Rattle.rtl_ir.specs.Types.{Ports, CellType, Library, Instance, Unsupported, Unknown, port_lines, module_named, design_ports, table_ports, port_named, type_by, cell_type}
@@ -45,6 +45,7 @@ use Rattle.rtl_readable.specs.Readable.{IsReadable}
 use Rattle.net_model.specs.Lists.{In, Distinct}
 use Rattle.net_model.specs.Within.{Each}
 use Rattle.net_model.proofs.Members.{In-map, In-mapped}
+use Rattle.pass_laws.proofs.Faultless.{no_faults}
 use Rattle.check_laws.specs.Sound.{IsSoundModule}
 use Rattle.check_laws.proofs.Counting.{none_parts, none_each}
 use Rattle.check_laws.proofs.Named.{ordered_lines, lines_distinct, ports_distinct, port_found}
@@ -371,3 +372,9 @@ pub faultless_under : (scope : Scope) (d : Design) → IsReadable d → faults_w
 faultless_under scope d readable none m i name =
     let own = none_each (module_faults scope (design_ports d.modules)) d.modules (none_parts (flat_map (module_faults scope (design_ports d.modules)) d.modules) (recursion_faults d.modules) none).first m i in
     over_others scope (design_ports d.modules) (table_ports (table_of d.modules m).modules) m name (λ c j. alike_type d.modules (sound d readable).modules m c j) own
+
+-- nor has a bit of it two drivers, over the ports of the design
+pub bits_under : (d : Design) → IsReadable d → check_faults d.modules ≡ [] → (m : Module) → In m d.modules → (name : List ℕ) → bits_faults name (drives_of (design_ports d.modules) m) 0 m.wires ≡ []
+bits_under d readable none m i name =
+    let own = none_each (module_faults everything (design_ports d.modules)) d.modules (none_parts (flat_map (module_faults everything (design_ports d.modules)) d.modules) (recursion_faults d.modules) none).first m i in
+    bits_none m.id name (drives_of (design_ports d.modules) m) 0 m.wires (no_faults everything (design_ports d.modules) m own).bits

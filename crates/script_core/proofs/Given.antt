@@ -11,6 +11,8 @@ use Rattle.rtl_ir.specs.declared.module.Module.{Module}
 use Rattle.rtl_ir.specs.declared.process.Process.{Process}
 use Rattle.rtl_ir.specs.declared.wire.Wire.{Wire}
 use Rattle.rtl_ir.specs.Faults.{check_faults}
+use Rattle.rtl_ir.specs.Flat.Cell.{instances}
+use Rattle.rtl_ir.specs.Flat.Tree as flat
 use Rattle.rtl_ir.specs.Scope.{everything}
 use Rattle.rtl_ir.specs.declared.process.Event.{Event}
 use Rattle.rtl_ir.specs.declared.process.Event.TheVariants.{Low, High, Posedge, Negedge, Edge, Global, Init, Always}
@@ -21,19 +23,25 @@ use Rattle.rtl_sig.specs.declared.sig.SigBit.{SigBit}
 use Rattle.rtl_sig.specs.declared.sig.SigBit.TheVariants as sig
 use Rattle.rtl_readable.specs.Readable.{AreCases, AreSwitches, IsBitOf, IsCell, IsEvent, IsLink, IsPin, IsProcess, IsReadable, IsReadableModule, IsRule, IsSomeSignal, IsWrite}
 use Rattle.net_model.specs.Lists.{In}
+use Rattle.net_model.specs.Refine.{IsWellDriven}
 use Rattle.net_model.specs.Within.{BitIn, CasesIn, CellIn, Each, EventIn, IsWithin, LinkIn, ProcessIn, RuleIn, SigIn, SwitchesIn, WriteIn}
 use Rattle.proc_laws.specs.Ready as laws
 use Rattle.proc_laws.specs.Ready.{HasItsBits, PinsHaveBits, UpdatesHaveBits}
+use Rattle.check_laws.proofs.Accepted.{module_well_driven}
+use Rattle.check_laws.proofs.Named.{same_ports}
 use Rattle.check_laws.proofs.Readable.{sound}
+use Rattle.check_laws.specs.Sound.{IsSoundModule}
+use Rattle.pass_laws.proofs.Agreeing.{agree_sym, driven_agree}
 use Rattle.script_core.specs.Cold.{table_of}
 use Rattle.proc_laws.proofs.Taking.{accepted_faultless}
 use Rattle.script_core.specs.Fold.{MayStart}
 use Rattle.sync_laws.specs.Lines.{WritesHaveBits}
-use Rattle.rtl_ir.specs.Types.{table_ports}
+use Rattle.rtl_ir.specs.Types.{design_ports, table_ports}
 use Rattle.reset_laws.specs.Trees.{TreesHaveBits}
 use Rattle.rtl_ir.specs.Assigns.{case_assigns, cases_assigns, switches_assigns}
 use Rattle.net_model.proofs.Members.{In-cases}
-use Rattle.script_core.proofs.Faultless.{faultless_under}
+use Rattle.script_core.proofs.Faultless.{bits_under, faultless_under}
+use Rattle.script_core.proofs.Tables.{agree}
 
 each_of : {A : Type 0} (P : A → Type 0) (xs : List A) → All P xs → (x : A) → In x xs → P x
 each_of P [] all x i = absurd i
@@ -166,6 +174,16 @@ readable_writes m h p i r j l k =
     let line = each_of (IsWrite m.wires) r.writes rule.writes l k in
     record { address = line.address.some; word = line.value.some }
 
+-- no bit of a module of an accepted design has two drivers, over its table of ports and under any name
+given_driven : (d : Design) → IsReadable d → check_faults d.modules ≡ [] → (m : Module) → In m d.modules → (name : List ℕ) → IsWellDriven (flat.table_ports (table_of d.modules m)) (record m { id = name })
+given_driven d readable none m i name =
+    let all = sound d readable in
+    let own = all.modules m i in
+    let alike : IsSoundModule (record m { id = name }) = record { wires = own.wires; memories = own.memories; cells = own.cells; pins = own.pins; links = own.links; processes = own.processes } in
+    driven_agree (flat.design_ports d) (flat.table_ports (table_of d.modules m)) (record m { id = name })
+    (agree_sym (flat.table_ports (table_of d.modules m)) (flat.design_ports d) (instances m.cells) (agree d.modules m))
+    (module_well_driven (design_ports d.modules) (flat.design_ports d) (same_ports d all) (record m { id = name }) alike (bits_under d readable none m i name))
+
 pub given_first : (d : Design) → IsReadable d → check_faults d.modules ≡ [] → (m : Module) → In m d.modules → (name : List ℕ) → MayStart (table_of d.modules m) (record m { id = name })
 given_first d readable none m i name =
     let good = each_of IsReadableModule d.modules readable.modules m i in
@@ -183,5 +201,6 @@ given_first d readable none m i name =
         trees = readable_trees m good;
         writes = readable_writes m good;
       };
+      driven = given_driven d readable none m i name;
       named = own.memories;
     }

@@ -9,7 +9,7 @@ use Rattle.rtl_ir.specs.Build.{Building, building_of}
 use Rattle.rtl_ir.specs.Types.{Ports, table_ports}
 use Rattle.follow_laws.specs.Inputs.{followed}
 use Rattle.opt_expr.specs.Sweep.{expr_of}
-use Rattle.opt_merge.specs.Merge.{drives_own, merge_of, merging_of, with_merging}
+use Rattle.opt_merge.specs.Merge.{merge_of}
 use Rattle.opt_clean.specs.Clean.{clean_of, is_all_inside, reduced}
 use Rattle.opt_clean.specs.Wires.{trimmed}
 use Rattle.opt_rounds.specs.Rounds.{opt_of, round_of, rounds_of}
@@ -70,13 +70,6 @@ module _ (id : List ℕ) where
       by true = refl
       by false = refl
 
-  merge_renamed : (m : Module) → merge_of (under m) ≡ under (merge_of m)
-  merge_renamed m = by (drives_own m)
-    where
-      by : (t : Bool) → cond t (under (with_merging m (merging_of m))) (under m) ≡ under (cond t (with_merging m (merging_of m)) m)
-      by true = refl
-      by false = refl
-
   clean_renamed : (P : Ports) (m : Module) → clean_of P (under m) ≡ under (clean_of P m)
   clean_renamed P m = by (is_all_inside m)
     where
@@ -86,7 +79,7 @@ module _ (id : List ℕ) where
 
   round_renamed : (P : Ports) (m : Module) → round_of P (under m) ≡ under (round_of P m)
   unfolding round_of
-  round_renamed P m = ap (clean_of P) (merge_renamed (expr_of P m)) ∙ clean_renamed P (merge_of (expr_of P m))
+  round_renamed P m = clean_renamed P (merge_of (expr_of P m))
 
   rounds_renamed : (P : Ports) (n : ℕ) (m : Module) → rounds_of P n (under m) ≡ under (rounds_of P n m)
   unfolding rounds_of
@@ -100,7 +93,7 @@ module _ (id : List ℕ) where
   pass_renamed : (table : PortTable) (word : words.Word) (m : Module) → pass_of table word (under m) ≡ option_map under (pass_of table word m)
   pass_renamed table Proc m = proc_renamed id (table_ports table.modules) m m.processes
   pass_renamed table OptExpr m = refl
-  pass_renamed table OptMerge m = ap Some (merge_renamed m)
+  pass_renamed table OptMerge m = refl
   pass_renamed table OptClean m = ap Some (clean_renamed (table_ports table.modules) m)
   pass_renamed table Opt m = ap Some (opt_renamed (table_ports table.modules) m)
   pass_renamed table Fsm m = fsm_renamed id (table_ports table.modules) m

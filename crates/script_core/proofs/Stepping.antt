@@ -1,5 +1,6 @@
 -- What the pass of each word keeps.
 use Rattle.std.proofs.Common.{◌≡◌, ◌⊎◌, ⊎_elim, ℕ, zero, suc, Bool, true, false, cond, Option, Some, None, List, [], ◌∷◌, inl, inr, refl, sym, ◌∙◌, ap, subst}
+use Rattle.rtl_ir.specs.Flat.Tree as flat
 use Rattle.rtl_ir.specs.Types.{Ports, table_ports}
 use Rattle.rtl_ir.specs.declared.module.Module.{Module}
 use Rattle.rtl_ir.specs.declared.ports.PortTable.{PortTable}
@@ -18,7 +19,7 @@ use Rattle.pass_laws.specs.Pass.{IsPass}
 use Rattle.pass_laws.proofs.Faultless.{plain}
 use Rattle.pass_laws.proofs.Passes.{IsPass_refl, IsPass_trans}
 use Rattle.opt_expr.specs.Sweep.{expr_of}
-use Rattle.opt_merge.specs.Merge.{drives_own, merge_of, merging_of, with_merging}
+use Rattle.opt_merge.specs.Merge.{merge_of}
 use Rattle.opt_clean.specs.Clean.{clean_of, is_all_inside, reduced}
 use Rattle.opt_clean.specs.Wires.{trimmed}
 use Rattle.follow_laws.specs.Inputs.{followed}
@@ -26,7 +27,7 @@ use Rattle.opt_rounds.specs.Rounds.{opt_of, round_of, rounds_of}
 use Rattle.opt_expr.proofs.Sweeping.{expr_passes}
 use Rattle.opt_merge.proofs.Refining.{merge_pass}
 use Rattle.opt_clean.proofs.Cleaning.{clean_pass}
-use Rattle.opt_rounds.proofs.Rounding.{opt_pass}
+use Rattle.opt_rounds.proofs.Rounding.{opt_pass, pass_driven}
 use Rattle.opt_more.specs.Dff.{dff_of}
 use Rattle.opt_more.specs.Muxtree.{muxtree_of}
 use Rattle.opt_more.specs.Reduce.{reduce_of}
@@ -64,19 +65,16 @@ same_names m n e named = subst (λ (ss : List Store). Distinct (map (λ (s : Sto
 -- a pass that keeps the memories
 goes : (table : PortTable) (m n : Module) → MayGoOn table m → IsPass table m n → n.memories ≡ m.memories → GoesOn table m n
 goes table m n h pass e =
-    record { pass = pass; next = record { ready = pass.ready h.ready; named = same_names m n e h.named }; stores = inl e }
+    record {
+      pass = pass;
+      next = record { ready = pass.ready h.ready; driven = pass_driven table m n pass h.driven; named = same_names m n e h.named };
+      stores = inl e;
+    }
 
 goes_to : (table : PortTable) (m k n : Module) → GoesOn table m k → Some k ≡ Some n → GoesOn table m n
 goes_to table m k n g e = let same : k ≡ n = cc in subst (GoesOn table m) same g
 
 -- ---- the memories stay
-
-merge_stores : (m : Module) → (merge_of m).memories ≡ m.memories
-merge_stores m = by (drives_own m)
-  where
-    by : (t : Bool) → (cond t (with_merging m (merging_of m)) m).memories ≡ m.memories
-    by true = refl
-    by false = refl
 
 clean_stores : (ports : Ports) (m : Module) → (clean_of ports m).memories ≡ m.memories
 clean_stores ports m = by (is_all_inside m)
@@ -87,7 +85,7 @@ clean_stores ports m = by (is_all_inside m)
 
 round_stores : (ports : Ports) (m : Module) → (round_of ports m).memories ≡ m.memories
 unfolding round_of
-round_stores ports m = clean_stores ports (merge_of (expr_of ports m)) ∙ merge_stores (expr_of ports m)
+round_stores ports m = clean_stores ports (merge_of (expr_of ports m))
 
 rounds_stores : (ports : Ports) (n : ℕ) (m : Module) → (rounds_of ports n m).memories ≡ m.memories
 unfolding rounds_of
@@ -114,6 +112,7 @@ memory_goes table m n h e =
       pass = all.pass;
       next = record {
         ready = all.pass.ready h.ready;
+        driven = pass_driven table m n all.pass h.driven;
         named = subst (λ (ss : List Store). Distinct (map (λ (s : Store). s.name) ss)) (sym all.memories) tt;
       };
       stores = inr all.memories;
@@ -131,12 +130,16 @@ no_process table m n p ps e h = let none = (plain (table_ports table.modules) m 
 stays_on : (table : PortTable) (m : Module) → m.processes ≡ [] → MayStart table m → GoesOn table m m
 stays_on table m e h =
     let g = stays table m h.begins e in
-    record { pass = step_passes table m m g.step g.ready; next = record { ready = g.ready; named = h.named }; stores = inl refl }
+    record { pass = step_passes table m m g.step g.ready; next = record { ready = g.ready; driven = h.driven; named = h.named }; stores = inl refl }
 
 proc_goes : (table : PortTable) (m n : Module) → MayStart table m → proc_result (table_ports table.modules) m ≡ Some n → GoesOn table m n
 proc_goes table m n h e =
     let g = proc_gives table m n h.begins e in
-    record { pass = step_passes table m n g.step g.ready; next = record { ready = g.ready; named = same_names m n g.stores h.named }; stores = inl g.stores }
+    record {
+      pass = step_passes table m n g.step g.ready;
+      next = record { ready = g.ready; driven = g.step.driven (flat.table_ports table) h.driven; named = same_names m n g.stores h.named };
+      stores = inl g.stores;
+    }
 
 proc_word : (table : PortTable) (m n : Module) → MayBeGiven table Proc m → proc_within (table_ports table.modules) m m.processes ≡ Some n → GoesOn table m n
 proc_word table m n h e = by m.processes refl h e
@@ -151,7 +154,7 @@ proc_word table m n h e = by m.processes refl h e
 pub word_goes : (table : PortTable) (word : Word) (m n : Module) → MayBeGiven table word m → pass_of table word m ≡ Some n → GoesOn table m n
 word_goes table Proc m n h e = proc_word table m n h e
 word_goes table OptExpr m n h e = goes_to table m (expr_of (table_ports table.modules) m) n (goes table m _ h (expr_passes table m h.ready) refl) e
-word_goes table OptMerge m n h e = goes_to table m (merge_of m) n (goes table m _ h (merge_pass table m h.ready) (merge_stores m)) e
+word_goes table OptMerge m n h e = goes_to table m (merge_of m) n (goes table m _ h (merge_pass table m h.ready) refl) e
 word_goes table OptClean m n h e =
     goes_to table m (clean_of (table_ports table.modules) m) n (goes table m _ h (clean_pass table m h.ready) (clean_stores (table_ports table.modules) m)) e
 word_goes table Opt m n h e =

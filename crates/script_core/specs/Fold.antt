@@ -2,7 +2,9 @@
 use Rattle.std.specs.Prelude.{◌≡◌, ◌⊎◌, List, [], ◌∷◌, Option, Some, None, if◌then◌else◌}
 use Rattle.rtl_ir.specs.declared.module.Module.{Module}
 use Rattle.rtl_ir.specs.declared.ports.PortTable.{PortTable}
+use Rattle.rtl_ir.specs.Flat.Tree as flat
 use Rattle.rtl_ir.specs.Types.{table_ports}
+use Rattle.net_model.specs.Refine.{IsWellDriven}
 use Rattle.pass_laws.specs.OwnNames.{HaveOwnNames}
 use Rattle.fsm_steps.specs.Within.{fsm_within}
 use Rattle.mem_steps.specs.Within.{memory_within}
@@ -50,14 +52,17 @@ abbrev pub fold_script : List Word → PortTable → Module → Outcome
 fold_script [] table m = Done m
 fold_script (word ∷ words) table m = after_word word (fold_script words table) (pass_of table word m)
 
--- a module may be given to a script, over the ports of a table: to `proc`, and no two of its memories have one name
+-- a module may be given to a script, over the ports of a table: to `proc`, no bit has two drivers, and no two of its memories
+-- have one name
 pub record MayStart (table : PortTable) (m : Module) : Type 0 where
   pub begins : MayBegin table m
+  pub driven : IsWellDriven (flat.table_ports table) m
   pub named : HaveOwnNames m
 
--- a module may be given to each pass: without processes, and no two of its memories have one name
+-- a module may be given to each pass: without processes, no bit has two drivers, and no two of its memories have one name
 pub record MayGoOn (table : PortTable) (m : Module) : Type 0 where
   pub ready : IsReady (table_ports table.modules) m
+  pub driven : IsWellDriven (flat.table_ports table) m
   pub named : HaveOwnNames m
 
 -- a module may be given to the pass of a word

@@ -11,6 +11,7 @@ use Rattle.rtl_bits.specs.declared.bit.Bit.TheVariants.{S0, S1, X, Z, M, Dash}
 use Rattle.rtl_bits.specs.Numbers.{low_bit_of}
 use Rattle.rtl_bits.specs.Tables.{and_of}
 use Rattle.cell_gate.specs.Control.{pick_of}
+use Rattle.cell_word.proofs.Numbered.{and_assoc}
 use Rattle.rtl_ir.specs.Flat.Place.{Place}
 use Rattle.rtl_ir.specs.Flat.Point.{point_at}
 use Rattle.net_model.specs.Picked.{equal_of}
@@ -28,23 +29,6 @@ use Rattle.sim_eval.proofs.Bridges.{read_same, word_same}
 use Rattle.sim_eval.proofs.Taking.{all_at}
 
 -- the table of and
-
-pub and_assoc : (a b c : Bit) → and_of a (and_of b c) ≡ and_of (and_of a b) c
-and_assoc S0 b c = refl
-and_assoc S1 S0 c = refl
-and_assoc S1 S1 S0 = refl
-and_assoc S1 S1 S1 = refl
-and_assoc S1 S1 c = refl
-and_assoc S1 b S0 = refl
-and_assoc S1 b S1 = refl
-and_assoc S1 b c = refl
-and_assoc a S0 c = refl
-and_assoc a S1 S0 = refl
-and_assoc a S1 S1 = refl
-and_assoc a S1 c = refl
-and_assoc a b S0 = refl
-and_assoc a b S1 = refl
-and_assoc a b c = refl
 
 one_and : (a b : Bit) → and_of S1 (and_of a b) ≡ and_of a b
 one_and S0 b = refl

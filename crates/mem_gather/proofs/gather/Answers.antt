@@ -1,5 +1,5 @@
 use Rattle.std.proofs.Common.{length, refl}
-use Rattle.mem_gather.proofs.First.{none_after}
+use Rattle.net_model.proofs.MemoryCells.{none_after}
 use Rattle.mem_gather.proofs.gather.Goals as goal
 
 pub gather_first-requires-clause-first : goal.gather_first-requires-clause-first

@@ -1,7 +1,8 @@
 use Rattle.std.proofs.Common.{◌≡◌, ◌∙◌, Err, ap, false, length, refl, rules, sym}
 use Rattle.std.specs.Prelude.{◌==◌}
 use Rattle.net_index.specs.declared.builder_fault.PassFault.TheVariants as faults
-use Rattle.mem_steps.proofs.FirstCells.{next_plain, none_after}
+use Rattle.net_model.proofs.MemoryCells.{none_after}
+use Rattle.mem_steps.proofs.FirstCells.{next_plain}
 use Rattle.mem_steps.proofs.Turns.{goes, passes}
 use Rattle.mem_steps.proofs.each_memory.Goals as goal
 

@@ -3,7 +3,7 @@ use Rattle.std.proofs.Common.{◌≡◌, drop, length}
 use Rattle.net_model.specs.Mem.Expand.{memory_of}
 use Rattle.net_model.specs.Within.{Each}
 use Rattle.mem_steps.specs.Within.{are_within}
-use Rattle.mem_steps.proofs.FirstCells.{IsPlain}
+use Rattle.net_model.proofs.MemoryCells.{IsPlain}
 use Rattle.mem_steps.proofs.each_memory.Given as goal
 
 abbrev pub invariant-loop-alloc : goal.invariant-loop-alloc

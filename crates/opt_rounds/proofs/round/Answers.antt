@@ -1,10 +1,13 @@
 use Rattle.std.proofs.Common.{◌≡◌, Bool, true, sym, subst}
 use Rattle.rtl_ir.specs.Types.{table_ports}
-use Rattle.opt_rounds.proofs.Rounding.{one_round, round_same}
+use Rattle.opt_rounds.proofs.Rounding.{one_round, pass_driven, round_same}
 use Rattle.opt_rounds.proofs.round.Goals as goal
 
 pub merged-requires : goal.merged-requires
-merged-requires c = record { ready = c.in_ok-folded.ensures.pass.ready c.requires.ready }
+merged-requires c = record {
+  ready = c.in_ok-folded.ensures.pass.ready c.requires.ready;
+  driven = pass_driven c.args.ports.now c.args.module c.in_ok-folded.folded.after c.in_ok-folded.ensures.pass c.requires.driven;
+}
 
 pub returns-clause-exact : goal.returns-clause-exact
 returns-clause-exact c =

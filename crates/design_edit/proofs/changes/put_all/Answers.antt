@@ -1,4 +1,4 @@
-use Rattle.std.proofs.Common.{◌≡◌, ◌+◌, ◌∷◌, ◌∙◌, List, ap, arith, get_or, length, subst, sym}
+use Rattle.std.proofs.Common.{◌+◌, ◌∷◌, ◌∙◌, List, ap, arith, get_or, length, subst, sym}
 use Rattle.rtl_ir.specs.declared.module.Module.{Module}
 use Rattle.design_edit.specs.Modules.{place_for}
 use Rattle.design_edit.proofs.Changing.{Putting, in_turn, put_more, with_one}

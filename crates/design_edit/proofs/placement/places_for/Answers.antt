@@ -1,5 +1,4 @@
-use Rattle.std.proofs.Common.{◌≡◌, ◌+◌, ◌≤◌, ◌∙◌, ◌++◌, ◌∷◌, [], ℕ, ap, arith, subst, sym, take}
-use Rattle.rtl_ir.specs.declared.limits.TheConstants.{MAX_MODULES}
+use Rattle.std.proofs.Common.{◌≡◌, ◌+◌, ◌∙◌, ◌++◌, ◌∷◌, [], ℕ, ap, arith, subst, sym, take}
 use Rattle.design_edit.specs.Modules.{PassesAt, place_for, with_module, with_modules}
 use Rattle.design_edit.specs.Table.{ArePlaces}
 use Rattle.design_edit.proofs.Editing.{AreCounted, counted_again, counted_more, passes_at, places_more}

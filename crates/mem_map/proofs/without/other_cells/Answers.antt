@@ -1,6 +1,7 @@
 use Rattle.std.proofs.Common.{◌≡◌, ◌∙◌, ◌∷◌, ◌++◌, ap, arith, drop, filter, subst, sym}
 use Rattle.net_model.specs.Within.{Each}
-use Rattle.mem_map.proofs.StayingCells.{IsPlain, kept_behind, one_gone, one_kept, rest_plain, stays}
+use Rattle.net_model.proofs.MemoryCells.{IsPlain, stays}
+use Rattle.mem_map.proofs.StayingCells.{kept_behind, one_gone, one_kept, rest_plain}
 use Rattle.mem_map.proofs.without.other_cells.Goals.{else-left-eq0, then-left-eq0}
 use Rattle.mem_map.proofs.without.other_cells.Goals as goal
 

@@ -8,5 +8,5 @@ returns c = record {
   value = λ m is.
       let here = c.follow-here.ensures.value (table_ports []) m is in
       let there = c.follow-there.ensures.value (table_ports []) m is in
-      c.is_same_place.ensures.value ∙ (λ i. same_place (here i) (there i));
+      c.same_place.ensures.value ∙ (λ i. same_place (here i) (there i));
 }

@@ -1,8 +1,7 @@
-use Rattle.std.proofs.Common.{◌≡◌, ℕ, suc, ◌+◌, ◌-◌, ◌++◌, ◌∷◌, [], List, length, None, Some, sym, ◌∙◌, ap, arith}
+use Rattle.std.proofs.Common.{◌≡◌, ℕ, suc, ◌+◌, ◌-◌, List, length, sym, ◌∙◌, ap, arith}
 use Rattle.cell_types.specs.PinName.{pin_text}
 use Rattle.cell_types.specs.declared.pin_name.PinName.TheVariants.{Q}
 use Rattle.rtl_sig.specs.declared.sig.SigBit.{SigBit}
-use Rattle.rtl_sig.specs.declared.sig.SigBit.TheVariants.{Fixed}
 use Rattle.rtl_ir.specs.Parameters.{signal_at}
 use Rattle.opt_more.specs.Dff.{settled_bit, settled_from}
 use Rattle.opt_more.proofs.RegisterSteps.{place_open, place_settled, values_then}

@@ -11,7 +11,7 @@ use Rattle.opt_more.proofs.sweep.visit_all.Given as goal
 
 abbrev pub invariant-loop-cell : goal.invariant-loop-cell
 invariant-loop-cell l = record {
-  so_far : (ports : rtl.Ports) (wires : List Wire) → AreTypes l.types ports → l.inits ≡ inits_of wires → swept_by (visit_by l.pass ports wires l.fn.cells.items) l.done.items l.rest.items l.links ≡ swept_by (visit_by l.pass ports wires l.fn.cells.items) [] l.fn.cells.items l.fn.links;
+  so_far : (ports : rtl.Ports) (wires : List Wire) → AreTypes l.by.types.now ports → l.by.inits.now ≡ inits_of wires → swept_by (visit_by l.by.pass ports wires l.fn.cells.items) l.done.items l.rest.items l.links ≡ swept_by (visit_by l.by.pass ports wires l.fn.cells.items) [] l.fn.cells.items l.fn.links;
   aliases : IsAliases l.aliases l.links;
 }
 

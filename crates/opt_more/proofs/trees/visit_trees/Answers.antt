@@ -1,9 +1,7 @@
-use Rattle.std.proofs.Common.{◌≡◌, List, [], ◌++◌, length, map, Option, Some, arith, subst}
+use Rattle.std.proofs.Common.{◌≡◌, [], ◌++◌, length, map, Some, arith, subst}
 use Rattle.rtl_ir.specs.Types.{table_ports}
-use Rattle.rtl_ir.specs.declared.cell.Cell.{Cell}
 use Rattle.opt_expr.specs.Places.{ArePlaces}
-use Rattle.opt_more.specs.Ends.{AreArms}
-use Rattle.opt_more.specs.Muxtree.{muxtree_visit, standing_now}
+use Rattle.opt_more.specs.Muxtree.{muxtree_visit}
 use Rattle.opt_more.specs.Sweep.{swept_by}
 use Rattle.opt_more.proofs.MuxTurns.{all_visited, arms_before, arms_behind, visited}
 use Rattle.opt_more.proofs.trees.visit_trees.Goals as goal

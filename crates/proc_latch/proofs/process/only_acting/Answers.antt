@@ -1,7 +1,7 @@
 use Rattle.std.proofs.Common.{◌≡◌, ◌≤◌, ◌+◌, ◌-◌, length, drop, true, sym, ◌∙◌, ap, arith, length-drop, Some, None, if◌then◌else◌}
 use Rattle.std.specs.List.{list_any}
 use Rattle.std.proofs.lemmas.List.{take_all}
-use Rattle.proc_latch.specs.Steps.{acts}
+use Rattle.process_trees.specs.Acting.{acts}
 use Rattle.proc_latch.proofs.Acting.{lone_at}
 use Rattle.proc_latch.proofs.process.only_acting.Goals as goal
 

@@ -10,15 +10,15 @@ use Rattle.proc_mux.proofs.walk.+tree.Given as goal
 -- what is left of the switches gives what all give
 abbrev pub invariant-switches_value-loop-switch : goal.invariant-switches_value-loop-switch
 invariant-switches_value-loop-switch l = record {
-  all : switches_value l.given l.node (switches_of (drop l.switch-index l.switches)) l.value (seen l.trees) ≡ switches_value l.given l.initial.node (switches_of l.switches) l.initial.value (seen l.initial.trees);
-  has : HasSwitches l.table l.node (switches_of (drop l.switch-index l.switches));
+  all : switches_value l.by.given.now l.node (switches_of (drop l.switch-index l.switches)) l.value (seen l.trees) ≡ switches_value l.by.given.now l.initial.node (switches_of l.switches) l.initial.value (seen l.initial.trees);
+  has : HasSwitches l.by.table.now l.node (switches_of (drop l.switch-index l.switches));
   within : IsInLimits l.initial.trees.builder → IsInLimits l.trees.builder;
 }
 
 -- the value is what stands for the cases that are done
 abbrev pub invariant-cases_value-loop-at : goal.invariant-cases_value-loop-at
 invariant-cases_value-loop-at l = record {
-  all : (l.value, seen l.trees) ≡ cases_from l.given l.node l.signal l.fn.prior (seen l.initial.trees) l.cases l.at;
+  all : (l.value, seen l.trees) ≡ cases_from l.by.given.now l.node l.signal l.fn.prior (seen l.initial.trees) l.cases l.at;
   within : IsInLimits l.initial.trees.builder → IsInLimits l.trees.builder;
 }
 

@@ -1,4 +1,4 @@
-use Rattle.std.proofs.Common.{◌∙◌, sym, subst, List}
+use Rattle.std.proofs.Common.{sym, subst, List}
 use Rattle.script_core.specs.declared.word.Word.{Word}
 use Rattle.script_core.specs.Fold.{AreApplicable}
 use Rattle.script_core.proofs.Reading.{read_key, value_of_answer}
