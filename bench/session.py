@@ -1,6 +1,7 @@
 #!/usr/bin/env python3
 """Measures the commands of a session over modules that differ: the first `run`, a second one, an edit of one module with a `run`,
-and a `print`; and the memory of a session in which one module is edited 1,000 times back and forth.
+and a `print`; and the memory of sessions in which one module is edited, 1,000 times back and forth and up to 10,000 times to ever
+new bodies.
 
 usage: bench/session.py [--program PATH] [MODULES]      200 modules without a number; crates/rtlsyn/out/rtlsyn --session
 
@@ -42,6 +43,12 @@ def edits(modules, constants):
     """Edits of the widest module, each with a `run`."""
     widest = max(range(modules), key=lambda number: number % 64)
     return ''.join(block('edit', [widest], constant) + 'run\n' for constant in constants)
+
+
+def ever_new(count):
+    """Edits of a small module, each to a body that it never had, each with a `run`."""
+    return ''.join(f"edit\nmodule \\m0\n  wire width 32 output 1 \\y\n  connect \\y 32'{number:032b}\nend\n.\nrun\n"
+                   for number in range(1, count + 1))
 
 
 def measured(program, session):
@@ -92,6 +99,13 @@ def main():
 
     time, memory, told = measured(given.program, cold + edits(given.modules, [k % 2 + 2 for k in range(1000)]))
     print(f'1,000 edits back and forth: {1000 * (time - whole) / 1000:.2f} ms each, {memory:.0f} MB at most: {told}')
+
+    alone = block('load', [0], 1) + 'run\n'
+    _, before, _ = measured(given.program, alone)
+    for count in (2_500, 5_000, 10_000):
+        started, memory, told = measured(given.program, alone + ever_new(count))
+        print(f'{count:,} edits of one module to ever new bodies: {1000 * started / count:.2f} ms each, {memory:.0f} MB at most, '
+              f'{1024 * (memory - before) / count:.2f} KB each: {told}')
     return 0 if good else 1
 
 

@@ -1,5 +1,5 @@
 -- What a crew leaves, by what its workers went through.
-use Rattle.std.proofs.Common.{◌≡◌, ◌≢◌, ◌⊎◌, inl, inr, ℕ, zero, suc, ◌+◌, ◌<◌, ◌≤◌, List, [], ◌∷◌, ◌++◌, Bool, true, false, cond, length, slice_get, Option, Some, None, refl, sym, ap, subst, ◌∙◌, arith}
+use Rattle.std.proofs.Common.{◌≡◌, ◌≢◌, ◌⊎◌, inl, inr, ℕ, zero, suc, ◌+◌, ◌-◌, ◌<◌, ◌≤◌, List, [], ◌∷◌, ◌++◌, Bool, true, false, cond, length, slice_get, Option, Some, None, refl, sym, ap, subst, ◌∙◌, arith}
 use Rattle.std.specs.Prelude.{map}
 use Rattle.std.specs.List.{concat, range_with_len}
 use Rattle.std.specs.Str.{bytes_eq}
@@ -7,22 +7,24 @@ use Rattle.rtl_sig.specs.Names.{has_name}
 use Rattle.result_cache.specs.declared.call.Act.{Act}
 use Rattle.result_cache.specs.declared.call.Call.{Call}
 use Rattle.result_cache.specs.Meet.{HasMet}
-use Rattle.result_cache.specs.Seats.{Seated, claims, fills, give_backs, count_of}
+use Rattle.result_cache.specs.Counts.{claims, drops, fills, give_backs, count_of, times_of}
+use Rattle.result_cache.specs.Seats.{Seated}
 use Rattle.result_cache.proofs.Keys.{bytes_same}
 use Rattle.result_cache.proofs.NewKeys.{keys_below, below_more}
 use Rattle.work_crew.specs.Times.{times, once_below}
 use Rattle.work_crew.specs.Along.{numbers_of}
 use Rattle.work_crew.specs.Outcome.{Way, all_done, all_numbers, all_ticks, Finished, Stopped}
 use Rattle.work_crew.proofs.Counting.{same_or, below_or, eq_one, ne_none, lt_once, ge_none, times_append}
-use Rattle.build_crew.specs.Calls.{Does, Fails, one_if, hits, times_of}
+use Rattle.build_crew.specs.Calls.{Does, Fails, one_if, hits}
 use Rattle.build_crew.specs.Kept.{times_by, given_back}
 use Rattle.build_crew.specs.Leaves.{times_among, new_among, HasRun, HasStopped}
 use Rattle.build_crew.proofs.Numbers.{job_of, of_job}
 use Rattle.build_crew.proofs.Going.{Find, built_of, asked_of, all_built, AllHit, all_hit_more, AllFind, found_by, find_at, finds_by, finds_in, all_went, all_gone}
+use Rattle.build_crew.proofs.Counts.{Tallies}
 use Rattle.build_crew.proofs.Keeping.{total, summed, summed_same, summed_front, permuted, AllAmong, built_few, kept_still, built_all, kept_all}
 
 -- seats that met made the calls that they had made
-met_times : (counts : Act → ℕ) (q : List ℕ) (i : ℕ) (log : List Call) (mids news : List Seated) → HasMet i log mids news → times_by counts q news ≡ times_by counts q mids
+pub met_times : (counts : Act → ℕ) (q : List ℕ) (i : ℕ) (log : List Call) (mids news : List Seated) → HasMet i log mids news → times_by counts q news ≡ times_by counts q mids
 met_times counts q i log [] [] m = refl
 met_times counts q i log [] (t ∷ news) m = absurd m
 met_times counts q i log (s ∷ mids) [] m = absurd m
@@ -31,7 +33,7 @@ met_times counts q i log (s ∷ mids) (t ∷ news) m =
     let b = met_times counts q i log mids news m.3 in
     omega (arith, a, b)
 
-met_given : (i : ℕ) (log : List Call) (mids news : List Seated) → HasMet i log mids news → given_back news ≡ given_back mids
+pub met_given : (i : ℕ) (log : List Call) (mids news : List Seated) → HasMet i log mids news → given_back news ≡ given_back mids
 met_given i log [] [] m = refl
 met_given i log [] (t ∷ news) m = absurd m
 met_given i log (s ∷ mids) [] m = absurd m
@@ -171,11 +173,11 @@ keys_sum q key_of (suc n) =
 -- all jobs were done
 pub finished_run : {O : Type 0} (key_of : ℕ → List ℕ) (new_of : O → Bool) (count : ℕ) (output_fits : ℕ → O → Type 0) (items : List O) (taken : List (List ℕ)) (olds mids news : List Seated) (old now : ℕ) (log : List Call)
     → Finished output_fits (Does key_of new_of) count items taken olds mids old now → HasMet 0 log mids news
-    → ((q : List ℕ) → (times_by fills q news ≤ 1) × (1 ≤ times_by hits q news → 1 ≤ times_by fills q news))
+    → ((q : List ℕ) → Tallies q olds news)
     → HasRun (map key_of (range_with_len 0 count)) (new_among new_of items) olds news old now
 finished_run {O = O} key_of new_of count output_fits items taken olds mids news old now log f met facts = record {
-  built_is = number ∙ built_all ks xs olds news filled once among there;
-  kept = kept_all ks xs olds news filled once among there;
+  built_is = number ∙ built_all ks xs olds news filled dropped facts among there;
+  kept = kept_all ks xs olds news filled dropped facts among there;
   given = let a = met_given 0 log mids news met in let b = went.given in omega (arith, a, b);
   ticks = record { steps = f.ticks; few = let a = went.ticks in let b = number in omega (arith, a, b); risen = f.meter };
   claimed = λ q.
@@ -199,8 +201,8 @@ finished_run {O = O} key_of new_of count output_fits items taken olds mids news 
     filled : (q : List ℕ) → times_by fills q news ≡ times_by fills q olds + built_of q xs
     filled q = met_times fills q 0 log mids news met ∙ went.filled q
 
-    once : (q : List ℕ) → times_by fills q news ≤ 1
-    once q = (facts q).0
+    dropped : (q : List ℕ) → times_by drops q news ≡ times_by drops q olds
+    dropped q = met_times drops q 0 log mids news met ∙ went.dropped q
 
     inside : (k : ℕ) → 1 ≤ times k (concat taken) → k < count
     inside k some = let e = f.each_once k in below_count k count (times k (concat taken)) some (omega (arith, e))
@@ -208,21 +210,21 @@ finished_run {O = O} key_of new_of count output_fits items taken olds mids news 
     among : AllAmong ks xs
     among = among_by key_of new_of count items (concat taken) inside
 
-    hit_all : AllHit xs (λ q. times_by hits q news)
-    hit_all = all_hit_more xs (λ q. times_by hits q mids) (λ q. times_by hits q news) (λ q. let e = met_times hits q 0 log mids news met in omega (arith, e)) went.hit
+    hit_all : AllHit xs (λ q. times_by hits q news - times_by hits q olds)
+    hit_all = all_hit_more xs (λ q. times_by hits q mids - times_by hits q olds) (λ q. times_by hits q news - times_by hits q olds) (λ q. let e = met_times hits q 0 log mids news met in omega (arith, e)) went.hit
 
-    there : (q : List ℕ) → has_name ks q ≡ true → 1 ≤ times_by fills q news
+    there : (q : List ℕ) → has_name ks q ≡ true → times_by drops q news + 1 ≤ times_by fills q news
     there q is =
         let j = job_of key_of 0 count q is in
         let item = item_at items j.0 (let e = f.len in let l = j.1 in omega (arith, e, l)) in
         let once_there = lt_once j.0 count (let l = j.1 in omega (arith, l)) in
         let e = f.each_once j.0 in
-        subst (λ (k : List ℕ). 1 ≤ times_by fills k news) j.2
-        (by j.0 (entry key_of new_of count items (concat taken) j.0 item.0 (λ q. times_by hits q news) (omega (arith, once_there, e)) item.1 hit_all))
+        subst (λ (k : List ℕ). times_by drops k news + 1 ≤ times_by fills k news) j.2
+        (by j.0 (entry key_of new_of count items (concat taken) j.0 item.0 (λ q. times_by hits q news - times_by hits q olds) (omega (arith, once_there, e)) item.1 hit_all))
       where
-        by : (n : ℕ) → (1 ≤ built_of (key_of n) xs) ⊎ (1 ≤ times_by hits (key_of n) news) → 1 ≤ times_by fills (key_of n) news
-        by n (inl b) = let a = filled (key_of n) in omega (arith, a, b)
-        by n (inr h) = (facts (key_of n)).1 h
+        by : (n : ℕ) → (1 ≤ built_of (key_of n) xs) ⊎ (1 ≤ times_by hits (key_of n) news - times_by hits (key_of n) olds) → times_by drops (key_of n) news + 1 ≤ times_by fills (key_of n) news
+        by n (inl b) = let a = filled (key_of n) in let c = dropped (key_of n) in let d = (facts (key_of n)).first in omega (arith, a, b, c, d)
+        by n (inr h) = (facts (key_of n)).hit (dropped (key_of n)) (omega (arith, h))
 
     number : new_among new_of items ≡ all_built xs
     number =
@@ -255,13 +257,13 @@ done_numbers {O = O} k (g ∷ gs) =
 -- they stopped for want of memory
 pub stopped_run : {O : Type 0} (key_of : ℕ → List ℕ) (new_of : O → Bool) (count : ℕ) (olds mids news : List Seated) (old now : ℕ) (log : List Call)
     → Stopped (Does key_of new_of) (Fails key_of new_of) count olds mids old now → HasMet 0 log mids news
-    → ((q : List ℕ) → (times_by fills q news ≤ 1) × (1 ≤ times_by hits q news → 1 ≤ times_by fills q news))
+    → ((q : List ℕ) → Tallies q olds news)
     → HasStopped (map key_of (range_with_len 0 count)) olds news old now
 stopped_run key_of new_of count olds mids news old now log s met facts = record {
-  kept = kept_still ks xs olds news filled once among;
+  kept = kept_still ks xs olds news filled dropped facts among;
   gave = gone.0;
   given = met_given 0 log mids news met ∙ gone.1.given;
-  ticks = record { steps = all_ticks s.ways; few = let a = gone.1.ticks in let b = built_few ks xs olds news filled once among in omega (arith, a, b); risen = s.meter };
+  ticks = record { steps = all_ticks s.ways; few = let a = gone.1.ticks in let b = built_few ks xs olds news filled dropped facts among in omega (arith, a, b); risen = s.meter };
 }
   where
     ks : List (List ℕ)
@@ -276,8 +278,8 @@ stopped_run key_of new_of count olds mids news old now log s met facts = record 
     filled : (q : List ℕ) → times_by fills q news ≡ times_by fills q olds + built_of q xs
     filled q = met_times fills q 0 log mids news met ∙ gone.1.filled q
 
-    once : (q : List ℕ) → times_by fills q news ≤ 1
-    once q = (facts q).0
+    dropped : (q : List ℕ) → times_by drops q news ≡ times_by drops q olds
+    dropped q = met_times drops q 0 log mids news met ∙ gone.1.dropped q
 
     among : AllAmong ks xs
     among = among_in key_of new_of count (all_done s.ways) (λ k some. let a = done_numbers k s.ways in let b = s.once k in below_count k count (times k (all_numbers s.ways)) (omega (arith, a, some)) b)

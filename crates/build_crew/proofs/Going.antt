@@ -1,17 +1,19 @@
 -- What the jobs of a crew add to the calls of its seats.
-use Rattle.std.proofs.Common.{◌≡◌, ℕ, ◌+◌, ◌≤◌, List, [], ◌∷◌, ◌++◌, Bool, true, false, cond, slice_get, Option, Some, None, refl, sym, ap, subst, ◌∙◌, arith, append_assoc}
+use Rattle.std.proofs.Common.{◌≡◌, ℕ, ◌+◌, ◌-◌, ◌≤◌, List, [], ◌∷◌, ◌++◌, Bool, true, false, cond, slice_get, Option, Some, None, refl, sym, ap, subst, ◌∙◌, arith, append_assoc}
 use Rattle.std.specs.List.{concat}
 use Rattle.std.specs.Str.{bytes_eq}
 use Rattle.std.proofs.lemmas.List.{append-nil}
 use Rattle.result_cache.specs.declared.call.Act.{Act}
 use Rattle.result_cache.specs.declared.call.Call.{Call}
-use Rattle.result_cache.specs.Seats.{Seated, claims, fills, give_backs, count_of}
+use Rattle.result_cache.specs.Counts.{claims, fills, give_backs, drops, count_of, times_of}
+use Rattle.result_cache.specs.Seats.{Seated, seen_of}
+use Rattle.result_cache.specs.Shared.{StartsWith}
 use Rattle.result_cache.proofs.Keys.{bytes_true}
 use Rattle.work_crew.specs.Along.{Along, Last}
 use Rattle.work_crew.specs.Outcome.{Way, AllGone, Went, AllWent, all_done, all_ticks}
-use Rattle.build_crew.specs.Calls.{Does, Fails, one_if, hits, times_of, MadeMore, HasFound, HasFailed}
+use Rattle.build_crew.specs.Calls.{Does, Fails, one_if, hits, MadeMore, HasFound, HasFailed}
 use Rattle.build_crew.specs.Kept.{times_by, given_back}
-use Rattle.build_crew.proofs.Asking.{times_append, count_append}
+use Rattle.build_crew.proofs.Asking.{times_append, count_append, starts_itself, starts_then}
 
 -- what a job found: its key, and whether its value is new
 abbrev pub Find : Type 0
@@ -64,7 +66,9 @@ pub record Finds (xs : List Find) (gave : ℕ) (old new : Seated) (n : ℕ) : Ty
   pub shards : new.shards ≡ old.shards
   pub filled : (q : List ℕ) → times_of fills q new.calls ≡ times_of fills q old.calls + built_of q xs
   pub claimed : (q : List ℕ) → times_of claims q old.calls + asked_of q xs ≤ times_of claims q new.calls
-  pub hit : AllHit xs (λ q. times_of hits q new.calls)
+  pub dropped : (q : List ℕ) → times_of drops q new.calls ≡ times_of drops q old.calls
+  pub grows : (i : ℕ) → StartsWith (seen_of new i) (seen_of old i)
+  pub hit : AllHit xs (λ q. times_of hits q new.calls - times_of hits q old.calls)
   pub more_hit : (q : List ℕ) → times_of hits q old.calls ≤ times_of hits q new.calls
   pub given : count_of give_backs new.calls ≡ count_of give_backs old.calls + gave
   pub ticks : n ≤ all_built xs + gave
@@ -76,6 +80,8 @@ finds_none s = record {
   shards = refl;
   filled = λ q. omega arith;
   claimed = λ q. omega arith;
+  dropped = λ q. refl;
+  grows = λ i. starts_itself (seen_of s i);
   hit = tt;
   more_hit = λ q. omega arith;
   given = omega arith;
@@ -90,7 +96,11 @@ finds_both xs ys a b s t u m n f g = record {
   shards = g.shards ∙ f.shards;
   filled = λ q. let x = f.filled q in let y = g.filled q in let z = built_append q xs ys in omega (arith, x, y, z);
   claimed = λ q. let x = f.claimed q in let y = g.claimed q in let z = asked_append q xs ys in omega (arith, x, y, z);
-  hit = all_hit_append xs ys (λ q. times_of hits q u.calls) (all_hit_more xs (λ q. times_of hits q t.calls) (λ q. times_of hits q u.calls) g.more_hit f.hit) g.hit;
+  dropped = λ q. g.dropped q ∙ f.dropped q;
+  grows = λ i. starts_then (seen_of s i) (seen_of t i) (seen_of u i) (f.grows i) (g.grows i);
+  hit = all_hit_append xs ys (λ q. times_of hits q u.calls - times_of hits q s.calls)
+      (all_hit_more xs (λ q. times_of hits q t.calls - times_of hits q s.calls) (λ q. times_of hits q u.calls - times_of hits q s.calls) (λ q. let x = g.more_hit q in omega (arith, x)) f.hit)
+      (all_hit_more ys (λ q. times_of hits q u.calls - times_of hits q t.calls) (λ q. times_of hits q u.calls - times_of hits q s.calls) (λ q. let x = f.more_hit q in omega (arith, x)) g.hit);
   more_hit = λ q. let x = f.more_hit q in let y = g.more_hit q in omega (arith, x, y);
   given = let x = f.given in let y = g.given in omega (arith, x, y);
   ticks = let x = f.ticks in let y = g.ticks in let z = all_built_append xs ys in omega (arith, x, y, z);
@@ -110,6 +120,8 @@ finds_one key is_new s t n h = record {
   shards = h.made.shards;
   filled = λ q. let a = counted_more fills q s t h.more h.made in let b = h.filled q in omega (arith, a, b);
   claimed = λ q. by q (bytes_eq key q) refl;
+  dropped = λ q. let a = counted_more drops q s t h.more h.made in let b = h.dropped q in omega (arith, a, b);
+  grows = h.made.grows;
   hit = (λ e. let a = counted_more hits key s t h.more h.made in let b = h.hit e in omega (arith, a, b), tt);
   more_hit = λ q. let a = counted_more hits q s t h.more h.made in omega (arith, a);
   given = let a = given_more s t h.more h.made in let b = h.gave in omega (arith, a, b);
@@ -136,6 +148,8 @@ finds_failed s t n h = (
     shards = h.made.shards;
     filled = λ q. let a = counted_more fills q s t h.more h.made in let b = h.filled q in omega (arith, a, b);
     claimed = λ q. let a = counted_more claims q s t h.more h.made in omega (arith, a);
+    dropped = λ q. let a = counted_more drops q s t h.more h.made in let b = h.dropped q in omega (arith, a, b);
+    grows = h.made.grows;
     hit = tt;
     more_hit = λ q. let a = counted_more hits q s t h.more h.made in omega (arith, a);
     given = given_more s t h.more h.made;
@@ -143,24 +157,46 @@ finds_failed s t n h = (
   },
 )
 
+-- each seat forgot nothing of what it had seen
+abbrev pub AllGrew : List Seated → List Seated → Type 0
+AllGrew [] [] = Unit {0}
+AllGrew (s ∷ olds) (t ∷ news) = ((i : ℕ) → StartsWith (seen_of t i) (seen_of s i)) × AllGrew olds news
+AllGrew [] (t ∷ news) = ⊥
+AllGrew (s ∷ olds) [] = ⊥
+
 -- all seats, each of which found what stands at its place
 pub record AllFind (xs : List Find) (gave : ℕ) (olds news : List Seated) (n : ℕ) : Type 0 where
   pub filled : (q : List ℕ) → times_by fills q news ≡ times_by fills q olds + built_of q xs
   pub claimed : (q : List ℕ) → times_by claims q olds + asked_of q xs ≤ times_by claims q news
-  pub hit : AllHit xs (λ q. times_by hits q news)
+  pub dropped : (q : List ℕ) → times_by drops q news ≡ times_by drops q olds
+  pub grows : AllGrew olds news
+  pub hit : AllHit xs (λ q. times_by hits q news - times_by hits q olds)
+  pub more_hit : (q : List ℕ) → times_by hits q olds ≤ times_by hits q news
   pub given : given_back news ≡ given_back olds + gave
   pub ticks : n ≤ all_built xs + gave
 
 all_find_none : AllFind [] 0 [] [] 0
-all_find_none = record { filled = λ q. omega arith; claimed = λ q. omega arith; hit = tt; given = omega arith; ticks = omega arith }
+all_find_none = record {
+  filled = λ q. omega arith;
+  claimed = λ q. omega arith;
+  dropped = λ q. refl;
+  grows = tt;
+  hit = tt;
+  more_hit = λ q. omega arith;
+  given = omega arith;
+  ticks = omega arith;
+}
 
 all_find_more : (xs ys : List Find) (a b : ℕ) (s t : Seated) (olds news : List Seated) (m n : ℕ) → Finds xs a s t m → AllFind ys b olds news n → AllFind (xs ++ ys) (a + b) (s ∷ olds) (t ∷ news) (m + n)
 all_find_more xs ys a b s t olds news m n f g = record {
   filled = λ q. let x = f.filled q in let y = g.filled q in let z = built_append q xs ys in omega (arith, x, y, z);
   claimed = λ q. let x = f.claimed q in let y = g.claimed q in let z = asked_append q xs ys in omega (arith, x, y, z);
-  hit = all_hit_append xs ys (λ q. times_by hits q (t ∷ news))
-      (all_hit_more xs (λ q. times_of hits q t.calls) (λ q. times_by hits q (t ∷ news)) (λ q. omega arith) f.hit)
-      (all_hit_more ys (λ q. times_by hits q news) (λ q. times_by hits q (t ∷ news)) (λ q. omega arith) g.hit);
+  dropped = λ q. let x = f.dropped q in let y = g.dropped q in omega (arith, x, y);
+  grows = (f.grows, g.grows);
+  hit = all_hit_append xs ys (λ q. times_by hits q (t ∷ news) - times_by hits q (s ∷ olds))
+      (all_hit_more xs (λ q. times_of hits q t.calls - times_of hits q s.calls) (λ q. times_by hits q (t ∷ news) - times_by hits q (s ∷ olds)) (λ q. let x = g.more_hit q in omega (arith, x)) f.hit)
+      (all_hit_more ys (λ q. times_by hits q news - times_by hits q olds) (λ q. times_by hits q (t ∷ news) - times_by hits q (s ∷ olds)) (λ q. let x = f.more_hit q in omega (arith, x)) g.hit);
+  more_hit = λ q. let x = f.more_hit q in let y = g.more_hit q in omega (arith, x, y);
   given = let x = f.given in let y = g.given in omega (arith, x, y);
   ticks = let x = f.ticks in let y = g.ticks in let z = all_built_append xs ys in omega (arith, x, y, z);
 }

@@ -6,15 +6,16 @@ use Rattle.std.specs.Str.{bytes_eq}
 use Rattle.std.proofs.lemmas.Map.Made.{length-from_keys, length-le_from_is_member}
 use Rattle.rtl_sig.specs.Names.{AreDistinct, has_name}
 use Rattle.result_cache.specs.Filled.{in_rising_order, new_count, with_keys}
-use Rattle.result_cache.specs.Seats.{Seated, fills}
+use Rattle.result_cache.specs.Counts.{drops, fills}
+use Rattle.result_cache.specs.Seats.{Seated}
 use Rattle.result_cache.proofs.Keys.{bytes_same, bytes_true, bytes_other, none_of, distinct_of, differ_of}
 use Rattle.result_cache.proofs.NewKeys.{among_keys}
 use Rattle.result_cache.proofs.Rising.{rising_order, same_rising, among_filtered}
 use Rattle.work_crew.specs.Times.{hit, times, once_below}
 use Rattle.work_crew.proofs.Counting.{same_or, below_or, eq_one, ne_none, lt_once, ge_none, times_append}
 use Rattle.build_crew.specs.Calls.{one_if}
-use Rattle.build_crew.specs.Kept.{HasStill, filled_by, times_by, kept_by}
-use Rattle.build_crew.proofs.Counts.{kept_tells}
+use Rattle.build_crew.specs.Kept.{HasStill, filled_by, times_by, is_kept_by, kept_by}
+use Rattle.build_crew.proofs.Counts.{Tallies, kept_tells}
 use Rattle.build_crew.proofs.Going.{Find, built_of, all_built}
 
 -- the sum over the numbers of a list
@@ -180,15 +181,20 @@ same_bools true b f g = sym (f refl)
 same_bools false true f g = g refl
 same_bools false false f g = refl
 
--- seats found these, and no key is filled twice
+-- a key is kept by seats, or it is not
+abbrev KeptOrNot : List ℕ → List Seated → Type 0
+KeptOrNot q seats = ((times_by fills q seats ≤ times_by drops q seats) × (has_name (kept_by seats) q ≡ false)) ⊎ ((times_by drops q seats + 1 ≤ times_by fills q seats) × (has_name (kept_by seats) q ≡ true))
+
+-- seats found these and gave up no value, and no key is filled again before its value is given up
 module _ (keys : List (List ℕ)) (xs : List Find) (olds news : List Seated)
     (filled : (q : List ℕ) → times_by fills q news ≡ times_by fills q olds + built_of q xs)
-    (once : (q : List ℕ) → times_by fills q news ≤ 1) (among : AllAmong keys xs) where
+    (dropped : (q : List ℕ) → times_by drops q news ≡ times_by drops q olds)
+    (tallied : (q : List ℕ) → Tallies q olds news) (among : AllAmong keys xs) where
   abbrev new_keys : List (List ℕ)
   new_keys = filter (λ key. not (has_name (kept_by olds) key)) keys
 
   built_once : (q : List ℕ) → built_of q xs ≤ 1
-  built_once q = let a = filled q in let b = once q in omega (arith, a, b)
+  built_once q = let a = filled q in let b = (tallied q).once in let c = (tallied q).first in let d = dropped q in omega (arith, a, b, c, d)
 
   -- a key that was built was not kept, and is one of the keys
   built_new : (q : List ℕ) → has_name (built_keys xs) q ≡ true → has_name new_keys q ≡ true
@@ -197,10 +203,10 @@ module _ (keys : List (List ℕ)) (xs : List Find) (olds news : List Seated)
       ∙ and_true (has_name keys q) (not (has_name (kept_by olds) q)) (among_built keys q xs among is) (ap not (absent (built_tells q xs) (kept_tells q olds)))
     where
       absent : ((built_of q xs ≡ 0) × (has_name (built_keys xs) q ≡ false)) ⊎ ((1 ≤ built_of q xs) × (has_name (built_keys xs) q ≡ true))
-          → ((times_by fills q olds ≡ 0) × (has_name (kept_by olds) q ≡ false)) ⊎ ((1 ≤ times_by fills q olds) × (has_name (kept_by olds) q ≡ true)) → has_name (kept_by olds) q ≡ false
+          → KeptOrNot q olds → has_name (kept_by olds) q ≡ false
       absent (inl r) k = absurd (true≢false (sym is ∙ r.1))
       absent (inr r) (inl k) = k.1
-      absent (inr r) (inr k) = let a = filled q in let b = once q in let c = r.0 in let d = k.0 in absurd (omega (arith, a, b, c, d))
+      absent (inr r) (inr k) = let a = filled q in let b = (tallied q).once in let c = r.0 in let d = k.0 in let e = dropped q in absurd (omega (arith, a, b, c, d, e))
 
   pub built_few : all_built xs ≤ new_count (kept_by olds) keys
   built_few =
@@ -212,14 +218,14 @@ module _ (keys : List (List ℕ)) (xs : List Find) (olds news : List Seated)
   pub kept_still : HasStill (kept_by olds) (kept_by news)
   kept_still q is = by (kept_tells q olds) (kept_tells q news)
     where
-      by : ((times_by fills q olds ≡ 0) × (has_name (kept_by olds) q ≡ false)) ⊎ ((1 ≤ times_by fills q olds) × (has_name (kept_by olds) q ≡ true))
-          → ((times_by fills q news ≡ 0) × (has_name (kept_by news) q ≡ false)) ⊎ ((1 ≤ times_by fills q news) × (has_name (kept_by news) q ≡ true)) → has_name (kept_by news) q ≡ true
+      by : KeptOrNot q olds
+          → KeptOrNot q news → has_name (kept_by news) q ≡ true
       by (inl k) m = absurd (true≢false (sym is ∙ k.1))
       by (inr k) (inr m) = m.1
-      by (inr k) (inl m) = let a = filled q in let b = k.0 in let c = m.0 in absurd (omega (arith, a, b, c))
+      by (inr k) (inl m) = let a = filled q in let b = k.0 in let c = m.0 in let d = dropped q in absurd (omega (arith, a, b, c, d))
 
   -- and each of the keys is filled
-  module _ (there : (q : List ℕ) → has_name keys q ≡ true → 1 ≤ times_by fills q news) where
+  module _ (there : (q : List ℕ) → has_name keys q ≡ true → times_by drops q news + 1 ≤ times_by fills q news) where
     new_built : (q : List ℕ) → has_name new_keys q ≡ true → has_name (built_keys xs) q ≡ true
     new_built q is = by (built_tells q xs) (kept_tells q olds)
       where
@@ -227,9 +233,9 @@ module _ (keys : List (List ℕ)) (xs : List Find) (olds news : List Seated)
         both = and_parts (has_name keys q) (not (has_name (kept_by olds) q)) (sym (among_filtered (λ key. not (has_name (kept_by olds) key)) q keys) ∙ is)
 
         by : ((built_of q xs ≡ 0) × (has_name (built_keys xs) q ≡ false)) ⊎ ((1 ≤ built_of q xs) × (has_name (built_keys xs) q ≡ true))
-            → ((times_by fills q olds ≡ 0) × (has_name (kept_by olds) q ≡ false)) ⊎ ((1 ≤ times_by fills q olds) × (has_name (kept_by olds) q ≡ true)) → has_name (built_keys xs) q ≡ true
+            → KeptOrNot q olds → has_name (built_keys xs) q ≡ true
         by (inr r) k = r.1
-        by (inl r) (inl k) = let a = filled q in let b = r.0 in let c = k.0 in let d = there q both.0 in absurd (omega (arith, a, b, c, d))
+        by (inl r) (inl k) = let a = filled q in let b = r.0 in let c = k.0 in let d = there q both.0 in let e = dropped q in absurd (omega (arith, a, b, c, d, e))
         by (inl r) (inr k) = absurd (true≢false (sym k.1 ∙ not_true (has_name (kept_by olds) q) both.1))
 
     pub built_all : all_built xs ≡ new_count (kept_by olds) keys
@@ -244,7 +250,7 @@ module _ (keys : List (List ℕ)) (xs : List Find) (olds news : List Seated)
     in_order xs (key ∷ more) = in_order (key ∷ xs) more
 
     pub kept_all : kept_by news ≡ with_keys (kept_by olds) keys
-    kept_all = by (in_order (filled_by olds) keys)
+    kept_all = by (in_order (filter (is_kept_by olds) (filled_by olds)) keys)
       where
         same : (q : List ℕ) → has_name (kept_by news) q ≡ has_name (with_keys (kept_by olds) keys) q
         same q = same_bools (has_name (kept_by news) q) (has_name (with_keys (kept_by olds) keys) q) (to (kept_tells q news) (kept_tells q olds) (built_tells q xs)) back
@@ -256,16 +262,16 @@ module _ (keys : List (List ℕ)) (xs : List Find) (olds news : List Seated)
             or_right true b e = refl
             or_right false b e = e
 
-            to : ((times_by fills q news ≡ 0) × (has_name (kept_by news) q ≡ false)) ⊎ ((1 ≤ times_by fills q news) × (has_name (kept_by news) q ≡ true))
-                → ((times_by fills q olds ≡ 0) × (has_name (kept_by olds) q ≡ false)) ⊎ ((1 ≤ times_by fills q olds) × (has_name (kept_by olds) q ≡ true))
+            to : KeptOrNot q news
+                → KeptOrNot q olds
                 → ((built_of q xs ≡ 0) × (has_name (built_keys xs) q ≡ false)) ⊎ ((1 ≤ built_of q xs) × (has_name (built_keys xs) q ≡ true))
                 → has_name (kept_by news) q ≡ true → has_name (with_keys (kept_by olds) keys) q ≡ true
             to (inl n) o b is = absurd (true≢false (sym is ∙ n.1))
             to (inr n) (inr o) b is = all ∙ ap (λ (x : Bool). x || has_name keys q) o.1
             to (inr n) (inl o) (inr b) is = all ∙ or_right (has_name (kept_by olds) q) (has_name keys q) (among_built keys q xs among b.1)
-            to (inr n) (inl o) (inl b) is = let a = filled q in let c = n.0 in let d = o.0 in let e = b.0 in absurd (omega (arith, a, c, d, e))
+            to (inr n) (inl o) (inl b) is = let a = filled q in let c = n.0 in let d = o.0 in let e = b.0 in let f = dropped q in absurd (omega (arith, a, c, d, e, f))
 
-            filled_news : 1 ≤ times_by fills q news → ((times_by fills q news ≡ 0) × (has_name (kept_by news) q ≡ false)) ⊎ ((1 ≤ times_by fills q news) × (has_name (kept_by news) q ≡ true)) → has_name (kept_by news) q ≡ true
+            filled_news : times_by drops q news + 1 ≤ times_by fills q news → KeptOrNot q news → has_name (kept_by news) q ≡ true
             filled_news some (inl n) = let a = n.0 in absurd (omega (arith, a, some))
             filled_news some (inr n) = n.1
 
@@ -278,4 +284,4 @@ module _ (keys : List (List ℕ)) (xs : List Find) (olds news : List Seated)
 
         by : ((ys : List (List ℕ)) × (with_keys (kept_by olds) keys ≡ in_rising_order ys)) → kept_by news ≡ with_keys (kept_by olds) keys
         by (ys, is) =
-            same_rising (kept_by news) (in_rising_order ys) (rising_order (filled_by news)) (rising_order ys) (λ q. same q ∙ ap (λ (l : List (List ℕ)). has_name l q) is) ∙ sym is
+            same_rising (kept_by news) (in_rising_order ys) (rising_order (filter (is_kept_by news) (filled_by news))) (rising_order ys) (λ q. same q ∙ ap (λ (l : List (List ℕ)). has_name l q) is) ∙ sym is

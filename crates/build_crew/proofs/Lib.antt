@@ -7,3 +7,4 @@ pub mod Ending
 pub mod Seats
 pub mod Spent
 pub mod Crews
+pub mod Forgetting

@@ -1,5 +1,5 @@
 -- All seats of a cache, before and after a crew.
-use Rattle.std.proofs.Common.{◌≡◌, ℕ, ◌+◌, List, [], ◌∷◌, Bool, length, refl, sym, subst, ◌∙◌, arith}
+use Rattle.std.proofs.Common.{◌≡◌, ℕ, ◌+◌, List, [], ◌∷◌, Bool, refl, sym, subst, ◌∙◌}
 use Rattle.std.specs.List.{All}
 use Rattle.std.proofs.lemmas.List.Elements.{All-nil, All-cons, All-head, All-tail}
 use Rattle.atomic_table.specs.Seated.{TableId}
@@ -87,10 +87,3 @@ module _ (cache : TableId) (callers shards : ℕ) where
   seats_met i k log (s ∷ ss) [] h m = absurd m
   seats_met i k log (s ∷ ss) (t ∷ ts) h m =
       ((m.0.cache ∙ h.0.0, subst HoldsNoTicket (sym m.0.calls) h.0.1), m.0.number ∙ h.1, m.0.callers ∙ h.2, m.0.shards ∙ h.3, seats_met i (k + 1) log ss ts h.4 m.3)
-
--- as many
-pub same_count : (ss ts : List Seated) → AllSame ss ts → length ts ≡ length ss
-same_count [] [] h = refl
-same_count [] (t ∷ ts) h = absurd h
-same_count (s ∷ ss) [] h = absurd h
-same_count (s ∷ ss) (t ∷ ts) h = let e = same_count ss ts h.1 in omega (arith, e)

@@ -1,13 +1,13 @@
--- The keys that the seats of a cache have filled.
-use Rattle.std.specs.Prelude.{◌≡◌, ℕ, ◌+◌, List, [], ◌∷◌, ◌++◌, true}
+-- The keys that the seats of a cache have filled, and whose values they have not given up.
+use Rattle.std.specs.Prelude.{◌≡◌, ℕ, ◌+◌, List, [], ◌∷◌, ◌++◌, Bool, true, filter, nat_lt}
 use Rattle.atomic_table.specs.Seated.{TableId}
 use Rattle.rtl_sig.specs.Names.{has_name}
 use Rattle.result_cache.specs.declared.call.Act.{Act}
 use Rattle.result_cache.specs.declared.call.Act.TheVariants.{Fill}
 use Rattle.result_cache.specs.declared.call.Call.{Call}
 use Rattle.result_cache.specs.Filled.{in_rising_order}
-use Rattle.result_cache.specs.Seats.{Seated, IsIdle, give_backs, count_of}
-use Rattle.build_crew.specs.Calls.{times_of}
+use Rattle.result_cache.specs.Counts.{drops, fills, give_backs, count_of, times_of}
+use Rattle.result_cache.specs.Seats.{Seated, IsIdle}
 
 -- keys with one more before them, where the call on it filled it
 abbrev pub with_filled : List ℕ → Act → List (List ℕ) → List (List ℕ)
@@ -41,9 +41,13 @@ AreAllSeats cache callers shards k (s ∷ seats) =
     IsIdle cache s × (s.number ≡ k) × (s.callers ≡ callers) × (s.shards ≡ shards)
     × AreAllSeats cache callers shards (k + 1) seats
 
--- the keys that are kept: those that the seats filled, in rising order
+-- seats keep a key that they filled more often than they gave its value up
+abbrev pub is_kept_by : List Seated → List ℕ → Bool
+is_kept_by seats key = nat_lt (times_by drops key seats) (times_by fills key seats)
+
+-- the keys that are kept: those of the filled ones that the seats keep, in rising order
 abbrev pub kept_by : List Seated → List (List ℕ)
-kept_by seats = in_rising_order (filled_by seats)
+kept_by seats = in_rising_order (filter (is_kept_by seats) (filled_by seats))
 
 -- each text that was among kept ones is among them still
 abbrev pub HasStill : List (List ℕ) → List (List ℕ) → Type 0

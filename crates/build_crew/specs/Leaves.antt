@@ -5,8 +5,9 @@ use Rattle.std.specs.Str.{bytes_eq}
 use Rattle.atomic_table.specs.Seated.{TableId}
 use Rattle.result_cache.specs.declared.call.Call.{Call}
 use Rattle.result_cache.specs.Filled.{new_count, with_keys}
-use Rattle.result_cache.specs.Meet.{HasMet}
-use Rattle.result_cache.specs.Seats.{Seated, IsIdle, claims}
+use Rattle.result_cache.specs.Counts.{claims}
+use Rattle.result_cache.specs.Meet.{HasMet, Share}
+use Rattle.result_cache.specs.Seats.{Seated, IsIdle}
 use Rattle.work_crew.specs.Outcome.{Finished, Stopped}
 use Rattle.build_crew.specs.Calls.{Does, Fails, one_if}
 use Rattle.build_crew.specs.Kept.{AreAllSeats, HasStill, kept_by, times_by, given_back}
@@ -40,11 +41,13 @@ module _ (keys : List (List ℕ)) where
     pub given : given_back news ≡ given_back olds + gave
     pub ticks : RisesUpTo (new_count (kept_by olds) keys + gave) old now
 
--- all seats of a cache of so many shards, before a crew's jobs, after them, and once they have met
+-- all seats of a cache of so many shards, which shared one history of each, before a crew's jobs, after them, and once they
+-- have met
 pub record AreCrew (cache : TableId) (shards : ℕ) (olds mids news : List Seated) : Type 0 where
   pub some : 0 < shards
   pub any : 0 < length olds
   pub all : AreAllSeats cache (length olds) shards 0 olds
+  pub shared : Share shards olds
   pub idle : All (IsIdle cache) mids
   pub met : (i : ℕ) → i < shards → (log : List Call) × HasMet i log mids news
 

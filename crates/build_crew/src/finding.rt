@@ -44,7 +44,7 @@ fn build_shared<O: Order, L>(
     requires buildable { O.is_buildable order.now }
     ensures first { IfOk result (λ both. O.Value.stands_for both.0 (O.text_of order.now)) }
     ensures second { IfOk result (λ both. O.Value.stands_for both.1 (O.text_of order.now)) }
-    ensures ticks { RisesUpTo 1 meter.old meter.new }
+    ensures one_tick { meter.new ≡ risen meter.old 1 }
 {
     let value = order.build(meter)?;
     let other = value.share()?;
@@ -69,7 +69,7 @@ fn fill<R: Wait, O: Order, L>(
     ensures is_new { IfOk result (λ found. found.is_new ≡ true) }
     ensures filled { OnOk result (HasFilled seat.old seat.new (O.text_of order.now)) }
     ensures given { OnErr result (Made seat.old seat.new (O.text_of order.now) GiveBack) }
-    ensures ticks { RisesUpTo 1 meter.old meter.new }
+    ensures one_tick { meter.new ≡ risen meter.old 1 }
 {
     match build_shared(order, meter) {
         Ok((value, other)) => {
@@ -88,6 +88,7 @@ fn fill<R: Wait, O: Order, L>(
 
 /// Finds the value of a key. It is built where it is not kept and no other seat builds it, and kept from then on; where
 /// another seat builds it, this one waits.
+#[tactic(auto, using(crate::proofs::Spent::rises_once, crate::proofs::Spent::rises_none))]
 pub fn find<R: Wait, O: Order, L>(
     rt: &R,
     cache: &SharedCache<O::Value>,
@@ -104,6 +105,7 @@ pub fn find<R: Wait, O: Order, L>(
         (meter.new ≡ risen meter.old n) × HasFound (O.text_of order.now) found.is_new seat.old seat.new n) }
     ensures failed { OnErr result ((n : ℕ) ×
         (meter.new ≡ risen meter.old n) × HasFailed seat.old seat.new n) }
+    ensures ticks { RisesUpTo 1 meter.old meter.new }
 {
     let text = order.text()?;
     match ask(rt, cache, seat, &text)? {

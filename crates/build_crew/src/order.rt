@@ -1,7 +1,7 @@
 //! Keys, as their values are asked for.
 
 ghost use Rattle.std.specs.Prelude.{◌≡◌, ℕ, List, IfOk};
-ghost use Rattle.build_crew.specs.Rises.{RisesUpTo};
+ghost use Rattle.rtl_bits.specs.Counts.{risen};
 
 use result_cache::Keyed;
 use rtl_bits::{Memory, Steps, Text};
@@ -24,9 +24,9 @@ pub trait Order {
         ensures answers { IfOk result (λ text. (value : Self.Value) → Self.Value.stands_for value text →
             is_answer self.now value) };
 
-    /// Builds the value of the key, with at most one tick.
+    /// Builds the value of the key. Each call, whatever it answers, is one tick.
     fn build<L>(&self, meter: &mut Steps<L>) -> Result<Self::Value, Memory>
         requires buildable { is_buildable self.now }
         ensures stands { IfOk result (λ value. Self.Value.stands_for value (text_of self.now)) }
-        ensures ticks { RisesUpTo 1 meter.old meter.new };
+        ensures one_tick { meter.new ≡ risen meter.old 1 };
 }

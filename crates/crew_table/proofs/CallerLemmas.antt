@@ -3,9 +3,9 @@ use Rattle.std.proofs.Common.{◌≡◌, ◌≢◌, ℕ, List, sym, ◌∙◌, s
 use Rattle.atomic_table.specs.Seated.{TableId}
 use Rattle.result_cache.specs.declared.call.Act.TheVariants.{Hit, Busy, Yours}
 use Rattle.result_cache.specs.declared.shard.Ticket.{Ticket}
-use Rattle.result_cache.specs.Seats.{Seated, HasWaited, IsIdle, Made}
+use Rattle.result_cache.specs.Seats.{Seated, HasWaited, IsIdle, KeepsTickets, Made}
 use Rattle.result_cache.specs.Tickets.{HoldsNoTicket, HoldsOnly}
-use Rattle.result_cache.proofs.Idle.{idle_after_hit, idle_after_busy, one_after_claim}
+use Rattle.result_cache.proofs.Idle.{idle_after_hit, idle_after_busy, idle_kept, one_after_claim}
 
 -- a claim was answered with a ticket
 abbrev GotTicket : Seated → Seated → List ℕ → Ticket → Type 0
@@ -36,3 +36,10 @@ module _ (cache : TableId) where
 
   pub idle_waited : (old new : Seated) (key : List ℕ) → IsIdle cache old → HasWaited old new key → IsIdle cache new
   idle_waited old new key h w = (w.kept.cache ∙ h.0, subst HoldsNoTicket (sym w.kept.calls) h.1)
+
+  pub still_idle : (old new : Seated) → IsIdle cache old → KeepsTickets old new → IsIdle cache new
+  still_idle old new h k = idle_kept cache old new h k
+
+  pub still_holding : (old new : Seated) (own : List ℕ) (ticket : Ticket) → (old.cache ≡ cache) × (ticket.seat ≡ old.number) × (own ≡ ticket.key) × HoldsOnly ticket.key old.calls → KeepsTickets old new
+      → (new.cache ≡ cache) × (ticket.seat ≡ new.number) × (own ≡ ticket.key) × HoldsOnly ticket.key new.calls
+  still_holding old new own ticket h k = (k.cache ∙ h.0, h.1 ∙ sym k.number, h.2, λ q. k.tickets q ∙ h.3 q)

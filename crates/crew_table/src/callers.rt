@@ -1,11 +1,11 @@
 //! Callers of a cache: a seat with the ticket that it has.
 
 ghost use Rattle.std.specs.Prelude.{◌≡◌};
-ghost use Rattle.result_cache.specs.Seats.{IsIdle};
+ghost use Rattle.result_cache.specs.Seats.{IsIdle, KeepsTickets};
 ghost use Rattle.result_cache.specs.Tickets.{HoldsOnly};
 ghost use Rattle.crew_table.specs.Callers.{IsCaller};
 
-use result_cache::{Claim, Keyed, Seat, SharedCache, Ticket};
+use result_cache::{Claim, Forget, Keyed, Seat, SharedCache, Ticket};
 use rtl_bits::{Copied, Memory, Text};
 use std::sync::Wait;
 
@@ -40,6 +40,9 @@ pub enum Reply {
     Hit(u32),
     Yours,
     Busy(u32),
+    /// The value of this number was given up.
+    Dropped(u32),
+    Free,
     /// The call made no claim.
     Done,
     /// The call is one that this caller may not make, or it had no memory.
@@ -165,5 +168,47 @@ pub fn wait<R: Wait>(
             (Caller::Idle(seat), Reply::Done)
         }
         holding => (holding, Reply::Refused),
+    }
+}
+
+/// What a caller is answered that gives up a value.
+fn reply_to(answer: Forget<Built>) -> Reply {
+    match answer {
+        Forget::Dropped(built) => Reply::Dropped(built.number),
+        Forget::Free => Reply::Free,
+        Forget::Busy(by) => Reply::Busy(by),
+    }
+}
+
+/// The seat gives up the value of the key.
+fn forget_key<R: Wait>(rt: &R, cache: &SharedCache<Built>, seat: &mut Seat, key: &Text) -> Reply
+    requires cache { seat.old.cache ≡ cache.now.table.shared.table_id }
+    ensures kept { KeepsTickets seat.old seat.new }
+{
+    reply_to(cache.forget(rt, seat, key))
+}
+
+/// Gives up the value of the key, whether the caller has a ticket or not.
+#[tactic(auto, using(crate::proofs::CallerLemmas::still_idle, crate::proofs::CallerLemmas::still_holding))]
+pub fn forget<R: Wait>(
+    rt: &R,
+    cache: &SharedCache<Built>,
+    caller: Caller,
+    key: &Text,
+) -> (Caller, Reply)
+    requires caller { IsCaller cache.now.table.shared.table_id caller }
+    ensures caller { IsCaller cache.now.table.shared.table_id result.0 }
+{
+    match caller {
+        Caller::Idle(seat) => {
+            let mut seat = seat;
+            let reply = forget_key(rt, cache, &mut seat, key);
+            (Caller::Idle(seat), reply)
+        }
+        Caller::Holding(seat, ticket, own) => {
+            let mut seat = seat;
+            let reply = forget_key(rt, cache, &mut seat, key);
+            (Caller::Holding(seat, ticket, own), reply)
+        }
     }
 }

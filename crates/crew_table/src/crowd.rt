@@ -86,20 +86,22 @@ fn work_and_meet<R: Threads + Wait + Sync>(
     cache.meet(rt, seats);
 }
 
-/// Ends the seats, and adds up their claims, fillings and givings back.
-fn ended<R: Wait>(rt: &R, cache: &SharedCache<Built>, mut seats: Vec<Seat>) -> (u64, u64, u64)
+/// Ends the seats, and adds up their claims, fillings and givings back, and the values that they gave up.
+fn ended<R: Wait>(rt: &R, cache: &SharedCache<Built>, mut seats: Vec<Seat>) -> (u64, u64, u64, u64)
     requires idle { AreIdle cache.now.table.shared.table_id seats.items }
 {
-    let mut sums = (0u64, 0u64, 0u64);
+    let mut sums = (0u64, 0u64, 0u64, 0u64);
     while let Some(seat) = seats.pop() {
         let SeatCalls {
             claims,
             fills,
             give_backs,
+            drops,
         } = cache.end(rt, seat);
         sums.0 = sums.0.saturating_add(claims);
         sums.1 = sums.1.saturating_add(fills);
         sums.2 = sums.2.saturating_add(give_backs);
+        sums.3 = sums.3.saturating_add(drops);
     }
     sums
 }
@@ -115,5 +117,5 @@ pub fn are_counted<R: Threads + Wait + Sync>(rt: &R, alloc: Global) -> Result<bo
     }
     let Opened { cache, mut seats } = SharedCache::make(alloc, 8, 2)?;
     work_and_meet(rt, &cache, keys.as_slice(), seats.as_mut_slice());
-    Ok(ended(rt, &cache, seats) == (10_000, 100, 0))
+    Ok(ended(rt, &cache, seats) == (10_000, 100, 0, 0))
 }

@@ -3,7 +3,7 @@
 ghost use Rattle.result_cache.specs.Seats.{IsIdle};
 ghost use Rattle.crew_table.specs.Callers.{IsCaller};
 
-use crate::callers::{Built, Caller, Reply, claim, fill, give_back, wait};
+use crate::callers::{Built, Caller, Reply, claim, fill, forget, give_back, wait};
 use result_cache::{Opened, Seat, SharedCache};
 use rtl_bits::{Memory, Text};
 use std::alloc::Global;
@@ -17,6 +17,7 @@ enum Ask {
     Fill(u32),
     GiveBack,
     Wait(Text),
+    Forget(Text),
 }
 
 /// A call of one of the two callers, and what it is to be answered.
@@ -39,11 +40,13 @@ fn reply_of(words: &[&[u8]]) -> Option<Reply> {
         [word] => match str_of(word) {
             "yours" => Some(Reply::Yours),
             "refused" => Some(Reply::Refused),
+            "free" => Some(Reply::Free),
             _ => None,
         },
         [word, number] => match str_of(word) {
             "hit" => Some(Reply::Hit(number_of(number))),
             "busy" => Some(Reply::Busy(number_of(number))),
+            "dropped" => Some(Reply::Dropped(number_of(number))),
             _ => None,
         },
         _ => None,
@@ -57,6 +60,7 @@ fn ask_of(alloc: Global, verb: &[u8], object: &[u8]) -> Result<Option<Ask>, Memo
         "fills" => Some(Ask::Fill(number_of(object))),
         "gives" => Some(Ask::GiveBack),
         "waits" => Some(Ask::Wait(Text::from_slice(alloc, object)?)),
+        "drops" => Some(Ask::Forget(Text::from_slice(alloc, object)?)),
         _ => None,
     })
 }
@@ -101,6 +105,7 @@ fn answers<R: Wait>(
         Ask::Fill(number) => fill(rt, cache, caller, *number),
         Ask::GiveBack => return_ticket(rt, cache, caller),
         Ask::Wait(key) => wait(rt, cache, caller, key),
+        Ask::Forget(key) => forget(rt, cache, caller, key),
     };
     (caller, reply == step.reply)
 }
@@ -150,15 +155,15 @@ fn are_made<R: Wait>(
 }
 
 /// How many calls of each kind a seat made.
-fn calls_of<R: Wait>(rt: &R, cache: &SharedCache<Built>, seat: Seat) -> [u64; 3]
+fn calls_of<R: Wait>(rt: &R, cache: &SharedCache<Built>, seat: Seat) -> [u64; 4]
     requires idle { IsIdle cache.now.table.shared.table_id seat }
 {
     let calls = cache.end(rt, seat);
-    [calls.claims, calls.fills, calls.give_backs]
+    [calls.claims, calls.fills, calls.give_backs, calls.drops]
 }
 
 /// Whether the calls of a row are answered as it says. Behind its name stand the shards, the calls, and how
-/// many claims, fillings and givings back each of the two seats made.
+/// many claims, fillings and givings back each of the two seats made, and how many values it gave up.
 pub fn are_answered<R: Wait>(rt: &R, alloc: Global, fields: &[&[u8]]) -> Result<bool, Memory> {
     let [_, shards, calls, zeros, ones] = fields else {
         return Ok(false);
@@ -181,7 +186,7 @@ pub fn are_answered<R: Wait>(rt: &R, alloc: Global, fields: &[&[u8]]) -> Result<
 }
 
 /// Whether the digits of a field are these numbers.
-fn counted(field: &[u8], numbers: [u64; 3]) -> bool {
+fn counted(field: &[u8], numbers: [u64; 4]) -> bool {
     field
         .iter()
         .map(|digit| u64::from(digit.wrapping_sub(b'0')))

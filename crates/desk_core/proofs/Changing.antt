@@ -1,13 +1,17 @@
 -- Answers to commands that change the design or the script.
-use Rattle.std.proofs.Common.{◌≡◌, ◌≢◌, inl, inr, ℕ, zero, suc, ◌≤◌, List, [], ◌++◌, Bool, cond, Option, Some, None, Result, Ok, Err, length, slice_get, refl, sym, ap, subst, ◌∙◌}
-use Rattle.std.specs.Prelude.{IfOk, codes, replicate}
+use Rattle.std.proofs.Common.{Global, Vec, ◌≡◌, ◌≢◌, inl, inr, ℕ, zero, suc, ◌≤◌, List, [], ◌++◌, Bool, false, cond, Option, Some, None, Result, Ok, Err, length, slice_get, refl, sym, ap, subst, ◌∙◌}
+use Rattle.std.specs.Prelude.{IfOk, OnErr, codes, replicate}
 use Rattle.rtl_bits.specs.declared.memory.Memory.{Memory}
+use Rattle.desk_read.specs.declared.command.Command.{Command}
+use Rattle.desk_read.specs.declared.command.Command.TheVariants.{Load, Edit, Remove, Script, Run, Print, Show, SimSource, SimNetlist, Quit, Bad, Unclosed}
+use Rattle.desk_read.specs.declared.command.SimAsk.{SimAsk}
 use Rattle.rtl_ir.specs.declared.module.Design.{Design}
 use Rattle.rtl_ir.specs.declared.module.Module.{Module}
 use Rattle.rtl_ir.specs.Fault.{Fault}
 use Rattle.rtl_ir.specs.Faults.{check_faults}
 use Rattle.rtl_check.specs.declared.edit.EditFault.{EditFault}
 use Rattle.rtl_check.specs.declared.edit.EditFault.TheVariants as edit
+use Rattle.rtl_check.specs.declared.checked.Checked.{Checked}
 use Rattle.rtl_check.specs.declared.fault.CheckFault.{CheckFault}
 use Rattle.rtl_check.specs.declared.fault.CheckFault.TheVariants as check
 use Rattle.rtl_check.specs.Edits.{IsEditFault}
@@ -15,8 +19,11 @@ use Rattle.rtl_check.specs.Finds.{IsFirst, first_answer}
 use Rattle.rtl_read.specs.declared.read_fault.ReadFault.{ReadFault}
 use Rattle.rtl_read.specs.declared.read_fault.ReadFault.TheVariants as faults
 use Rattle.rtl_read.specs.Reads.{Reads, AreItemsOf, IsFirstFault, OnFault}
+use Rattle.std.specs.Coded as coded
 use Rattle.std.specs.Fmt.{decimal}
 use Rattle.rtl_readable.specs.Readable.{IsReadable}
+use Rattle.result_cache.specs.Seats.{Seated}
+use Rattle.build_crew.specs.Kept.{kept_by}
 use Rattle.script_core.specs.declared.built.Built.{Built}
 use Rattle.script_core.specs.declared.word.Word.{Word}
 use Rattle.script_core.specs.Words.{script_of}
@@ -31,11 +38,18 @@ use Rattle.rtl_write.proofs.Kept.{readable}
 use Rattle.design_edit.proofs.Naming.{has_none, has_one}
 use Rattle.rtl_ir.specs.Faults.Recursion.{place_named}
 use Rattle.std.proofs.lemmas.List.{length-replicate}
+use Rattle.desk_core.specs.declared.present.Present.{Present}
 use Rattle.desk_core.specs.declared.results.Results.{Results}
 use Rattle.desk_core.specs.Answers.{IsEditAnswer, IsEdited, IsLoadAnswer, checked_answer, design_answer, refusal, remove_answer, script_answer, script_answer_by}
+use Rattle.desk_core.specs.Ages.{kept_in}
+use Rattle.desk_core.specs.Builds.{HasClaims, KeepsAll, asked_by, needs_netlist}
 use Rattle.desk_core.specs.Edits.{IsEditReply}
-use Rattle.desk_core.specs.Results.{AreSeated, AreSound}
-use Rattle.desk_core.specs.State.{State, answer}
+use Rattle.desk_core.specs.Present.{KeepsBeside, state_with}
+use Rattle.desk_core.specs.Results.{AreBeside, AreSound, state_of, view_of}
+use Rattle.desk_core.specs.State.{DeskView, KeptKey, State, answer}
+use Rattle.desk_core.specs.Step.{IsStep}
+use Rattle.desk_core.proofs.Rises.{claims_none}
+use Rattle.desk_core.proofs.Told.{keeps_same}
 
 abbrev nones : ℕ → List (Option Built)
 nones n = replicate n None
@@ -48,15 +62,106 @@ nothing_there (suc n) (suc at) built h = nothing_there n at built h
 length_none : (n : ℕ) → length (nones n) ≡ n
 length_none n = length-replicate n None
 
--- results beside no module are sound for any readable design and any script
-pub sound_fresh : (design : Design) (script : List Word) (new : Results) → AreSeated new.cache.table.shared.table_id new.cache.shards new.seats.items → IsReadable design
-    → new.found.items ≡ replicate (length design.modules) None → AreSound design script new
-sound_fresh design script new idle readable found = record {
+-- results beside no module stand there for any readable design and any script
+pub present_fresh : (keys : List (List ℕ)) (design : Design) (script : List Word) (found : List (Option Built)) → IsReadable design → found ≡ replicate (length design.modules) None
+    → AreBeside keys design script found
+present_fresh keys design script found readable are = record {
   readable = readable;
-  idle = idle;
-  beside = ap length found ∙ length_none (length design.modules);
-  own = λ at built is. absurd (nothing_there (length design.modules) at built (ap (λ (l : List (Option Built)). slice_get l at) (sym found) ∙ is));
+  beside = ap length are ∙ length_none (length design.modules);
+  own = λ at built is. absurd (nothing_there (length design.modules) at built (ap (λ (l : List (Option Built)). slice_get l at) (sym are) ∙ is));
 }
+
+-- ---- a desk whose present design and script change
+
+module _ (old new : Present) (results : Results) (found : Vec (Option Built) Global) where
+  -- its results stay sound where those beside the modules are still those of their keys
+  pub sound_present : AreSound old.design.design old.script results → KeepsBeside old results.found.items new found.items → AreSound new.design.design new.script (record results { found = found })
+  sound_present sound keeps =
+      let stand = keeps (kept_by results.seats.items) (record { readable = sound.readable; beside = sound.beside; own = sound.own }) in record {
+        readable = stand.readable;
+        idle = sound.idle;
+        aged = sound.aged;
+        beside = stand.beside;
+        own = stand.own;
+      }
+
+  module _ (v : DeskView) (r : Result Reply Memory) (is : view_of old.design.design old.script results ≡ v) where
+    -- after an error contracts see what they saw
+    pub view_kept : OnErr r ((new ≡ old) × (found ≡ results.found)) → OnErr r (view_of new.design.design new.script (record results { found = found }) ≡ v)
+    view_kept err = by r err
+      where
+        by : (r : Result Reply Memory) → OnErr r ((new ≡ old) × (found ≡ results.found)) → OnErr r (view_of new.design.design new.script (record results { found = found }) ≡ v)
+        by (Ok reply) err = tt
+        by (Err memory) err = ap (λ (p : Present). view_of p.design.design p.script results) err.0 ∙ is
+
+    -- and the state is as it was
+    pub kept_seen : OnErr r ((new ≡ old) × (found ≡ results.found)) → OnErr r (KeepsAll v.state (state_of new.design.design new.script (record results { found = found })))
+    kept_seen err = by r (view_kept err)
+      where
+        by : (r : Result Reply Memory) → OnErr r (view_of new.design.design new.script (record results { found = found }) ≡ v) → OnErr r (KeepsAll v.state (state_of new.design.design new.script (record results { found = found })))
+        by (Ok reply) same = tt
+        by (Err memory) same = keeps_same v.state (state_of new.design.design new.script (record results { found = found })) (ap (λ (w : DeskView). w.state) same)
+
+    -- a step of the present design and script is one of the desk
+    pub step_seen : (command : Command) → ((kept : List KeptKey) → IfOk r (λ reply. IsStep command (state_with kept old) reply (state_with kept new)))
+        → IfOk r (λ reply. IsStep command v.state reply (state_of new.design.design new.script (record results { found = found })))
+    step_seen command steps =
+        subst (λ (w : DeskView). IfOk r (λ reply. IsStep command w.state reply (state_of new.design.design new.script (record results { found = found })))) is
+        (steps (kept_in results.ages.keys results.ages.ages.items))
+
+-- ---- commands that need no netlist
+
+-- all but three
+pub plain : (command : Command) → (command ≡ Run → ⊥) → (command ≡ Print → ⊥) → ((ask : SimAsk) → command ≡ SimNetlist ask → ⊥) → needs_netlist command ≡ false
+plain (Load text) run print simulate = refl
+plain (Edit text) run print simulate = refl
+plain (Remove name) run print simulate = refl
+plain (Script text) run print simulate = refl
+plain Run run print simulate = absurd (run refl)
+plain Print run print simulate = absurd (print refl)
+plain (Show name) run print simulate = refl
+plain (SimSource ask) run print simulate = refl
+plain (SimNetlist ask) run print simulate = absurd (simulate ask refl)
+plain Quit run print simulate = refl
+plain Bad run print simulate = refl
+plain Unclosed run print simulate = refl
+
+-- they ask for no key
+pub asked_none : (command : Command) (s : State) → needs_netlist command ≡ false → asked_by command s ≡ []
+asked_none (Load text) s none = refl
+asked_none (Edit text) s none = refl
+asked_none (Remove name) s none = refl
+asked_none (Script text) s none = refl
+asked_none Run s none = absurd cc
+asked_none Print s none = absurd cc
+asked_none (Show name) s none = refl
+asked_none (SimSource ask) s none = refl
+asked_none (SimNetlist ask) s none = absurd cc
+asked_none Quit s none = refl
+asked_none Bad s none = refl
+asked_none Unclosed s none = refl
+
+-- a desk makes no claim for them
+pub claims_plain : (command : Command) (s : State) (olds news : List Seated) → needs_netlist command ≡ false → news ≡ olds → HasClaims (asked_by command s) olds news
+claims_plain command s olds news none same = subst (λ (keys : List (List ℕ)). HasClaims keys olds news) (sym (asked_none command s none)) (claims_none olds news same)
+
+-- ---- a design that stayed
+
+faults_set : IsSet (List Fault)
+faults_set = coded.Coded-set (hlevel coded.codes)
+
+-- designs without faults are the same where their modules are
+pub same_checked : (a b : Checked) → a.design ≡ b.design → a ≡ b
+same_checked a b same = by a.design b.design same a.faultless b.faultless
+  where
+    by : (c d : Design) → c ≡ d → (p : check_faults c.modules ≡ []) (q : check_faults d.modules ≡ []) → ◌≡◌ {A = Checked} (record { design = c; faultless = p }) (record { design = d; faultless = q })
+    by c d e =
+        subst (λ (x : Design). (p : check_faults c.modules ≡ []) (q : check_faults x.modules ≡ []) → ◌≡◌ {A = Checked} (record { design = c; faultless = p }) (record { design = x; faultless = q })) e
+        (λ p q. ap (λ (h : check_faults c.modules ≡ []). record { design = c; faultless = h }) (faults_set (check_faults c.modules) [] p q))
+
+-- what is present stays where its design does
+pub same_present : (p : Present) (checked : Checked) → checked.design ≡ p.design.design → record p { design = checked } ≡ p
+same_present p checked same = ap (λ (d : Checked). record p { design = d }) (same_checked checked p.design same)
 
 pub first_is : (fault : CheckFault) (all : List Fault) → IsFirst fault all → (fault ≡ check.Memory → ⊥) → first_answer all ≡ Some fault
 first_is (check.Width s) all first other = first

@@ -10,6 +10,7 @@ use Rattle.script_core.proofs.Refining.{value_named}
 use Rattle.desk_core.specs.Crew.{Crew, Event}
 use Rattle.desk_core.specs.CrewRuns.{AgreesAlone, KnowsFilled, AllDone}
 use Rattle.desk_core.specs.CrewBuilds.{IsBuild, BuildHolds, AgreesWithDesk}
+use Rattle.desk_core.specs.Ages.{texts_of}
 use Rattle.desk_core.specs.Netlist.{built_count, key_text_at, over_words}
 use Rattle.desk_core.specs.Results.{outcomes_of, over_of}
 use Rattle.desk_core.specs.State.{State}
@@ -21,7 +22,7 @@ pub build_holds : (s : State) (workers : ℕ) (first last : Crew Built) (events 
 build_holds s workers first last events run = crew_holds workers (length s.design.modules) first last events run
 
 pub agrees_with_desk : (s : State) (workers : ℕ) (first last : Crew Built) (events : List (Event Built)) → IsReadable s.design → IsBuild s workers first events last
-    → KnowsFilled s.kept first → AllDone last → AgreesWithDesk s last
+    → KnowsFilled (texts_of s.kept) first → AllDone last → AgreesWithDesk s last
 agrees_with_desk s workers first last events readable run knows all = record {
   outcomes = outcomes;
   builds = alone.builds;
@@ -32,8 +33,8 @@ agrees_with_desk s workers first last events readable run knows all = record {
       (over_outcomes s.design.modules last.outputs alone.len all ∙ ap (over_words s.design.modules) outcomes);
 }
   where
-    alone : AgreesAlone (key_text_at s.script s.design.modules) (length s.design.modules) s.kept last
-    alone = agrees_alone workers (length s.design.modules) first last events s.kept run knows all
+    alone : AgreesAlone (key_text_at s.script s.design.modules) (length s.design.modules) (texts_of s.kept) last
+    alone = agrees_alone workers (length s.design.modules) first last events (texts_of s.kept) run knows all
 
     holds : BuildHolds s first events last
     holds = build_holds s workers first last events run

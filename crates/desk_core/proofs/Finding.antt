@@ -14,15 +14,16 @@ use Rattle.rtl_ir.specs.declared.module.Module.{Module}
 use Rattle.rtl_ir.specs.Faults.{check_faults}
 use Rattle.rtl_readable.specs.Readable.{IsReadable}
 use Rattle.result_cache.specs.Filled.{new_count, with_keys}
-use Rattle.result_cache.proofs.NewKeys.{among_keys, new_below_few}
+use Rattle.result_cache.proofs.NewKeys.{among_keys, new_below_few, still_among}
 use Rattle.atomic_table.specs.Seated.{TableId}
 use Rattle.result_cache.specs.Seats.{Seated, IsIdle}
 use Rattle.build_crew.specs.Calls.{HasFailed, HasFound}
 use Rattle.build_crew.specs.declared.finding.Found.{Found}
-use Rattle.build_crew.specs.Kept.{AreAllSeats, HasStill, kept_by}
+use Rattle.result_cache.specs.Meet.{Share}
+use Rattle.build_crew.specs.Kept.{AreAllSeats, HasStill, given_back, kept_by}
 use Rattle.build_crew.specs.Leaves.{HasRun, HasStopped}
 use Rattle.build_crew.specs.Rises.{RisesUpTo}
-use Rattle.build_crew.proofs.Asking.{asking_failed, asking_first}
+use Rattle.build_crew.proofs.Asking.{failed_none}
 use Rattle.build_crew.proofs.Numbers.{of_job}
 use Rattle.script_core.specs.declared.built.Built.{Built}
 use Rattle.script_core.specs.declared.key.Key.{Key}
@@ -32,7 +33,9 @@ use Rattle.script_core.specs.Keys.{key_of, key_text}
 use Rattle.desk_core.specs.declared.results.Results.{Results}
 use Rattle.desk_core.specs.Builds.{BuildsOrReturns}
 use Rattle.desk_core.specs.Netlist.{key_text_at, key_texts}
-use Rattle.desk_core.specs.Results.{AreAnswers, AreSeated, AreSound, IsResultAt, TellKeys}
+use Rattle.desk_core.specs.declared.ages.Ages.{Ages}
+use Rattle.desk_core.specs.Ages.{kept_in, oldest, texts_of}
+use Rattle.desk_core.specs.Results.{AreAged, AreAnswers, AreSeated, AreSound, IsResultAt, TellKeys}
 use Rattle.desk_core.proofs.Rises.{returns_built, risen_none}
 
 -- the key of a module of a design without faults is that of an accepted one
@@ -73,7 +76,7 @@ found_does r key own olds news m n same h =
 
 -- a seat without a ticket that asked for nothing
 pub failed_idle : (cache : TableId) (s : Seated) (m : ℕ) → IsIdle cache s → (n : ℕ) × (m ≡ risen m n) × HasFailed s s n
-failed_idle cache s m idle = (0, risen_none m, asking_failed s s (asking_first s idle.1))
+failed_idle cache s m idle = (0, risen_none m, failed_none s)
 
 -- a result for one that was found
 abbrev pub beside_of : List (Found Built) → List (Option Built)
@@ -93,6 +96,14 @@ pub all_beside : (items : List (Found Built)) → list_all is_some (beside_of it
 all_beside [] = refl
 all_beside (x ∷ items) = all_beside items
 
+-- the keys that have an age are kept still where kept ones are
+pub aged_more : (old new : Results) → AreAged old.ages (kept_by old.seats.items) → new.ages ≡ old.ages → HasStill (kept_by old.seats.items) (kept_by new.seats.items) → AreAged new.ages (kept_by new.seats.items)
+aged_more old new h same still = record {
+  beside = subst (λ (a : Ages). length a.ages.items ≡ length a.keys) (sym same) h.beside;
+  kept = subst (λ (a : Ages). HasStill (texts_of (kept_in a.keys a.ages.items)) (kept_by new.seats.items)) (sym same) (λ q is. still q (h.kept q is));
+  young = subst (λ (a : Ages). (at age : ℕ) → slice_get a.ages.items at ≡ Some (Some age) → age ≤ oldest) (sym same) h.young;
+}
+
 or_true : (b : Bool) → (b || true) ≡ true
 or_true true = refl
 or_true false = refl
@@ -101,10 +112,11 @@ module _ (design : Design) (script : List Word) (old new : Results) where
   -- the results are sound once a crew found them all
   pub sound_run : (items : List (Found Built)) → AreSound design script old → AreSeated new.cache.table.shared.table_id new.cache.shards new.seats.items → length items ≡ length design.modules
       → AreAnswers script design.modules items → new.found.items ≡ beside_of items → kept_by new.seats.items ≡ with_keys (kept_by old.seats.items) (key_texts script design.modules)
-      → AreSound design script new
-  sound_run items h idle count answers beside kept = record {
+      → new.ages ≡ old.ages → AreSound design script new
+  sound_run items h idle count answers beside kept same = record {
     readable = h.readable;
     idle = idle;
+    aged = aged_more old new h.aged same (λ q is. ap (λ (l : List (List ℕ)). has_name l q) kept ∙ still_among (kept_by old.seats.items) (key_texts script design.modules) q is);
     beside = ap length beside ∙ length_beside items ∙ count;
     own = λ at built is.
         let got = got_beside items at built (ap (λ (l : List (Option Built)). slice_get l at) (sym beside) ∙ is) in
@@ -124,10 +136,11 @@ module _ (design : Design) (script : List Word) (old new : Results) where
 
   -- they are sound still where a crew had no memory
   pub sound_stopped : AreSound design script old → AreSeated new.cache.table.shared.table_id new.cache.shards new.seats.items → new.found.items ≡ old.found.items
-      → HasStill (kept_by old.seats.items) (kept_by new.seats.items) → AreSound design script new
-  sound_stopped h idle beside still = record {
+      → HasStill (kept_by old.seats.items) (kept_by new.seats.items) → new.ages ≡ old.ages → AreSound design script new
+  sound_stopped h idle beside still same = record {
     readable = h.readable;
     idle = idle;
+    aged = aged_more old new h.aged same still;
     beside = ap length beside ∙ h.beside;
     own = λ at built is.
         let one = h.own at built (ap (λ (l : List (Option Built)). slice_get l at) (sym beside) ∙ is) in
@@ -136,14 +149,15 @@ module _ (design : Design) (script : List Word) (old new : Results) where
 
 -- all seats still, where there are as many after as before
 pub seated_after : (cache : TableId) (shards : ℕ) (olds news : List Seated) → length news ≡ length olds → AreSeated cache shards olds → AreAllSeats cache (length olds) shards 0 news
-    → AreSeated cache shards news
-seated_after cache shards olds news same h all =
+    → Share shards news → AreSeated cache shards news
+seated_after cache shards olds news same h all shared =
     let some = h.some in
     let few = h.few in
     record {
       some = omega (arith, same, some);
       few = omega (arith, same, few);
       all = subst (λ (n : ℕ). AreAllSeats cache n shards 0 news) (sym same) all;
+      shared = shared;
     }
 
 -- a list that was lent whole comes back whole

@@ -18,3 +18,8 @@ pub mod CrewPlaces
 pub mod CrewSteps
 pub mod CrewEnds
 pub mod CrewBuilds
+pub mod Aging
+pub mod Giving
+pub mod Ended
+pub mod Placing
+pub mod Compacting

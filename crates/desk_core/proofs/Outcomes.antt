@@ -150,7 +150,7 @@ outcomes_are f (m ∷ ms) (Some b ∷ found) h e all =
     ∙ ap (λ (os : List Outcome). f m ∷ os) (outcomes_are f ms found (λ i k c at there. h (suc i) k c at there) (omega arith) all)
 
 -- where beside each module stands its result, the outcomes are those of the cold run
-pub outcomes_cold : (design : Design) (script : List Word) (results : Results) → AreSound design script results → AreFound results
+pub outcomes_cold : (design : Design) (script : List Word) (results : Results) → AreSound design script results → AreFound results.found.items
     → outcomes_of design.modules results.found.items ≡ cold script design
 outcomes_cold design script results h all =
     outcomes_are (outcome_of script design.modules) design.modules results.found.items
@@ -172,7 +172,7 @@ over_outcomes (m ∷ ms) (Some b ∷ found) e all =
     by (Done n) = refl
     by (Over word) = refl
 
-pub over_cold : (design : Design) (script : List Word) (results : Results) → AreSound design script results → AreFound results
+pub over_cold : (design : Design) (script : List Word) (results : Results) → AreSound design script results → AreFound results.found.items
     → over_of design.modules results.found.items ≡ over_words design.modules (cold script design)
 over_cold design script results h all =
     over_outcomes design.modules results.found.items h.beside all ∙ ap (over_words design.modules) (outcomes_cold design script results h all)

@@ -1,15 +1,16 @@
 -- Answers by a module of the netlist.
-use Rattle.std.proofs.Common.{◌≡◌, ℕ, zero, suc, ◌+◌, ◌<◌, List, [], ◌∷◌, ◌++◌, cond, not, Option, Some, None, Result, Ok, Err, get_or, length, map, nat_lt, slice_get, refl, sym, ap, ◌∙◌, arith}
+use Rattle.std.proofs.Common.{◌≡◌, ℕ, zero, suc, ◌+◌, ◌<◌, ◌≤◌, List, [], ◌∷◌, ◌++◌, cond, not, Option, Some, None, Result, Ok, Err, get_or, length, map, nat_lt, slice_get, refl, sym, ap, ◌∙◌, arith}
 use Rattle.std.specs.Prelude.{IfOk, codes}
 use Rattle.std.specs.List.{position_or_len}
 use Rattle.std.specs.Str.{bytes_eq}
+use Rattle.std.proofs.lemmas.List.{length-map}
 use Rattle.rtl_bits.specs.declared.bit.Bit.{Bit}
 use Rattle.rtl_bits.specs.declared.memory.Memory.{Memory}
 use Rattle.rtl_ir.specs.declared.module.Design.{Design}
 use Rattle.rtl_ir.specs.declared.module.Module.{Module}
 use Rattle.rtl_ir.specs.Faults.Recursion.{place_named}
 use Rattle.rtl_ir.specs.Types.{module_named}
-use Rattle.design_edit.proofs.Naming.{named_at}
+use Rattle.design_edit.proofs.Naming.{named_at, place_within}
 use Rattle.reply_lines.specs.declared.reply.Reply.{Reply}
 use Rattle.reply_lines.specs.Lines.{counted, ok_line, ok_reply}
 use Rattle.script_core.specs.declared.outcome.Outcome.{Outcome}
@@ -19,11 +20,12 @@ use Rattle.script_core.specs.Cold.{cold, named, outcome_of, table_of}
 use Rattle.script_core.specs.Built.{unnamed}
 use Rattle.script_core.specs.Fold.{fold_script}
 use Rattle.sim_trace.specs.Stimulus.{stimulus_of, trace_text}
-use Rattle.desk_core.specs.declared.runs.Told.TheVariants.{Built}
+use Rattle.desk_core.specs.declared.runs.Told.{Told}
+use Rattle.desk_core.specs.declared.runs.Told.TheVariants.{Built, Over as WasOver}
 use Rattle.desk_core.specs.Answers.{by_stimulus, netlist_reply, netlist_run_answer}
-use Rattle.desk_core.specs.Netlist.{all_kept, done_modules, netlist_answer, netlist_of, over_words, unless_over}
+use Rattle.desk_core.specs.Netlist.{done_modules, netlist_answer, netlist_of, over_words, unless_over}
 use Rattle.desk_core.specs.State.{State, answer}
-use Rattle.desk_core.specs.Told.{told_of}
+use Rattle.desk_core.specs.Told.{IsBuilt, told_of}
 use Rattle.desk_core.proofs.Showing.{by_found}
 use Rattle.desk_core.proofs.Told.{none_over_built, reply_built}
 
@@ -66,38 +68,60 @@ within_netlist s words netlist at told is inside =
     let same = ap length is in
     omega (arith, inside, count, same)
 
--- as many modules as the design has
-pub netlist_count : (s : State) (words : List ℕ) (netlist : List Module) → Built words ≡ told_of s → netlist ≡ done_modules (cold s.script s.design) → length netlist ≡ length s.design.modules
-netlist_count s words netlist told is =
-    ap length is ∙ (alike s.script s.design.modules (codes "") s.design.modules (none_over_built s words (over_words s.design.modules (cold s.script s.design)) told)).count
+-- it is one where it was told what was built
+pub within_told : (s : State) (told : Told) → told ≡ told_of s → IsBuilt told → (netlist : List Module) (at : ℕ) → netlist ≡ done_modules (cold s.script s.design) → at < length s.design.modules → at < length netlist
+within_told s (Built words) is built netlist at same inside = within_netlist s words netlist at is same inside
+within_told s (WasOver words) is built netlist at same inside = absurd built
+
+few_done : (os : List Outcome) → length (done_modules os) ≤ length os
+few_done [] = omega arith
+few_done (Done m ∷ os) = let more = few_done os in omega (arith, more)
+few_done (Over word ∷ os) = let more = few_done os in omega (arith, more)
+
+-- no more modules than the design has
+pub done_few : (script : List Word) (design : Design) → length (done_modules (cold script design)) ≤ length design.modules
+done_few script design =
+    let few = few_done (cold script design) in
+    let count = length-map design.modules (outcome_of script design.modules) in
+    omega (arith, few, count)
 
 item : (ms : List Module) (at : ℕ) → at < length ms → (m : Module) × (slice_get ms at ≡ Some m)
 item [] at lt = absurd (omega arith)
 item (m ∷ ms) zero lt = (m, refl)
 item (m ∷ ms) (suc at) lt = item ms at (omega arith)
 
--- the reply of the trace of a module of the netlist
-pub traced : (s after : State) (name : List ℕ) (at : ℕ) (words : List ℕ) (stimulus : List (List Bit)) (netlist : Design) (r : Result Reply Memory)
-    → Built words ≡ told_of s → netlist ≡ netlist_of s → at < length s.design.modules → place_named s.design.modules name ≡ Some at
-    → ((m : Module) → slice_get netlist.modules at ≡ Some m → IfOk r (λ reply. reply ≡ ok_reply (ok_line (words ++ counted (codes "steps") (length stimulus)) ++ trace_text netlist m stimulus)))
-    → after ≡ all_kept s → IfOk r (λ reply. answer reply after ≡ netlist_answer s (netlist_reply s name stimulus (module_named (netlist_of s).modules name)))
-traced s after name at words stimulus netlist (Err memory) told is inside place traces state = tt
-traced s after name at words stimulus netlist (Ok reply) told is inside place traces state =
-    let over = over_words s.design.modules (cold s.script s.design) in
-    let none : over ≡ None = none_over_built s words over told in
-    let all = alike s.script s.design.modules name s.design.modules none in
-    let there : place_named (netlist_of s).modules name ≡ Some at = place_alike name s.design.modules (netlist_of s).modules all ∙ place in
-    let one = item (netlist_of s).modules at (within_netlist s words (netlist_of s).modules at told refl inside) in
-    let m = one.0 in
-    let own : module_named (netlist_of s).modules name ≡ Some m = named_at (netlist_of s).modules name at m there ∙ one.1 in
-    let first : reply ≡ ok_reply (ok_line (words ++ counted (codes "steps") (length stimulus)) ++ trace_text netlist m stimulus) =
-    traces m (ap (λ (d : Design). slice_get d.modules at) is ∙ one.1) in
-    let second : reply ≡ ok_reply (ok_line (words ++ counted (codes "steps") (length stimulus)) ++ trace_text (netlist_of s) m stimulus) =
-    first ∙ ap (λ (d : Design). ok_reply (ok_line (words ++ counted (codes "steps") (length stimulus)) ++ trace_text d m stimulus)) is in
-    let third : reply ≡ unless_over s (netlist_reply s name stimulus (Some m)) over =
-    second ∙ reply_built s (λ w. ok_reply (ok_line (w ++ counted (codes "steps") (length stimulus)) ++ trace_text (netlist_of s) m stimulus)) words over told in
-    ap (λ (r : Reply). answer r after) (third ∙ ap (λ (o : Option Module). unless_over s (netlist_reply s name stimulus o) over) (sym own))
-    ∙ ap (answer (netlist_answer s (netlist_reply s name stimulus (module_named (netlist_of s).modules name))).reply) state
+inside : (ms : List Module) (name : List ℕ) (at : ℕ) → place_named ms name ≡ Some at → at < length ms
+inside [] name at h = absurd (let no : None ≡ Some at = h in cc)
+inside (m ∷ ms) name at h = place_within (m ∷ ms) name at m h
+
+-- the reply of the trace of the module at a place of the netlist
+module _ (at : ℕ) (words : List ℕ) (stimulus : List (List Bit)) where
+  abbrev traced_reply : Design → Module → Reply
+  traced_reply netlist m = ok_reply (ok_line (words ++ counted (codes "steps") (length stimulus)) ++ trace_text netlist m stimulus)
+
+  told_at : (s : State) (name : List ℕ) (reply : Reply) → Built words ≡ told_of s → place_named s.design.modules name ≡ Some at
+      → ((m : Module) → slice_get (netlist_of s).modules at ≡ Some m → reply ≡ traced_reply (netlist_of s) m)
+      → reply ≡ (netlist_answer s (netlist_reply s name stimulus (module_named (netlist_of s).modules name))).reply
+  told_at s name reply told place traces =
+      let over = over_words s.design.modules (cold s.script s.design) in
+      let none : over ≡ None = none_over_built s words over told in
+      let there : place_named (netlist_of s).modules name ≡ Some at = place_alike name s.design.modules (netlist_of s).modules (alike s.script s.design.modules name s.design.modules none) ∙ place in
+      let one = item (netlist_of s).modules at (within_netlist s words (netlist_of s).modules at told refl (inside s.design.modules name at place)) in
+      let own : module_named (netlist_of s).modules name ≡ Some one.0 = named_at (netlist_of s).modules name at one.0 there ∙ one.1 in
+      traces one.0 one.1
+      ∙ reply_built s (λ w. ok_reply (ok_line (w ++ counted (codes "steps") (length stimulus)) ++ trace_text (netlist_of s) one.0 stimulus)) words over told
+      ∙ ap (λ (o : Option Module). unless_over s (netlist_reply s name stimulus o) over) (sym own)
+
+  pub trace_told : (told : Told) (outcomes : List Outcome) (r : Result Reply Memory) → told ≡ Built words
+      → ((m : Module) → slice_get (done_modules outcomes) at ≡ Some m → IfOk r (λ reply. reply ≡ traced_reply (record { modules = done_modules outcomes }) m))
+      → IfOk r (λ reply. (s : State) (name : List ℕ) → told ≡ told_of s → outcomes ≡ cold s.script s.design → place_named s.design.modules name ≡ Some at
+      → reply ≡ (netlist_answer s (netlist_reply s name stimulus (module_named (netlist_of s).modules name))).reply)
+  trace_told told outcomes (Err memory) built traces = tt
+  trace_told told outcomes (Ok reply) built traces = λ s name same are place.
+      told_at s name reply (sym built ∙ same) place
+      (λ m there.
+      traces m (ap (λ (os : List Outcome). slice_get (done_modules os) at) are ∙ there)
+      ∙ ap (λ (os : List Outcome). traced_reply (record { modules = done_modules os }) m) are)
 
 -- a module of the netlist is run over the stimulus of a text
 pub simulated : (s after : State) (name text : List ℕ) (at : ℕ) (m : Module) (stimulus : List (List Bit)) (r : Result Reply Memory) → Some at ≡ place_named s.design.modules name → m ≡ get_or s.design.modules at m

@@ -19,15 +19,12 @@ use Rattle.rtl_write.specs.Ports.{ports_text}
 use Rattle.rtl_write.specs.Text.{body_text}
 use Rattle.design_edit.proofs.Naming.{has_none, has_one, place_within}
 use Rattle.design_edit.specs.Modules.{has_module, with_module, with_modules, without_module}
-use Rattle.result_cache.specs.Seats.{Seated}
-use Rattle.build_crew.specs.Kept.{kept_by}
 use Rattle.script_core.specs.declared.built.Built.{Built}
 use Rattle.script_core.specs.declared.key.Key.{Key}
 use Rattle.script_core.specs.declared.word.Word.{Word}
 use Rattle.script_core.specs.Keys.{body_text_at, key_of, key_text}
-use Rattle.desk_core.specs.declared.results.Results.{Results}
 use Rattle.desk_core.specs.Beside.{AreSeen, AreStill, SeesOwn, unedited, unless_edited}
-use Rattle.desk_core.specs.Results.{AreSeated, AreSound, IsResultAt}
+use Rattle.desk_core.specs.Results.{AreBeside, IsResultAt}
 use Rattle.desk_core.proofs.Lists.{get_set_other, get_set_same, same_number}
 use Rattle.desk_core.proofs.Outcomes.{front, split}
 
@@ -228,16 +225,13 @@ own_seen {script} {keys} old new was now still seen at built is =
       kept = ap (λ (k : Key). has_name keys (key_text k)) (sym key ∙ h.result.key) ∙ h.result.kept;
     }
 
--- results that stayed beside the modules of a new design are sound there
-pub sound_still : (design after : Design) (script : List Word) (old new : Results) (was : List (Option Built)) → AreSound design script old → IsReadable after → length was ≡ length after.modules
-    → AreStill script design.modules after.modules (kept_by old.seats.items) was → AreSeen after.modules was new.found.items → AreSeated new.cache.table.shared.table_id new.cache.shards new.seats.items → new.seats.items ≡ old.seats.items → AreSound after script new
-sound_still design after script old new was h readable long still seen idle same = record {
+-- results that stayed beside the modules of a new design, of which each sees the ports of its key
+pub beside_still : {script : List Word} {keys : List (List ℕ)} (design after : Design) (was now : List (Option Built)) → IsReadable after → length was ≡ length after.modules
+    → AreStill script design.modules after.modules keys was → AreSeen after.modules was now → AreBeside keys after script now
+beside_still design after was now readable long still seen = record {
   readable = readable;
-  idle = idle;
   beside = seen.count ∙ long;
-  own = λ at built is.
-      subst (λ (s : List Seated). IsResultAt script after.modules (kept_by s) at built) (sym same)
-      (own_seen design.modules after.modules was new.found.items still seen at built is);
+  own = own_seen design.modules after.modules was now still seen;
 }
 
 get_within : {X : Type 0} (xs : List X) (at : ℕ) (x : X) → slice_get xs at ≡ Some x → at < length xs
@@ -276,49 +270,47 @@ filled_long found n le =
     omega (arith, le, whole, more)
 
 -- there are as many results after an edit as modules
-pub long_edited : (design after : Design) (script : List Word) (old : Results) (edits : List Module) (found filled : List (Option Built)) (count : ℕ) → AreSound design script old
-    → after.modules ≡ with_modules design.modules edits → count ≡ length after.modules → found ≡ unedited edits design.modules old.found.items → filled ≡ found ++ replicate (count - length found) None
-    → length filled ≡ length after.modules
-long_edited design after script old edits found filled count h are many is put =
-    let long : length found ≡ length design.modules = ap length is ∙ unedited_long edits design.modules old.found.items h.beside ∙ h.beside in
+pub long_edited : (design after : Design) (edits : List Module) (was found filled : List (Option Built)) (count : ℕ) → length was ≡ length design.modules → after.modules ≡ with_modules design.modules edits
+    → count ≡ length after.modules → found ≡ unedited edits design.modules was → filled ≡ found ++ replicate (count - length found) None → length filled ≡ length after.modules
+long_edited design after edits was found filled count h are many is put =
+    let long : length found ≡ length design.modules = ap length is ∙ unedited_long edits design.modules was h ∙ h in
     let enough : length found ≤ count = (let le = shorter_edited edits design.modules in let all = ap length are in omega (arith, le, all, long, many)) in
     ap length put ∙ filled_long found count enough ∙ many
 
--- the results after an edit are sound
-pub sound_edited : (design after : Design) (script : List Word) (old new : Results) (edits : List Module) (found filled : List (Option Built)) (count : ℕ) → AreSound design script old → IsReadable after
-    → after.modules ≡ with_modules design.modules edits → count ≡ length after.modules → found ≡ unedited edits design.modules old.found.items → filled ≡ found ++ replicate (count - length found) None
-    → AreSeen after.modules filled new.found.items → AreSeated new.cache.table.shared.table_id new.cache.shards new.seats.items → new.seats.items ≡ old.seats.items → AreSound after script new
-sound_edited design after script old new edits found filled count h readable are many is put seen idle same =
-    sound_still design after script old new filled h readable (long_edited design after script old edits found filled count h are many is put)
-    (subst (AreStill script design.modules after.modules (kept_by old.seats.items)) (sym put)
+-- the results beside the modules after an edit
+pub present_edited : (keys : List (List ℕ)) (design after : Design) (script : List Word) (edits : List Module) (was found filled now : List (Option Built)) (count : ℕ) → AreBeside keys design script was → IsReadable after
+    → after.modules ≡ with_modules design.modules edits → count ≡ length after.modules → found ≡ unedited edits design.modules was → filled ≡ found ++ replicate (count - length found) None
+    → AreSeen after.modules filled now → AreBeside keys after script now
+present_edited keys design after script edits was found filled now count h readable are many is put seen =
+    beside_still design after filled now readable (long_edited design after edits was found filled count h.beside are many is put)
+    (subst (AreStill script design.modules after.modules keys) (sym put)
     (still_filled design.modules after.modules found (count - length found)
-    (subst (AreStill script design.modules after.modules (kept_by old.seats.items)) (sym is)
-    (subst (λ (ms : List Module). AreStill script design.modules ms (kept_by old.seats.items) (unedited edits design.modules old.found.items)) (sym are)
-    (still_edited edits design.modules old.found.items h.own)))))
-    seen idle same
+    (subst (AreStill script design.modules after.modules keys) (sym is)
+    (subst (λ (ms : List Module). AreStill script design.modules ms keys (unedited edits design.modules was)) (sym are)
+    (still_edited edits design.modules was h.own)))))
+    seen
 
 -- there are as many results after a removal as modules
-pub long_removed : (design after : Design) (script : List Word) (old : Results) (name : List ℕ) (at : ℕ) (found : List (Option Built)) → AreSound design script old
-    → after.modules ≡ without_module design.modules name → place_named design.modules name ≡ Some at → found ≡ remove old.found.items at → length found ≡ length after.modules
-long_removed design after script old name at found h are place is =
+pub long_removed : (design after : Design) (name : List ℕ) (at : ℕ) (was found : List (Option Built)) → IsReadable design → length was ≡ length design.modules
+    → after.modules ≡ without_module design.modules name → place_named design.modules name ≡ Some at → found ≡ remove was at → length found ≡ length after.modules
+long_removed design after name at was found readable h are place is =
     let lt = place_inside name design.modules at place in
-    let a = length_removed old.found.items at (omega (arith, lt, h.beside)) in
-    let b = one_less name design.modules at h.readable place in
+    let a = length_removed was at (omega (arith, lt, h)) in
+    let b = one_less name design.modules at readable place in
     let e = ap length is in
     let f = ap length are in
-    omega (arith, a, b, e, f, h.beside)
+    omega (arith, a, b, e, f, h)
 
--- the results after a removal are sound
-pub sound_removed : (design after : Design) (script : List Word) (old new : Results) (name : List ℕ) (at : ℕ) (found : List (Option Built)) → AreSound design script old → IsReadable after
-    → after.modules ≡ without_module design.modules name → place_named design.modules name ≡ Some at → found ≡ remove old.found.items at
-    → AreSeen after.modules found new.found.items → AreSeated new.cache.table.shared.table_id new.cache.shards new.seats.items → new.seats.items ≡ old.seats.items → AreSound after script new
-sound_removed design after script old new name at found h readable are place is seen idle same =
+-- the results beside the modules after a removal
+pub present_removed : (keys : List (List ℕ)) (design after : Design) (script : List Word) (name : List ℕ) (at : ℕ) (was found now : List (Option Built)) → AreBeside keys design script was → IsReadable after
+    → after.modules ≡ without_module design.modules name → place_named design.modules name ≡ Some at → found ≡ remove was at → AreSeen after.modules found now → AreBeside keys after script now
+present_removed keys design after script name at was found now h readable are place is seen =
     let rest : after.modules ≡ remove design.modules at = are ∙ without_is name design.modules at h.readable place in
-    sound_still design after script old new found h readable (long_removed design after script old name at found h are place is)
-    (subst (AreStill script design.modules after.modules (kept_by old.seats.items)) (sym is)
-    (subst (λ (ms : List Module). AreStill script design.modules ms (kept_by old.seats.items) (remove old.found.items at)) (sym rest)
-    (still_removed design.modules old.found.items at h.beside (place_inside name design.modules at place) h.own)))
-    seen idle same
+    beside_still design after found now readable (long_removed design after name at was found h.readable h.beside are place is)
+    (subst (AreStill script design.modules after.modules keys) (sym is)
+    (subst (λ (ms : List Module). AreStill script design.modules ms keys (remove was at)) (sym rest)
+    (still_removed design.modules was at h.beside (place_inside name design.modules at place) h.own)))
+    seen
 
 -- a place is found where a module has the name
 pub is_there : {X : Type 0} (place : X → ℕ) (found : Option X) (name : List ℕ) (modules : List Module) → option_map place found ≡ place_named modules name → is_some found ≡ has_module modules name

@@ -14,10 +14,11 @@ use Rattle.script_core.specs.Cold.{cold, named}
 use Rattle.reply_lines.specs.declared.reply.Reply.{Reply}
 use Rattle.reply_lines.specs.Lines.{ok_reply}
 use Rattle.desk_core.specs.declared.results.Results.{Results}
+use Rattle.desk_core.specs.declared.runs.Told.{Told}
 use Rattle.desk_core.specs.declared.runs.Told.TheVariants.{Built as WereBuilt}
-use Rattle.desk_core.specs.Netlist.{all_kept, done_modules, netlist_of, over_words}
+use Rattle.desk_core.specs.Netlist.{done_modules, netlist_of, over_words}
 use Rattle.desk_core.specs.Results.{AreFound, AreSound, outcomes_of}
-use Rattle.desk_core.specs.State.{State, answer}
+use Rattle.desk_core.specs.State.{State}
 use Rattle.desk_core.specs.Summary.{cells_found, cells_in, cells_of, summary_answer, summary_line}
 use Rattle.desk_core.specs.Told.{told_of}
 use Rattle.desk_core.proofs.Outcomes.{outcomes_cold}
@@ -39,18 +40,18 @@ cells_are (m ∷ ms) (Some b ∷ found) e all =
     ap (λ (n : ℕ). cells_of b.outcome + n) (cells_are ms found (omega (arith, e)) all) ∙ sym (cells_next m.id b.outcome (outcomes_of ms found))
 
 -- they are those of the netlist of the cold run
-pub cells_cold : (design : Design) (script : List Word) (results : Results) → AreSound design script results → AreFound results
+pub cells_cold : (design : Design) (script : List Word) (results : Results) → AreSound design script results → AreFound results.found.items
     → cells_found results.found.items ≡ cells_in (done_modules (cold script design))
 cells_cold design script results sound all =
     cells_are design.modules results.found.items sound.beside all
     ∙ ap (λ (os : List Outcome). cells_in (done_modules os)) (outcomes_cold design script results sound all)
 
--- the answer where no module passes a limit
-pub summary_built : (s after : State) (words : List ℕ) (cells : ℕ) (r : Result Reply Memory) → WereBuilt words ≡ told_of s → cells ≡ cells_in (done_modules (cold s.script s.design))
-    → IfOk r (λ reply. reply ≡ ok_reply (summary_line (length s.design.modules) words cells)) → after ≡ all_kept s → IfOk r (λ reply. answer reply after ≡ summary_answer s)
-summary_built s after words cells (Err memory) told are is state = tt
-summary_built s after words cells (Ok reply) told are is state =
-    ap (λ (r : Reply). answer r after)
-    (is ∙ ap (λ (n : ℕ). ok_reply (summary_line (length s.design.modules) words n)) are
-    ∙ reply_built s (λ w. ok_reply (summary_line (length s.design.modules) w (cells_in (netlist_of s).modules))) words (over_words s.design.modules (cold s.script s.design)) told)
-    ∙ ap (answer (summary_answer s).reply) state
+-- the reply where it is told what was built
+pub summary_told : (told : Told) (words : List ℕ) (design : Design) (cells : ℕ) (r : Result Reply Memory) → told ≡ WereBuilt words
+    → IfOk r (λ reply. reply ≡ ok_reply (summary_line (length design.modules) words cells))
+    → IfOk r (λ reply. (s : State) → told ≡ told_of s → design ≡ s.design → cells ≡ cells_in (netlist_of s).modules → reply ≡ (summary_answer s).reply)
+summary_told told words design cells (Err memory) built is = tt
+summary_told told words design cells (Ok reply) built is = λ s same own are.
+    is ∙ ap (λ (d : Design). ok_reply (summary_line (length d.modules) words cells)) own
+    ∙ ap (λ (n : ℕ). ok_reply (summary_line (length s.design.modules) words n)) are
+    ∙ reply_built s (λ w. ok_reply (summary_line (length s.design.modules) w (cells_in (netlist_of s).modules))) words (over_words s.design.modules (cold s.script s.design)) (sym built ∙ same)

@@ -1,29 +1,31 @@
 -- Replies by what is told where the netlist is needed.
-use Rattle.std.proofs.Common.{◌≡◌, ℕ, ◌-◌, List, ◌++◌, Option, Some, None, Result, Ok, Err, length, refl, sym, ap, subst, ◌∙◌}
+use Rattle.std.proofs.Common.{◌≡◌, ℕ, ◌-◌, ◌≤◌, List, ◌++◌, Option, Some, None, Result, Ok, Err, length, refl, sym, ap, subst, ◌∙◌}
 use Rattle.std.specs.Prelude.{IfOk, OnErr, OnOk, codes}
 use Rattle.rtl_bits.specs.declared.memory.Memory.{Memory}
 use Rattle.rtl_ir.specs.declared.module.Design.{Design}
 use Rattle.rtl_write.specs.Text.{text_of}
-use Rattle.result_cache.specs.Filled.{with_keys}
-use Rattle.result_cache.proofs.NewKeys.{still_among}
+use Rattle.result_cache.specs.Filled.{new_count}
 use Rattle.rtl_sig.specs.Names.{has_name}
 use Rattle.script_core.specs.declared.outcome.Outcome.{Outcome}
 use Rattle.script_core.specs.declared.word.Word.{Word}
 use Rattle.script_core.specs.Cold.{cold}
 use Rattle.reply_lines.specs.declared.reply.Reply.{Reply}
 use Rattle.reply_lines.specs.Lines.{counted, error_reply, ok_line, ok_reply}
+use Rattle.desk_core.specs.declared.ages.Ages.{Ages}
 use Rattle.desk_core.specs.declared.results.Results.{Results}
 use Rattle.desk_core.specs.declared.runs.Told.{Told}
 use Rattle.desk_core.specs.declared.runs.Told.TheVariants.{Built, Over}
 use Rattle.desk_core.specs.Answers.{print_answer, printed_reply, run_answer}
 use Rattle.result_cache.specs.Seats.{Seated}
-use Rattle.build_crew.specs.Kept.{HasStill, kept_by}
+use Rattle.build_crew.specs.Kept.{kept_by}
 use Rattle.build_crew.specs.Rises.{RisesUpTo}
 use Rattle.desk_core.specs.Builds.{BuildsOrReturns, HasClaims, KeepsAll, present_keys}
 use Rattle.desk_core.specs.Netlist.{all_kept, built_count, built_words, done_modules, key_texts, netlist_answer, netlist_of, over_words, unless_over}
 use Rattle.desk_core.specs.Results.{AreFound, AreSound, over_of, state_of, view_of}
-use Rattle.desk_core.specs.State.{DeskView, State, answer}
+use Rattle.desk_core.specs.Ages.{AreYoung, kept_after, kept_in, texts_of}
+use Rattle.desk_core.specs.State.{DeskView, KeptKey, State, answer}
 use Rattle.desk_core.specs.Told.{told_by, told_of}
+use Rattle.desk_core.proofs.Ended.{fewer_new}
 use Rattle.desk_core.proofs.Outcomes.{over_cold}
 
 -- where it is told what was built, no module passes a limit
@@ -49,48 +51,66 @@ told_is s words over built (Ok told) is are count first =
     is ∙ ap (λ (w : List ℕ). told_by w over) (are ∙ ap (λ (b : ℕ). counted (codes "built") b ++ counted (codes "reused") (length s.design.modules - b)) count)
     ∙ ap (told_by (built_words s)) first
 
-pub told_over : (design : Design) (script : List Word) (results : Results) (over : Option (List ℕ)) → AreSound design script results → AreFound results → over ≡ over_of design.modules results.found.items
+pub told_over : (design : Design) (script : List Word) (results : Results) (over : Option (List ℕ)) → AreSound design script results → AreFound results.found.items → over ≡ over_of design.modules results.found.items
     → over ≡ over_words design.modules (cold script design)
 told_over design script results over sound found is = is ∙ over_cold design script results sound found
 
--- a state in which all keys of the design are kept
-pub all_are_kept : (design : Design) (script : List Word) (old new : Results) → kept_by new.seats.items ≡ with_keys (kept_by old.seats.items) (key_texts script design.modules)
-    → state_of design script new ≡ all_kept (state_of design script old)
-all_are_kept design script old new is = ap (λ (kept : List (List ℕ)). record { design = design; script = script; kept = kept }) is
+-- the reply to `run` where it is told what was built
+pub run_told : (told : Told) (words : List ℕ) (r : Result Reply Memory) → told ≡ Built words → IfOk r (λ reply. reply ≡ ok_reply (ok_line words))
+    → IfOk r (λ reply. (s : State) → told ≡ told_of s → reply ≡ (run_answer s).reply)
+run_told told words (Err memory) built is = tt
+run_told told words (Ok reply) built is = λ s same. is ∙ reply_built s (λ w. ok_reply (ok_line w)) words (over_words s.design.modules (cold s.script s.design)) (sym built ∙ same)
 
--- the answers to `run`
-pub run_built : (s after : State) (words : List ℕ) (reply : Reply) → Built words ≡ told_of s → reply ≡ ok_reply (ok_line words) → after ≡ all_kept s → answer reply after ≡ run_answer s
-run_built s after words reply told is state =
-    ap (λ (r : Reply). answer r after) (is ∙ reply_built s (λ w. ok_reply (ok_line w)) words (over_words s.design.modules (cold s.script s.design)) told)
-    ∙ ap (answer (run_answer s).reply) state
+-- the reply to `print`
+pub print_told : (told : Told) (words : List ℕ) (outcomes : List Outcome) (r : Result Reply Memory) → told ≡ Built words
+    → IfOk r (λ reply. reply ≡ printed_reply words (text_of (record { modules = done_modules outcomes })))
+    → IfOk r (λ reply. (s : State) → told ≡ told_of s → outcomes ≡ cold s.script s.design → reply ≡ (print_answer s).reply)
+print_told told words outcomes (Err memory) built is = tt
+print_told told words outcomes (Ok reply) built is = λ s same are.
+    is ∙ ap (λ (os : List Outcome). printed_reply words (text_of (record { modules = done_modules os }))) are
+    ∙ reply_built s (λ w. printed_reply w (text_of (netlist_of s))) words (over_words s.design.modules (cold s.script s.design)) (sym built ∙ same)
 
-pub answer_over : (s after : State) (words : List ℕ) (other : Reply) (r : Result Reply Memory) → Over words ≡ told_of s → IfOk r (λ reply. reply ≡ error_reply words) → after ≡ all_kept s
-    → IfOk r (λ reply. answer reply after ≡ netlist_answer s other)
-answer_over s after words other (Err memory) told is state = tt
-answer_over s after words other (Ok reply) told is state =
-    ap (λ (r : Reply). answer r after) (is ∙ reply_over s other words (over_words s.design.modules (cold s.script s.design)) told)
-    ∙ ap (answer (netlist_answer s other).reply) state
+-- where the words of an error are told, that error is the reply to each command that needs the netlist
+pub over_told : (told : Told) (words : List ℕ) (r : Result Reply Memory) → told ≡ Over words → IfOk r (λ reply. reply ≡ error_reply words)
+    → IfOk r (λ reply. (s : State) (other : Reply) → told ≡ told_of s → reply ≡ (netlist_answer s other).reply)
+over_told told words (Err memory) over is = tt
+over_told told words (Ok reply) over is = λ s other same. is ∙ reply_over s other words (over_words s.design.modules (cold s.script s.design)) (sym over ∙ same)
 
--- the answer to `print`
-pub print_built : (s after : State) (words : List ℕ) (outcomes : List Outcome) (r : Result Reply Memory) → Built words ≡ told_of s → outcomes ≡ cold s.script s.design
-    → IfOk r (λ reply. reply ≡ printed_reply words (text_of (record { modules = done_modules outcomes }))) → after ≡ all_kept s → IfOk r (λ reply. answer reply after ≡ print_answer s)
-print_built s after words outcomes (Err memory) told are is state = tt
-print_built s after words outcomes (Ok reply) told are is state =
-    ap (λ (r : Reply). answer r after)
-    (is ∙ ap (λ (os : List Outcome). printed_reply words (text_of (record { modules = done_modules os }))) are
-    ∙ reply_built s (λ w. printed_reply w (text_of (netlist_of s))) words (over_words s.design.modules (cold s.script s.design)) told)
-    ∙ ap (answer (print_answer s).reply) state
+-- the answer by its reply and the state after it
+pub answered : (s after : State) (reply other : Reply) → reply ≡ (netlist_answer s other).reply → after ≡ all_kept s → answer reply after ≡ netlist_answer s other
+answered s after reply other is state = ap (λ (r : Reply). answer r after) is ∙ ap (answer (netlist_answer s other).reply) state
 
 -- what a command that finds no memory leaves
-pub keeps_all : (design : Design) (script : List Word) (old new : Results) → HasStill (kept_by old.seats.items) (kept_by new.seats.items) → KeepsAll (state_of design script old) (state_of design script new)
-keeps_all design script old new still = record { design = refl; script = refl; kept = still }
+pub keeps_all : (design : Design) (script : List Word) (old new : Results) → state_of design script new ≡ state_of design script old → KeepsAll (state_of design script old) (state_of design script new)
+keeps_all design script old new same = record { design = refl; script = refl; kept = ap (λ (s : State). s.kept) same }
 
 pub keeps_same : (before after : State) → after ≡ before → KeepsAll before after
-keeps_same before after same = subst (KeepsAll before) (sym same) record { design = refl; script = refl; kept = λ text is. is }
+keeps_same before after same = subst (KeepsAll before) (sym same) record { design = refl; script = refl; kept = refl }
 
--- what is kept before the results are found is kept after it
-pub still_kept : (design : Design) (script : List Word) (old new : Results) → kept_by new.seats.items ≡ with_keys (kept_by old.seats.items) (key_texts script design.modules) → HasStill (kept_by old.seats.items) (kept_by new.seats.items)
-still_kept design script old new is = λ text known. ap (λ (l : List (List ℕ)). has_name l text) is ∙ still_among (kept_by old.seats.items) (key_texts script design.modules) text known
+-- results of which only the table of keys grew, by keys without an age
+module _ (design : Design) (script : List Word) (old : Results) (ages : Ages) (same : kept_in ages.keys ages.ages.items ≡ kept_in old.ages.keys old.ages.ages.items) where
+  pub grown_sound : AreSound design script old → length ages.ages.items ≡ length ages.keys → (AreYoung old.ages.ages.items → AreYoung ages.ages.items) → AreSound design script (record old { ages = ages })
+  grown_sound h beside young = record {
+    readable = h.readable;
+    idle = h.idle;
+    aged = record {
+      beside = beside;
+      kept = λ q is. h.aged.kept q (ap (λ (kept : List KeptKey). has_name (texts_of kept) q) (sym same) ∙ is);
+      young = young h.aged.young;
+    };
+    beside = h.beside;
+    own = h.own;
+  }
+
+  pub grown_state : (new : Results) → new.ages ≡ ages → state_of design script new ≡ state_of design script old
+  grown_state new is =
+      ap (λ (kept : List KeptKey). record { design = design; script = script; kept = kept }) (ap (λ (a : Ages). kept_in a.keys a.ages.items) is ∙ same)
+
+-- no more is built than was not kept
+pub built_more : (design : Design) (script : List Word) (results : Results) → AreSound design script results
+    → new_count (kept_by results.seats.items) (key_texts script design.modules) ≤ built_count (state_of design script results)
+built_more design script results h =
+    fewer_new (texts_of (kept_in results.ages.keys results.ages.ages.items)) (kept_by results.seats.items) (key_texts script design.modules) h.aged.kept
 
 -- what holds of the parts of a desk holds of what contracts see of it
 module _ (design : Design) (script : List Word) (old : Results) (v : DeskView) (is : view_of design script old ≡ v) where

@@ -1,5 +1,6 @@
 pub mod Standing
 pub mod State
+pub mod Ages
 pub mod Codes
 pub mod Netlist
 pub mod Answers
@@ -10,8 +11,10 @@ pub mod Results
 pub mod Beside
 pub mod Edits
 pub mod Told
+pub mod Needed
 pub mod Crew
 pub mod CrewRuns
 pub mod CrewBuilds
 pub mod Traces
 pub mod Shaped
+pub mod Present

@@ -4,7 +4,7 @@ use Rattle.std.specs.List.{range_with_len}
 use Rattle.std.specs.Option.{option_or}
 use Rattle.rtl_ir.specs.declared.module.Design.{Design}
 use Rattle.rtl_ir.specs.declared.module.Module.{Module}
-use Rattle.result_cache.specs.Filled.{new_count, with_keys}
+use Rattle.result_cache.specs.Filled.{new_count}
 use Rattle.script_core.specs.declared.outcome.Outcome.{Outcome}
 use Rattle.script_core.specs.declared.outcome.Outcome.TheVariants.{Done, Over}
 use Rattle.script_core.specs.declared.word.Word.{Word}
@@ -13,6 +13,7 @@ use Rattle.script_core.specs.Keys.{key_of, key_text}
 use Rattle.script_core.specs.Words.{spelling_of}
 use Rattle.reply_lines.specs.declared.reply.Reply.{Reply}
 use Rattle.reply_lines.specs.Lines.{counted, error_reply}
+use Rattle.desk_core.specs.Ages.{kept_after, texts_of}
 use Rattle.desk_core.specs.State.{Answer, State}
 
 -- the text of the key of the module at a place
@@ -25,11 +26,12 @@ key_texts script modules = map (key_text_at script modules) (range_with_len 0 (l
 
 -- how many keys of the present design are built where its netlist is asked for
 abbrev pub built_count : State → ℕ
-built_count s = new_count s.kept (key_texts s.script s.design.modules)
+built_count s = new_count (texts_of s.kept) (key_texts s.script s.design.modules)
 
--- the state once all keys of the present design are kept
+-- the state after a command that needs the netlist: all keys of the present design are kept, with age 0, and the other kept
+-- keys are older by one
 abbrev pub all_kept : State → State
-all_kept s = record s { kept = with_keys s.kept (key_texts s.script s.design.modules) }
+all_kept s = record s { kept = kept_after (key_texts s.script s.design.modules) s.kept }
 
 -- how many keys were built, and for how many of the modules the result was there
 abbrev pub built_words : State → List ℕ

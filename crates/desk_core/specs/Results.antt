@@ -7,8 +7,9 @@ use Rattle.rtl_ir.specs.declared.module.Module.{Module}
 use Rattle.rtl_sig.specs.Names.{has_name}
 use Rattle.rtl_readable.specs.Readable.{IsReadable}
 use Rattle.atomic_table.specs.Seated.{TableId}
+use Rattle.result_cache.specs.Meet.{Share}
 use Rattle.result_cache.specs.Seats.{Seated}
-use Rattle.build_crew.specs.Kept.{AreAllSeats, kept_by}
+use Rattle.build_crew.specs.Kept.{AreAllSeats, HasStill, kept_by}
 use Rattle.build_crew.specs.declared.finding.Found.{Found}
 use Rattle.script_core.specs.declared.built.Built.{Built}
 use Rattle.script_core.specs.declared.outcome.Outcome.{Outcome}
@@ -16,7 +17,9 @@ use Rattle.script_core.specs.declared.word.Word.{Word}
 use Rattle.script_core.specs.Built.{IsValueOf}
 use Rattle.script_core.specs.Cold.{named}
 use Rattle.script_core.specs.Keys.{key_of}
+use Rattle.desk_core.specs.declared.ages.Ages.{Ages}
 use Rattle.desk_core.specs.declared.results.Results.{Results}
+use Rattle.desk_core.specs.Ages.{kept_in, oldest, texts_of}
 use Rattle.desk_core.specs.Netlist.{key_text_at, over_line}
 use Rattle.desk_core.specs.State.{DeskView, State}
 
@@ -26,11 +29,13 @@ pub record IsResultAt (script : List Word) (modules : List Module) (keys : List 
   pub value : IsValueOf built.key built.outcome
   pub kept : has_name keys (key_text_at script modules at) ≡ true
 
--- these are all seats of a cache, at least one and at most 64, and none of them has a ticket
+-- these are all seats of a cache, at least one and at most 64, none of them has a ticket, and they share one history of each
+-- shard
 pub record AreSeated (cache : TableId) (shards : ℕ) (seats : List Seated) : Type 0 where
   pub some : 0 < length seats
   pub few : length seats ≤ 64
   pub all : AreAllSeats cache (length seats) shards 0 seats
+  pub shared : Share shards seats
 
 -- the keys of the modules of a design are told by a table of these modules, and by the results beside them
 pub record TellKeys (design : Design) (table : List Module) (script : List Word) (found : List (Option Built)) : Type 0 where
@@ -41,11 +46,26 @@ pub record TellKeys (design : Design) (table : List Module) (script : List Word)
       (at : ℕ) (built : Built) → slice_get found at ≡ Some (Some built) →
       built.key ≡ key_of design.modules at script
 
--- the results of a desk with this design and script: the seats are all seats of the cache and have no ticket, and beside a
--- module stands the result of its key, or nothing
+-- beside the modules of a readable design stand the results of their keys, which are among these, or nothing
+pub record AreBeside (keys : List (List ℕ)) (design : Design) (script : List Word) (found : List (Option Built)) : Type 0 where
+  pub readable : IsReadable design
+  pub beside : length found ≡ length design.modules
+  pub own :
+      (at : ℕ) (built : Built) → slice_get found at ≡ Some (Some built) →
+      IsResultAt script design.modules keys at built
+
+-- the keys of a table that have an age are among these, and no age passes the greatest
+pub record AreAged (ages : Ages) (keys : List (List ℕ)) : Type 0 where
+  pub beside : length ages.ages.items ≡ length ages.keys
+  pub kept : HasStill (texts_of (kept_in ages.keys ages.ages.items)) keys
+  pub young : (at age : ℕ) → slice_get ages.ages.items at ≡ Some (Some age) → age ≤ oldest
+
+-- the results of a desk with this design and script: the seats are all seats of the cache and have no ticket, the keys that
+-- have an age are kept, and beside a module stands the result of its key, or nothing
 pub record AreSound (design : Design) (script : List Word) (results : Results) : Type 0 where
   pub readable : IsReadable design
   pub idle : AreSeated results.cache.table.shared.table_id results.cache.shards results.seats.items
+  pub aged : AreAged results.ages (kept_by results.seats.items)
   pub beside : length results.found.items ≡ length design.modules
   pub own :
       (at : ℕ) (built : Built) → slice_get results.found.items at ≡ Some (Some built) →
@@ -58,8 +78,8 @@ AreAnswers script modules items =
     (found.value.key ≡ key_of modules at script) × IsValueOf found.value.key found.value.outcome
 
 -- beside each module stands its result
-abbrev pub AreFound : Results → Type 0
-AreFound results = list_all is_some results.found.items ≡ true
+abbrev pub AreFound : List (Option Built) → Type 0
+AreFound found = list_all is_some found ≡ true
 
 -- the outcome of the result beside a module, under the module's own name, where it has one
 abbrev pub outcome_beside : Module → Option Built → List Outcome
@@ -85,7 +105,7 @@ over_of (m ∷ modules) (result ∷ found) = option_or (over_beside m result) (o
 
 -- the state of a desk with this design, script and results
 abbrev pub state_of : Design → List Word → Results → State
-state_of design script results = record { design = design; script = script; kept = kept_by results.seats.items }
+state_of design script results = record { design = design; script = script; kept = kept_in results.ages.keys results.ages.ages.items }
 
 -- what contracts see of a desk with them
 abbrev pub view_of : Design → List Word → Results → DeskView

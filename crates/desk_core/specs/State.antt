@@ -5,11 +5,16 @@ use Rattle.reply_lines.specs.declared.reply.Reply.{Reply}
 use Rattle.result_cache.specs.Seats.{Seated}
 use Rattle.script_core.specs.declared.word.Word.{Word}
 
--- the present design, the script, and the texts of the kept keys in rising order, each once
+-- the text of a kept key, and its age: how many commands in a row needed the netlist and not this key
+pub record KeptKey : Type 0 where
+  pub key : List ℕ
+  pub age : ℕ
+
+-- the present design, the script, and the kept keys in rising order of their texts, each once
 pub record State : Type 0 where
   pub design : Design
   pub script : List Word
-  pub kept : List (List ℕ)
+  pub kept : List KeptKey
 
 -- what contracts see of a desk: the state of the machine that it is, and the seats of its workers
 pub record DeskView : Type 0 where

@@ -14,3 +14,8 @@ told_by words (Some over) = Over (over ++ words)
 -- what is told in a state
 abbrev pub told_of : State → Told
 told_of s = told_by (built_words s) (over_words s.design.modules (cold s.script s.design))
+
+-- it was told what was built: no module passes a limit
+abbrev pub IsBuilt : Told → Type 0
+IsBuilt (Built words) = Unit {0}
+IsBuilt (Over words) = ⊥

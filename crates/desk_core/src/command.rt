@@ -8,7 +8,7 @@ ghost use Rattle.desk_core.specs.Step.{IsStep};
 use crate::crew::Crew;
 use crate::desk::Desk;
 use desk_read::Command;
-use reply_lines::{Reply, error_reply, last_reply};
+use reply_lines::Reply;
 use rtl_bits::{Memory, Steps};
 use std::marker::{Send, Sync};
 use std::sync::Wait;
@@ -19,9 +19,9 @@ impl Desk {
     /// Answers a command. Each build of a module is a step of the meter. The workers run in threads, and a worker calls the
     /// gate before and after the job of each module.
     ///
-    /// After an error the design and the script are as before; further keys may be kept, each with its result. There were
-    /// then no more builds than keys of the command that were not kept and tickets that the seats gave back.
-    #[tactic(auto, using(crate::proofs::Told::keeps_same, crate::proofs::Rises::rises_none, crate::proofs::Rises::claims_none, crate::proofs::Rises::returns_none))]
+    /// After an error the state is as before; the cache may have further results. There were then no more builds than keys of
+    /// the command that were not kept and tickets that the seats gave back.
+    #[tactic(auto, using(crate::proofs::Changing::plain, crate::proofs::Changing::claims_plain, crate::proofs::Told::keeps_same, crate::proofs::Rises::rises_none, crate::proofs::Rises::returns_none))]
     pub fn command<R: Threads + Wait + Sync, G: Gate, L: Send>(
         &mut self,
         rt: &R,
@@ -36,21 +36,13 @@ impl Desk {
         ensures returned { BuildsOrReturns (builds_of command.now self.old.state) self.old.seats self.new.seats meter.old
             meter.new }
     {
-        let alloc = self.alloc;
+        let alloc = self.present.alloc;
         let crew = Crew { rt, alloc, gate };
         match command {
-            Command::Load(text) => self.load(text.as_slice()),
-            Command::Edit(text) => self.edit(text.as_slice()),
-            Command::Remove(name) => self.remove(name.as_slice()),
-            Command::Script(text) => self.set_script(text.as_slice()),
             Command::Run => self.run(&crew, meter),
             Command::Print => self.print(&crew, meter),
-            Command::Show(name) => self.show(name.as_slice()),
-            Command::SimSource(ask) => self.run_source(ask),
             Command::SimNetlist(ask) => self.run_netlist(&crew, ask, meter),
-            Command::Quit => last_reply(self.alloc),
-            Command::Bad => error_reply(self.alloc, b"21"),
-            Command::Unclosed => error_reply(self.alloc, b"22"),
+            _ => self.present.answer(&mut self.results.found, command),
         }
     }
 }

@@ -1,6 +1,7 @@
 //! A crew that finds the results of all keys.
 
 ghost use Rattle.std.specs.Prelude.{◌≡◌, ◌<◌, ◌≤◌, IfOk, OnErr, length};
+ghost use Rattle.result_cache.specs.Meet.{Share};
 ghost use Rattle.build_crew.specs.Kept.{AreAllSeats};
 ghost use Rattle.build_crew.specs.Leaves.{HasRun, HasStopped, new_among};
 ghost use Rattle.desk_core.specs.Netlist.{key_texts};
@@ -28,10 +29,12 @@ impl<R: Threads + Wait + Sync> CrewJobs<'_, R> {
         requires limits { (0 < length seats.old) × (length seats.old ≤ 64) }
         requires seats { AreAllSeats self.now.cache.now.table.shared.table_id (length seats.old)
             self.now.cache.now.shards 0 seats.old }
+        requires shared { Share self.now.cache.now.shards seats.old }
         requires keys { TellKeys self.now.keys.now.design.now.design self.now.keys.now.table.now.modules.now
             self.now.keys.now.script.now self.now.found.now }
         ensures seats { AreAllSeats self.now.cache.now.table.shared.table_id (length seats.old)
             self.now.cache.now.shards 0 seats.new }
+        ensures shared { Share self.now.cache.now.shards seats.new }
         ensures count { IfOk result (λ items.
             length items.items ≡ length self.now.keys.now.design.now.design.modules) }
         ensures answers { IfOk result (λ items.

@@ -1,12 +1,16 @@
 //! A desk: the present design and script, and what is kept.
 
-ghost use Rattle.std.specs.Prelude.{◌≡◌, ◌≤◌, [], IfOk, length};
-ghost use Rattle.desk_core.specs.State.{first_state};
+ghost use Rattle.std.specs.Prelude.{◌≡◌, ◌≤◌, IfOk, OnErr, length};
+ghost use Rattle.rtl_readable.specs.Readable.{IsReadable};
+ghost use Rattle.desk_core.specs.Answers.{design_answer};
+ghost use Rattle.desk_core.specs.State.{answer, first_state};
 
+use crate::ages::Ages;
+use crate::present::Present;
 use crate::results::Results;
+use reply_lines::Reply;
 use result_cache::{Opened, SharedCache};
-use rtl_bits::{Memory, Seq};
-use rtl_check::{Checked, check};
+use rtl_bits::Memory;
 use rtl_ir::Design;
 use script_core::Script;
 use std::alloc::Global;
@@ -19,9 +23,7 @@ const SHARDS: u32 = 16;
 /// is, and the seats of the workers.
 #[derive(Drop)]
 pub struct Desk {
-    pub(crate) alloc: Global,
-    pub(crate) design: Checked,
-    pub(crate) script: Script,
+    pub(crate) present: Present,
     pub(crate) results: Results,
 }
 
@@ -34,20 +36,9 @@ impl Model for Desk {
 
     ghost coded = { view_code };
 
-    ghost view = { λ d. view_of d.design.design d.script d.results };
+    ghost view = { λ d. view_of d.present.design.design d.present.script d.results };
 
-    ghost invariant = { λ d. AreSound d.design.design d.script d.results };
-}
-
-/// The design without modules.
-fn no_modules(alloc: Global) -> Result<Checked, Memory>
-    ensures value { IfOk result (λ checked. checked.design.modules ≡ []) }
-{
-    let modules = Seq::make(alloc);
-    match check(alloc, Design { modules }) {
-        Ok(checked) => Ok(checked),
-        Err(_) => Err(Memory),
-    }
+    ghost invariant = { λ d. AreSound d.present.design.design d.present.script d.results };
 }
 
 impl Desk {
@@ -58,19 +49,26 @@ impl Desk {
         ensures value { IfOk result (λ desk. desk.state ≡ first_state script) }
         ensures workers { IfOk result (λ desk. length desk.seats ≡ workers) }
     {
-        let design = no_modules(alloc)?;
         let Opened { cache, seats } = SharedCache::make(alloc, workers, SHARDS)?;
-        let found = Vec::new(alloc);
         let results = Results {
             cache,
             seats,
-            found,
+            ages: Ages::make(alloc),
+            found: Vec::new(alloc),
         };
         Ok(Desk {
-            alloc,
-            design,
-            script,
+            present: Present::make(alloc, script),
             results,
         })
+    }
+
+    /// The design becomes the present one, unless it has a fault.
+    pub fn replace(&mut self, design: Design) -> Result<Reply, Memory>
+        requires readable { IsReadable design }
+        ensures ok { IfOk result (λ reply. answer reply self.new.state ≡ design_answer self.old.state design.modules) }
+        ensures seats { self.new.seats ≡ self.old.seats }
+        ensures err { OnErr result (self.new ≡ self.old) }
+    {
+        self.present.replace(&mut self.results.found, design)
     }
 }

@@ -6,16 +6,19 @@ ghost use Rattle.rtl_ir.specs.Faults.{check_faults};
 ghost use Rattle.rtl_ir.specs.declared.limits.TheConstants.{MAX_MODULES};
 ghost use Rattle.rtl_ir.specs.declared.module.Module.{Module};
 ghost use Rattle.rtl_lex.specs.Items.{Seen};
+ghost use Rattle.rtl_readable.specs.Readable.{IsReadable};
 ghost use Rattle.rtl_read.specs.Reads.{AreItemsOf, Reads};
 ghost use Rattle.rtl_check.specs.Edits.{IsEditFault};
 ghost use Rattle.rtl_check.specs.Finds.{IsFirst};
 ghost use Rattle.design_edit.specs.Modules.{with_modules, without_module};
 ghost use Rattle.desk_core.specs.Answers.{IsEditAnswer, IsEdited, remove_answer};
 ghost use Rattle.desk_core.specs.Edits.{IsEditReply};
-ghost use Rattle.desk_core.specs.State.{answer};
+ghost use Rattle.desk_core.specs.Present.{KeepsBeside, state_with};
+ghost use Rattle.desk_core.specs.State.{KeptKey, answer};
 
 use crate::beside::{fill_up, let_go_unseen, unedited};
-use crate::desk::Desk;
+use crate::kept::Kept;
+use crate::present::Present;
 use design_edit::{edited_count, module_place, place_named};
 use reply_lines::{Reply, check_reply, counted_reply, place_reply, read_reply, told_reply};
 use rtl_bits::{Memory, Seq};
@@ -78,50 +81,63 @@ fn edit_reply(alloc: Global, text: &[u8], fault: &EditFault) -> Result<Reply, Me
     }
 }
 
-impl Desk {
+impl Present {
     /// Each module of the text's design takes the place of the one of its name, or comes last.
     #[tactic(auto, using(crate::proofs::Changing::edited, crate::proofs::Changing::refused_edit))]
-    pub(crate) fn edit(&mut self, text: &[u8]) -> Result<Reply, Memory>
-        ensures ok { IfOk result (λ reply. IsEditAnswer self.old.state text.now (answer reply self.new.state)) }
-        ensures seats { self.new.seats ≡ self.old.seats }
-        ensures err { OnErr result (self.new ≡ self.old) }
+    pub fn edit(&mut self, found: &mut Vec<Option<Kept>>, text: &[u8]) -> Result<Reply, Memory>
+        requires readable { IsReadable self.old.design.design }
+        requires beside { length found.old.items ≡ length self.old.design.design.modules }
+        ensures present { KeepsBeside self.old found.old.items self.new found.new.items }
+        ensures ok { (kept : List KeptKey) → IfOk result (λ reply.
+            IsEditAnswer (state_with kept self.old) text.now (answer reply (state_with kept self.new))) }
+        ensures err { OnErr result ((self.new ≡ self.old) × (found.new ≡ found.old)) }
     {
         match read(self.alloc, text) {
-            Ok(design) => self.take_edits(text, design),
+            Ok(design) => self.take_edits(found, text, design),
             Err(fault) => read_reply(self.alloc, fault),
         }
     }
 
     /// Each module of the design takes the place of the one of its name, or comes last. The design is that of the text.
     /// The results of the other modules stay beside them, where they see the same ports.
-    #[tactic(auto, using(crate::proofs::Changing::taken_edits, crate::proofs::Staying::shorter_edited, crate::proofs::Staying::unedited_long))]
-    fn take_edits(&mut self, text: &[u8], edits: Design) -> Result<Reply, Memory>
+    #[tactic(auto, using(crate::proofs::Changing::taken_edits, crate::proofs::Staying::present_edited, crate::proofs::Staying::unedited_long))]
+    fn take_edits(
+        &mut self,
+        found: &mut Vec<Option<Kept>>,
+        text: &[u8],
+        edits: Design,
+    ) -> Result<Reply, Memory>
         requires reads { Reads text.now edits }
-        ensures ok { IfOk result (λ reply. IsEdited self.old.state text.now edits (answer reply self.new.state)) }
-        ensures seats { self.new.seats ≡ self.old.seats }
-        ensures err { OnErr result (self.new ≡ self.old) }
+        requires readable { IsReadable self.old.design.design }
+        requires beside { length found.old.items ≡ length self.old.design.design.modules }
+        ensures present { KeepsBeside self.old found.old.items self.new found.new.items }
+        ensures ok { (kept : List KeptKey) → IfOk result (λ reply.
+            IsEdited (state_with kept self.old) text.now edits (answer reply (state_with kept self.new))) }
+        ensures err { OnErr result ((self.new ≡ self.old) × (found.new ≡ found.old)) }
     {
         let alloc = self.alloc;
         let modules = self.design.design().modules.as_slice();
         let count = edited_count(alloc, modules, edits.modules.as_slice())?;
         let reply = counted_reply(alloc, b"modules", count)?;
-        let beside = self.results.found.as_slice();
-        let mut found = unedited(alloc, edits.modules.as_slice(), modules, beside)?;
-        fill_up(&mut found, count)?;
+        let mut rest = unedited(alloc, edits.modules.as_slice(), modules, found.as_slice())?;
+        fill_up(&mut rest, count)?;
         if let Err(fault) = edit_design(alloc, &mut self.design, edits.modules) {
             return edit_reply(alloc, text, &fault);
         }
-        let_go_unseen(alloc, &self.design, &mut found);
-        self.results.found = found;
+        let_go_unseen(alloc, &self.design, &mut rest);
+        *found = rest;
         Ok(reply)
     }
 
     /// The module of this name is taken away. The results of the other modules stay beside them.
     #[tactic(auto, using(crate::proofs::Staying::place_inside))]
-    pub(crate) fn remove(&mut self, name: &[u8]) -> Result<Reply, Memory>
-        ensures ok { IfOk result (λ reply. answer reply self.new.state ≡ remove_answer self.old.state name.now) }
-        ensures seats { self.new.seats ≡ self.old.seats }
-        ensures err { OnErr result (self.new ≡ self.old) }
+    pub fn remove(&mut self, found: &mut Vec<Option<Kept>>, name: &[u8]) -> Result<Reply, Memory>
+        requires readable { IsReadable self.old.design.design }
+        requires beside { length found.old.items ≡ length self.old.design.design.modules }
+        ensures present { KeepsBeside self.old found.old.items self.new found.new.items }
+        ensures ok { (kept : List KeptKey) → IfOk result (λ reply.
+            answer reply (state_with kept self.new) ≡ remove_answer (state_with kept self.old) name.now) }
+        ensures err { OnErr result ((self.new ≡ self.old) × (found.new ≡ found.old)) }
     {
         let alloc = self.alloc;
         let modules = self.design.design().modules.as_slice();
@@ -132,8 +148,8 @@ impl Desk {
         if let Err(fault) = remove_module(alloc, &mut self.design, name) {
             return check_reply(alloc, &fault);
         }
-        self.results.found.remove(at);
-        let_go_unseen(alloc, &self.design, &mut self.results.found);
+        found.remove(at);
+        let_go_unseen(alloc, &self.design, found);
         Ok(reply)
     }
 }

@@ -8,6 +8,7 @@ ghost use Rattle.net_model.specs.Refine.{Refines};
 ghost use Rattle.script_core.specs.Words.{IsScript};
 ghost use Rattle.reply_lines.specs.declared.reply.Reply.{Reply};
 ghost use Rattle.script_core.specs.declared.built.Built.{Built};
+ghost use Rattle.desk_core.specs.Ages.{texts_of};
 ghost use Rattle.desk_core.specs.Answers.{netlist_run_answer, print_answer};
 ghost use Rattle.desk_core.specs.Crew.{Crew, Event};
 ghost use Rattle.desk_core.specs.CrewBuilds.{AgreesWithDesk, BuildHolds, IsBuild};
@@ -35,8 +36,8 @@ pub fn desks_are_sound(desk: &Desk)
     ensures faultless { check_faults desk.now.state.design.modules ≡ [] }
     ensures script { IsScript desk.now.state.script }
 {
-    let _script = desk.script.as_slice();
-    let _design = desk.design.design();
+    let _script = desk.present.script.as_slice();
+    let _design = desk.present.design.design();
 }
 
 /// A netlist that is printed refines the present design: no known output bit of any module is lost, whatever the
@@ -48,13 +49,13 @@ pub fn printed_netlists_refine()
 
 /// Workers that build the modules of a design over one cache, for every list of events of theirs, in whatever order:
 /// each job is in just one place, each key is held by at most one worker, each output is the value of its job's key,
-/// and as many keys were built as were filled. Where all jobs are done, the outputs, the number of builds, the kept
-/// keys and what is told are those of a desk on one thread.
+/// and as many keys were built as were filled. Where all jobs are done, the outputs, the number of builds, the keys
+/// that are kept until some are given up, and what is told are those of a desk on one thread.
 pub fn crew_runs()
     ensures holds { (s : State) (workers : ℕ) (first last : Crew Built) (events : List (Event Built)) →
         IsBuild s workers first events last → BuildHolds s first events last }
     ensures agrees { (s : State) (workers : ℕ) (first last : Crew Built) (events : List (Event Built)) →
-        IsReadable s.design → IsBuild s workers first events last → KnowsFilled s.kept first → AllDone last →
+        IsReadable s.design → IsBuild s workers first events last → KnowsFilled (texts_of s.kept) first → AllDone last →
         AgreesWithDesk s last }
 {}
 

@@ -2,6 +2,7 @@
 //! replies.
 #![tactic(auto)]
 
+mod ages;
 mod beside;
 mod changes;
 mod command;
@@ -16,13 +17,17 @@ mod keys;
 pub mod laws;
 mod modules;
 mod named;
+mod needed;
 mod netlist;
+mod present;
 mod results;
 mod runs;
+mod show;
 mod simulate;
 mod summary;
 
 pub use crew::Crew;
 pub use desk::Desk;
 pub use desk_read::{Command, CommandReader, SimAsk};
+pub use kept::Kept;
 pub use reply_lines::Reply;

@@ -1,37 +1,41 @@
 //! Results: those that are kept under their keys, and beside each module that of its key.
 
-ghost use Rattle.std.specs.Prelude.{◌≡◌, ◌≤◌, IfOk, OnErr, OnOk, Some, length, map};
+ghost use Rattle.std.specs.Prelude.{◌≡◌, ℕ, List, IfOk, OnErr, OnOk, Some, length, map};
+ghost use Rattle.result_cache.specs.Counts.{claims};
 ghost use Rattle.result_cache.specs.Filled.{new_count, with_keys};
-ghost use Rattle.build_crew.specs.Kept.{HasStill, kept_by};
+ghost use Rattle.build_crew.specs.Forgetting.{GaveUp, without};
+ghost use Rattle.build_crew.specs.Kept.{given_back, kept_by, times_by};
 ghost use Rattle.build_crew.specs.Leaves.{HasRun, HasStopped, new_among};
 ghost use Rattle.build_crew.specs.Rises.{RisesUpTo};
 ghost use Rattle.build_crew.specs.declared.finding.Found.{Found};
 ghost use Rattle.script_core.specs.declared.built.Built.{Built};
 ghost use Rattle.desk_core.specs.Builds.{BuildsOrReturns, HasClaims};
+ghost use Rattle.desk_core.specs.Needed.{ages_after};
 ghost use Rattle.desk_core.specs.Netlist.{key_texts};
 ghost use Rattle.desk_core.specs.Results.{AreAnswers, AreFound, AreSeated, AreSound, TellKeys};
+ghost use Rattle.desk_core.specs.Standing.{StandsFor};
 
+use crate::ages::Ages;
 use crate::crew::Crew;
 use crate::crew_jobs::CrewJobs;
 use crate::kept::Kept;
 use crate::keys::Keys;
-use build_crew::{Found, built_now};
+use crate::needed::Needed;
+use build_crew::Found;
 use result_cache::{Seat, SharedCache};
-use rtl_bits::{Memory, Steps};
-use rtl_check::Checked;
-use rtl_ir::DesignPorts;
-use script_core::Script;
+use rtl_bits::{Memory, Steps, Text};
 use std::marker::{Send, Sync};
 use std::sync::Wait;
 use std::thread::Threads;
 use work_crew::Gate;
 
-/// Results under their keys, in a cache with a seat for each worker; and beside each module the result of its key, once
-/// it was asked for.
+/// Results under their keys, in a cache with a seat for each worker, with the ages of the keys that are kept; and beside
+/// each module the result of its key, once it was asked for.
 #[derive(Drop)]
 pub struct Results {
     pub cache: SharedCache<Kept>,
     pub seats: Vec<Seat>,
+    pub ages: Ages,
     pub found: Vec<Option<Kept>>,
 }
 
@@ -77,47 +81,75 @@ fn found_by<R: Threads + Wait + Sync, G: Gate, L: Send>(
     jobs.run(crew.gate, seats, meter)
 }
 
-/// Finds the result of each module: what is not kept is built. Answers how many were built.
+/// Finds the result of each module: what the cache does not have is built.
 pub fn find_all<R: Threads + Wait + Sync, G: Gate, L: Send>(
     crew: &Crew<R, G>,
-    design: &Checked,
-    script: &Script,
+    keys: &Keys,
     results: &mut Results,
     meter: &mut Steps<L>,
-) -> Result<usize, Memory>
-    requires sound { AreSound design.now.design script.now results.old }
-    ensures sound { AreSound design.now.design script.now results.new }
-    ensures built { IfOk result (λ built. built ≡
-        new_count (kept_by results.old.seats.items) (key_texts script.now design.now.design.modules)) }
-    ensures few { IfOk result (λ built. built ≤ length design.now.design.modules) }
+) -> Result<(), Memory>
+    requires table { keys.now.table.now.modules.now ≡ keys.now.design.now.design.modules }
+    requires sound { AreSound keys.now.design.now.design keys.now.script.now results.old }
+    ensures sound { AreSound keys.now.design.now.design keys.now.script.now results.new }
+    ensures ages { results.new.ages ≡ results.old.ages }
     ensures filled { OnOk result (kept_by results.new.seats.items ≡
-        with_keys (kept_by results.old.seats.items) (key_texts script.now design.now.design.modules)) }
-    ensures found { OnOk result (AreFound results.new) }
-    ensures claims { OnOk result (HasClaims (key_texts script.now design.now.design.modules)
+        with_keys (kept_by results.old.seats.items) (key_texts keys.now.script.now keys.now.design.now.design.modules)) }
+    ensures found { OnOk result (AreFound results.new.found.items) }
+    ensures claims { OnOk result (HasClaims (key_texts keys.now.script.now keys.now.design.now.design.modules)
         results.old.seats.items results.new.seats.items) }
     ensures ticks { OnOk result (RisesUpTo
-        (new_count (kept_by results.old.seats.items) (key_texts script.now design.now.design.modules)) meter.old
-        meter.new) }
-    ensures err { OnErr result (HasStill (kept_by results.old.seats.items) (kept_by results.new.seats.items)) }
+        (new_count (kept_by results.old.seats.items) (key_texts keys.now.script.now keys.now.design.now.design.modules))
+        meter.old meter.new) }
     ensures returned { BuildsOrReturns
-        (new_count (kept_by results.old.seats.items) (key_texts script.now design.now.design.modules))
+        (new_count (kept_by results.old.seats.items) (key_texts keys.now.script.now keys.now.design.now.design.modules))
         results.old.seats.items results.new.seats.items meter.old meter.new }
 {
-    let table = DesignPorts::of(crew.alloc, design.design())?;
-    let keys = Keys {
-        design,
-        table: &table,
-        script,
-    };
     let items = found_by(
         crew,
-        &keys,
+        keys,
         &results.cache,
         results.found.as_slice(),
         results.seats.as_mut_slice(),
         meter,
     )?;
-    let built = built_now(items.as_slice());
     put_beside(results.found.as_mut_slice(), items);
-    Ok(built)
+    Ok(())
+}
+
+/// Has the seat give up the values of these keys.
+#[tactic(auto, using(crate::proofs::Giving::gives_first, crate::proofs::Giving::gives_at))]
+fn give_up_all<R: Wait>(rt: &R, cache: &SharedCache<Kept>, seat: &mut Seat, keys: &[Text])
+    requires cache { seat.old.cache ≡ cache.now.table.shared.table_id }
+    ensures gave_up { GaveUp (λ built text. StandsFor built text) keys.now seat.old seat.new }
+{
+    for key in keys {
+        cache.forget(rt, seat, key);
+    }
+}
+
+impl Results {
+    /// Ends a command that needed the netlist, once all of its memory is taken: the keys that it needed have age 0, the
+    /// others are older by one, and the values of those that are too old are given up by the seat of the first worker.
+    pub fn end<R: Wait>(&mut self, rt: &R, needed: &Needed)
+        requires seats { AreSeated self.old.cache.table.shared.table_id self.old.cache.shards self.old.seats.items }
+        requires beside { length needed.now.marks.items ≡ length self.old.ages.ages.items }
+        ensures seats { AreSeated self.new.cache.table.shared.table_id self.new.cache.shards self.new.seats.items }
+        ensures found { self.new.found ≡ self.old.found }
+        ensures kept { kept_by self.new.seats.items ≡
+            without needed.now.too_old.items (kept_by self.old.seats.items) }
+        ensures keys { self.new.ages.keys ≡ self.old.ages.keys }
+        ensures ages { self.new.ages.ages.items ≡ ages_after needed.now.marks.items self.old.ages.ages.items }
+        ensures claims { (key : List ℕ) →
+            times_by claims key self.new.seats.items ≡ times_by claims key self.old.seats.items }
+        ensures given { given_back self.new.seats.items ≡ given_back self.old.seats.items }
+    {
+        give_up_all(
+            rt,
+            &self.cache,
+            &mut self.seats[0],
+            needed.too_old.as_slice(),
+        );
+        self.cache.meet(rt, self.seats.as_mut_slice());
+        self.ages.grow(needed.marks.as_slice());
+    }
 }

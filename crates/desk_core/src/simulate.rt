@@ -1,4 +1,4 @@
-//! Commands that show a module or run it.
+//! The command that runs a module of the netlist.
 
 ghost use Rattle.std.specs.Prelude.{◌≡◌, ◌<◌, ◌^◌, ◌++◌, ℕ, IfOk, List, OnErr, OnOk, Some, codes, length, slice_get};
 ghost use Rattle.desk_read.specs.declared.command.Command.TheVariants.{SimNetlist};
@@ -7,30 +7,28 @@ ghost use Rattle.rtl_ir.specs.Faults.Recursion.{place_named};
 ghost use Rattle.rtl_ir.specs.Types.{module_named};
 ghost use Rattle.net_model.specs.Within.{Each};
 ghost use Rattle.reply_lines.specs.Lines.{counted, ok_line, ok_reply};
+ghost use Rattle.script_core.specs.Cold.{cold};
 ghost use Rattle.sim_trace.specs.Stimulus.{trace_text};
-ghost use Rattle.desk_core.specs.Answers.{netlist_reply, netlist_run_answer, show_answer, source_answer, source_reply};
+ghost use Rattle.desk_core.specs.Answers.{netlist_reply, netlist_run_answer};
 ghost use Rattle.build_crew.specs.Rises.{RisesUpTo};
 ghost use Rattle.desk_core.specs.Builds.{BuildsOrReturns, HasClaims, KeepsAll, asked_by, builds_of, present_keys};
 ghost use Rattle.desk_core.specs.Netlist.{built_count, done_modules, netlist_answer, netlist_of};
 ghost use Rattle.desk_core.specs.Results.{outcomes_of};
 ghost use Rattle.desk_core.specs.Shaped.{IsShaped};
-ghost use Rattle.desk_core.specs.State.{answer};
+ghost use Rattle.desk_core.specs.State.{State, answer};
+ghost use Rattle.desk_core.specs.Told.{IsBuilt, told_of};
 
 use crate::crew::Crew;
 use crate::desk::Desk;
+use crate::kept::Kept;
 use crate::netlist::netlist_modules;
-use crate::results::Results;
-use crate::runs::{Told, tell};
+use crate::runs::{Told, over_reply, tell};
 use design_edit::place_named;
 use desk_read::SimAsk;
-use reply_lines::{
-    Reply, counted, error_reply, number_reply, ok_line, ok_reply, put_counted, text_reply,
-    told_reply,
-};
+use reply_lines::{Reply, number_reply, ok_line, ok_reply, put_counted, told_reply};
 use rtl_bits::{Bits, Memory, Steps, Text};
 use rtl_check::Checked;
-use rtl_write::module_text;
-use sim_trace::{StimulusFault, put_titled_trace, put_trace, stimulus_of};
+use sim_trace::{StimulusFault, put_titled_trace, stimulus_of};
 use std::alloc::Global;
 use std::marker::{Send, Sync};
 use std::sync::Wait;
@@ -38,52 +36,9 @@ use std::thread::Threads;
 use work_crew::Gate;
 
 impl Desk {
-    /// The present source of the module of this name.
-    #[tactic(auto, using(crate::proofs::Showing::unknown, crate::proofs::Showing::shown))]
-    pub(crate) fn show(&self, name: &[u8]) -> Result<Reply, Memory>
-        ensures ok { IfOk result (λ reply. answer reply self.now.state ≡ show_answer self.now.state name.now) }
-    {
-        let modules = self.design.design().modules.as_slice();
-        let Some(at) = place_named(modules, name) else {
-            return told_reply(self.alloc, b"18 ", name);
-        };
-        let text = module_text(self.alloc, &modules[at])?;
-        let words = counted(self.alloc, b"bytes", text.as_slice().len())?;
-        text_reply(self.alloc, words.as_slice(), text.as_slice())
-    }
-
-    /// The present source of a module is run.
-    #[tactic(auto, using(crate::proofs::Showing::unknown, crate::proofs::Showing::sourced, crate::proofs::Showing::bad_line))]
-    pub(crate) fn run_source(&self, ask: &SimAsk) -> Result<Reply, Memory>
-        ensures ok { IfOk result (λ reply. answer reply self.now.state ≡
-            source_answer self.now.state ask.now.module ask.now.steps) }
-    {
-        let modules = self.design.design().modules.as_slice();
-        let Some(at) = place_named(modules, ask.module.as_slice()) else {
-            return told_reply(self.alloc, b"18 ", ask.module.as_slice());
-        };
-        match stimulus_of(self.alloc, &modules[at], ask.steps.as_slice()) {
-            Ok(stimulus) => self.source_trace(at, stimulus.as_slice()),
-            Err(StimulusFault::Bad(number)) => number_reply(self.alloc, b"23 ", number),
-            Err(StimulusFault::Memory) => Err(Memory),
-        }
-    }
-
-    /// The reply of the trace of the source of the module at a place.
-    fn source_trace(&self, at: usize, stimulus: &[Bits]) -> Result<Reply, Memory>
-        requires in_range { at < length self.now.state.design.modules }
-        ensures value { («module» : Module) → slice_get self.now.state.design.modules at ≡ Some «module» →
-            IfOk result (λ reply. reply ≡ source_reply self.now.state «module» stimulus.now) }
-    {
-        let words = counted(self.alloc, b"steps", stimulus.len())?;
-        let mut text = ok_line(self.alloc, words.as_slice())?;
-        put_trace(&mut text, self.design.design(), at, stimulus)?;
-        Ok(ok_reply(text))
-    }
-
     /// As `run`, and then a module of the netlist is run.
     #[tactic(auto, using(crate::proofs::Showing::unknown, crate::proofs::Showing::bad_line, crate::proofs::Simulating::simulated, crate::proofs::Told::keeps_same, crate::proofs::Rises::rises_none))]
-    pub(crate) fn run_netlist<R: Threads + Wait + Sync, G: Gate, L: Send>(
+    pub fn run_netlist<R: Threads + Wait + Sync, G: Gate, L: Send>(
         &mut self,
         crew: &Crew<R, G>,
         ask: &SimAsk,
@@ -98,19 +53,19 @@ impl Desk {
         ensures returned { BuildsOrReturns (builds_of (SimNetlist ask.now) self.old.state) self.old.seats self.new.seats
             meter.old meter.new }
     {
-        let modules = self.design.design().modules.as_slice();
+        let modules = self.present.design.design().modules.as_slice();
         let Some(at) = place_named(modules, ask.module.as_slice()) else {
-            return told_reply(self.alloc, b"18 ", ask.module.as_slice());
+            return told_reply(self.present.alloc, b"18 ", ask.module.as_slice());
         };
-        match stimulus_of(self.alloc, &modules[at], ask.steps.as_slice()) {
+        match stimulus_of(self.present.alloc, &modules[at], ask.steps.as_slice()) {
             Ok(stimulus) => self.netlist_trace(crew, at, stimulus.as_slice(), meter),
-            Err(StimulusFault::Bad(number)) => number_reply(self.alloc, b"23 ", number),
+            Err(StimulusFault::Bad(number)) => number_reply(self.present.alloc, b"23 ", number),
             Err(StimulusFault::Memory) => Err(Memory),
         }
     }
 
     /// As `run`, and then the module at this place of the netlist is run.
-    #[tactic(auto, using(crate::proofs::Simulating::traced, crate::proofs::Told::answer_over, crate::proofs::Told::all_are_kept, crate::proofs::Told::keeps_all, crate::proofs::Outcomes::outcomes_cold))]
+    #[tactic(auto, using(crate::proofs::Told::keeps_all))]
     fn netlist_trace<R: Threads + Wait + Sync, G: Gate, L: Send>(
         &mut self,
         crew: &Crew<R, G>,
@@ -129,41 +84,71 @@ impl Desk {
         ensures returned { BuildsOrReturns (built_count self.old.state) self.old.seats self.new.seats meter.old meter.new }
     {
         // The netlist comes of a script, which begins with `proc`: so it has no process.
-        let _words = self.script.as_slice();
-        match tell(crew, &self.design, &self.script, &mut self.results, meter)? {
-            Told::Built(words) => {
-                traced(self.alloc, &self.design, &self.results, at, stimulus, words)
-            }
-            Told::Over(words) => error_reply(self.alloc, words.as_slice()),
-        }
+        let _words = self.present.script.as_slice();
+        let (told, needed) = tell(
+            crew,
+            &self.present.design,
+            &self.present.script,
+            &mut self.results,
+            meter,
+        )?;
+        let found = self.results.found.as_slice();
+        let design = &self.present.design;
+        let reply = trace_reply(self.present.alloc, design, found, at, stimulus, told)?;
+        self.results.end(crew.rt, &needed);
+        Ok(reply)
     }
 }
 
 /// The reply of the trace of the module at this place of the netlist, behind a line with these words.
-fn traced(
+pub fn traced(
     alloc: Global,
     design: &Checked,
-    results: &Results,
+    found: &[Option<Kept>],
     at: usize,
     stimulus: &[Bits],
     words: Text,
 ) -> Result<Reply, Memory>
-    requires in_range { at < length (done_modules (outcomes_of design.now.design.modules results.now.found.items)) }
-    requires small { length (done_modules (outcomes_of design.now.design.modules results.now.found.items)) < 2 ^ 32 }
-    requires gates { Each IsShaped (done_modules (outcomes_of design.now.design.modules results.now.found.items)) }
+    requires in_range { at < length (done_modules (outcomes_of design.now.design.modules found.now)) }
+    requires small { length (done_modules (outcomes_of design.now.design.modules found.now)) < 2 ^ 32 }
+    requires gates { Each IsShaped (done_modules (outcomes_of design.now.design.modules found.now)) }
     ensures value { («module» : Module) →
-        slice_get (done_modules (outcomes_of design.now.design.modules results.now.found.items)) at ≡ Some «module» →
+        slice_get (done_modules (outcomes_of design.now.design.modules found.now)) at ≡ Some «module» →
         IfOk result (λ reply. reply ≡ ok_reply (ok_line (words ++ counted (codes "steps") (length stimulus.now)) ++
         trace_text (record {
           modules =
-              done_modules (outcomes_of design.now.design.modules results.now.found.items);
+              done_modules (outcomes_of design.now.design.modules found.now);
         }) «module» stimulus.now)) }
 {
     let modules = design.design().modules.as_slice();
-    let netlist = netlist_modules(alloc, modules, results.found.as_slice())?;
+    let netlist = netlist_modules(alloc, modules, found)?;
     let mut words = words;
     put_counted(&mut words, b"steps", stimulus.len())?;
     let mut text = ok_line(alloc, words.as_slice())?;
     put_titled_trace(&mut text, netlist.as_slice(), at, stimulus)?;
     Ok(ok_reply(text))
+}
+
+/// The reply to `sim netlist` of the module at this place by what was told.
+pub fn trace_reply(
+    alloc: Global,
+    design: &Checked,
+    found: &[Option<Kept>],
+    at: usize,
+    stimulus: &[Bits],
+    told: Told,
+) -> Result<Reply, Memory>
+    requires in_range { IsBuilt told → at < length (done_modules (outcomes_of design.now.design.modules found.now)) }
+    requires small { length (done_modules (outcomes_of design.now.design.modules found.now)) < 2 ^ 32 }
+    requires gates { Each IsShaped (done_modules (outcomes_of design.now.design.modules found.now)) }
+    ensures value { IfOk result (λ reply. (s : State) (name : List ℕ) → told ≡ told_of s →
+        outcomes_of design.now.design.modules found.now ≡ cold s.script s.design →
+        place_named s.design.modules name ≡ Some at →
+        reply ≡ (netlist_answer s
+        (netlist_reply s name stimulus.now (module_named (netlist_of s).modules name))).reply) }
+{
+    match told {
+        Told::Built(words) => traced(alloc, design, found, at, stimulus, words),
+        Told::Over(words) => over_reply(alloc, words),
+    }
 }

@@ -4,16 +4,16 @@ ghost use Rattle.std.specs.Prelude.{◌≡◌, ◌++◌, ◌<◌, ◌^◌, IfOk,
 ghost use Rattle.reply_lines.specs.Lines.{counted, ok_reply};
 ghost use Rattle.build_crew.specs.Rises.{RisesUpTo};
 ghost use Rattle.desk_core.specs.Builds.{BuildsOrReturns, HasClaims, KeepsAll, present_keys};
-ghost use Rattle.desk_core.specs.Netlist.{built_count};
-ghost use Rattle.desk_core.specs.State.{answer};
-ghost use Rattle.desk_core.specs.Summary.{cells_beside, cells_found, summary_answer, summary_line};
+ghost use Rattle.desk_core.specs.Netlist.{built_count, netlist_of};
+ghost use Rattle.desk_core.specs.State.{State, answer};
+ghost use Rattle.desk_core.specs.Summary.{cells_beside, cells_found, cells_in, summary_answer, summary_line};
+ghost use Rattle.desk_core.specs.Told.{told_of};
 
 use crate::crew::Crew;
 use crate::desk::Desk;
 use crate::kept::Kept;
-use crate::results::Results;
-use crate::runs::{Told, tell};
-use reply_lines::{Reply, error_reply, ok_reply};
+use crate::runs::{Told, over_reply, tell};
+use reply_lines::{Reply, ok_reply};
 use rtl_bits::{Memory, Steps, Text};
 use rtl_check::Checked;
 use script_core::Outcome;
@@ -74,20 +74,41 @@ fn summary_line(alloc: Global, modules: usize, built: &[u8], cells: u128) -> Res
     Ok(line)
 }
 
-/// The summary of the netlist that results are, with the words of what was built.
-fn summary(alloc: Global, design: &Checked, results: &Results, built: Text) -> Result<Reply, Memory>
+/// The reply of a summary of the netlist that results are, with the words of what was built.
+fn summed(
+    alloc: Global,
+    design: &Checked,
+    found: &[Option<Kept>],
+    words: Text,
+) -> Result<Reply, Memory>
     ensures value { IfOk result (λ reply. reply ≡
-        ok_reply (summary_line (length design.now.design.modules) built (cells_found results.now.found.items))) }
+        ok_reply (summary_line (length design.now.design.modules) words (cells_found found.now))) }
 {
-    let cells = count_cells(results.found.as_slice());
+    let cells = count_cells(found);
     let modules = design.design().modules.as_slice().len();
-    let line = summary_line(alloc, modules, built.as_slice(), cells)?;
+    let line = summary_line(alloc, modules, words.as_slice(), cells)?;
     Ok(ok_reply(line))
+}
+
+/// The summary by what was told.
+fn summary_reply(
+    alloc: Global,
+    design: &Checked,
+    found: &[Option<Kept>],
+    told: Told,
+) -> Result<Reply, Memory>
+    ensures value { IfOk result (λ reply. (s : State) → told ≡ told_of s → design.now.design ≡ s.design →
+        cells_found found.now ≡ cells_in (netlist_of s).modules → reply ≡ (summary_answer s).reply) }
+{
+    match told {
+        Told::Built(words) => summed(alloc, design, found, words),
+        Told::Over(words) => over_reply(alloc, words),
+    }
 }
 
 impl Desk {
     /// As `run`, and then the cells of the netlist are counted.
-    #[tactic(auto, using(crate::proofs::Summing::summary_built, crate::proofs::Summing::cells_cold, crate::proofs::Told::answer_over, crate::proofs::Told::all_are_kept, crate::proofs::Told::keeps_all))]
+    #[tactic(auto, using(crate::proofs::Told::keeps_all))]
     pub fn summarise<R: Threads + Wait + Sync, G: Gate, L: Send>(
         &mut self,
         crew: &Crew<R, G>,
@@ -99,9 +120,16 @@ impl Desk {
         ensures err { OnErr result (KeepsAll self.old.state self.new.state) }
         ensures returned { BuildsOrReturns (built_count self.old.state) self.old.seats self.new.seats meter.old meter.new }
     {
-        match tell(crew, &self.design, &self.script, &mut self.results, meter)? {
-            Told::Built(words) => summary(self.alloc, &self.design, &self.results, words),
-            Told::Over(words) => error_reply(self.alloc, words.as_slice()),
-        }
+        let (told, needed) = tell(
+            crew,
+            &self.present.design,
+            &self.present.script,
+            &mut self.results,
+            meter,
+        )?;
+        let found = self.results.found.as_slice();
+        let reply = summary_reply(self.present.alloc, &self.present.design, found, told)?;
+        self.results.end(crew.rt, &needed);
+        Ok(reply)
     }
 }

@@ -9,3 +9,4 @@ mod words;
 
 pub use command::{Command, SimAsk};
 pub use reader::CommandReader;
+pub use words::first_words;

@@ -1,8 +1,8 @@
 //! Reading commands, one line after another.
 
-ghost use Rattle.std.specs.Prelude.{◌≡◌, ◌↔◌, [], ◌∷◌, ◌++◌, IfOk, None, OnErr, OnOk, option_to_list};
+ghost use Rattle.std.specs.Prelude.{◌≡◌, ◌↔◌, [], ◌∷◌, ◌++◌, IfOk, None, OnErr, OnOk, is_some, option_to_list};
 ghost use Rattle.desk_read.specs.Commands.{block_command, is_end};
-ghost use Rattle.desk_read.specs.Taking.{CompletesNone, Takes, commands_from};
+ghost use Rattle.desk_read.specs.Taking.{CompletesNone, Takes, answer_to, block_after, commands_from};
 
 use crate::command::{Command, SimAsk};
 use crate::head::{Head, Opening, head_of};
@@ -45,6 +45,8 @@ impl CommandReader {
     /// Takes the next line, which is handed in without its end, and gives the command that it
     /// completes. After an error the reader is as before.
     pub fn feed(&mut self, line: &[u8]) -> Result<Option<Command>, Memory>
+        ensures answer { IfOk result (λ command. command ≡ answer_to self.old line.now) }
+        ensures block { OnOk result (self.new ≡ block_after self.old line.now) }
         ensures commands { IfOk result (λ command. Takes self.old line.now command self.new) }
         ensures none { IfOk result (λ command. (command ≡ None) ↔ CompletesNone self.old line.now) }
         ensures err { OnErr result (self.new ≡ self.old) }
@@ -64,6 +66,8 @@ impl CommandReader {
     /// Takes a line outside a block.
     fn begin(&mut self, line: &[u8]) -> Result<Option<Command>, Memory>
         requires outside { self.old ≡ None }
+        ensures answer { IfOk result (λ command. command ≡ answer_to self.old line.now) }
+        ensures block { OnOk result (self.new ≡ block_after self.old line.now) }
         ensures commands { IfOk result (λ command. Takes self.old line.now command self.new) }
         ensures none { IfOk result (λ command. (command ≡ None) ↔ CompletesNone self.old line.now) }
         ensures err { OnErr result (self.new ≡ self.old) }
@@ -76,6 +80,16 @@ impl CommandReader {
                 self.block = Some(Block { opening, text });
                 Ok(None)
             }
+        }
+    }
+
+    /// Whether the next line stands inside a block. It takes no memory.
+    pub fn inside(&self) -> bool
+        ensures value { result ≡ is_some self.now }
+    {
+        match &self.block {
+            None => false,
+            Some(_) => true,
         }
     }
 

@@ -8,7 +8,7 @@ use rtl_bits::Memory;
 use std::alloc::Global;
 
 /// The first words of a line, four at most: no command has more than three.
-pub(crate) fn first_words(alloc: Global, line: &[u8]) -> Result<Vec<&[u8]>, Memory>
+pub fn first_words(alloc: Global, line: &[u8]) -> Result<Vec<&[u8]>, Memory>
     ensures value { IfOk result (λ words. map (λ word. word.now) words.items ≡ take 4 (words_of line.now)) }
 {
     let parts = line.split(|byte| is_blank(*byte));

@@ -8,6 +8,7 @@ pub mod Words
 pub mod Value
 pub mod Refine
 pub mod Relate
+pub mod Below
 pub mod Within
 pub mod Swap
 pub mod Gates

@@ -40,11 +40,11 @@ module _ {V : Type 0} (stands_for : V → List ℕ → Type 0) where
         | false ↦ λ ne. stand_look keys kept key h.1
       ] refl
 
-module _ {V : Type 0} {stands_for : V → List ℕ → Type 0} {keys : List (List ℕ)} {kept : List (Kept V)} {es : List Entry} {out room : ℕ} where
-  pub filled_found : {s : Contents V} → IsSound V stands_for keys kept es out room → contents keys kept es ≡ s → (key : List ℕ) → IsSome (value_at s key) ↔ IsFilled (mode_at s key)
+module _ {V : Type 0} {stands_for : V → List ℕ → Type 0} {keys : List (List ℕ)} {kept : List (Kept V)} {es : List Entry} {owed room : ℕ} where
+  pub filled_found : {s : Contents V} → IsSound V stands_for keys kept es owed room → contents keys kept es ≡ s → (key : List ℕ) → IsSome (value_at s key) ↔ IsFilled (mode_at s key)
   filled_found {s} h e key =
       subst (λ (t : Contents V). IsSome (value_at t key) ↔ IsFilled (mode_at t key)) e
       (subst (λ m. IsSome (look_up None value_of keys kept key) ↔ IsFilled m) (sym (h.replays key)) (filled_look keys kept key))
 
-  pub value_stands : {s : Contents V} → IsSound V stands_for keys kept es out room → contents keys kept es ≡ s → (key : List ℕ) → IfSome (value_at s key) (λ value. stands_for value key)
+  pub value_stands : {s : Contents V} → IsSound V stands_for keys kept es owed room → contents keys kept es ≡ s → (key : List ℕ) → IfSome (value_at s key) (λ value. stands_for value key)
   value_stands {s} h e key = subst (λ (t : Contents V). IfSome (value_at t key) (λ value. stands_for value key)) e (stand_look stands_for keys kept key h.stand)

@@ -1,12 +1,15 @@
 -- Seats that have no ticket.
-use Rattle.std.proofs.Common.{◌≡◌, ℕ, zero, suc, ◌+◌, ◌<◌, List, [], ◌∷◌, ◌++◌, length, take, get_or, refl, sym, ◌∙◌, subst, arith}
+use Rattle.std.proofs.Common.{◌≡◌, ℕ, zero, suc, ◌+◌, ◌<◌, List, [], ◌∷◌, ◌++◌, length, take, get_or, refl, sym, ap, ◌∙◌, subst, arith}
 use Rattle.atomic_table.specs.Seated.{TableId}
 use Rattle.result_cache.specs.declared.call.Call.{Call}
 use Rattle.result_cache.specs.declared.call.Act.TheVariants.{Hit, Busy, Yours, GiveBack}
-use Rattle.result_cache.specs.Tickets.{HoldsNoTicket, HoldsOnly}
-use Rattle.result_cache.specs.Seats.{Seated, new_seats_from, AreSeatsOf, Made, HasFilled, IsIdle, AreIdle}
+use Rattle.result_cache.specs.Tickets.{has_ticket, HoldsNoTicket, HoldsOnly}
+use Rattle.result_cache.specs.declared.shard.Forget as forget
+use Rattle.result_cache.specs.declared.shard.Forget.TheVariants as answer
+use Rattle.result_cache.specs.History.{Mode, free, held}
+use Rattle.result_cache.specs.Seats.{Seated, new_seats_from, AreSeatsOf, Made, HasFilled, HasForgot, HasLooked, KeepsTickets, IsIdle, AreIdle}
 use Rattle.result_cache.specs.Meet.{HasMet}
-use Rattle.result_cache.proofs.Spending.{none_after_hit, none_after_busy, one_after_yours, none_after_fill, none_after_return}
+use Rattle.result_cache.proofs.Spending.{none_after_hit, none_after_busy, same_after_forget, one_after_yours, none_after_fill, none_after_return}
 
 pub idle_at : (cache : TableId) (seats : List Seated) (i : ℕ) (d : Seated) → AreIdle cache seats → i < length seats → IsIdle cache (get_or seats i d)
 idle_at cache [] i d h l = absurd (omega arith)
@@ -52,6 +55,22 @@ idle_after_hit cache old new key number h m = (m.cache ∙ h.0, subst HoldsNoTic
 
 pub idle_after_busy : (cache : TableId) (old new : Seated) (key : List ℕ) (by : ℕ) → IsIdle cache old → Made old new key (Busy by) → IsIdle cache new
 idle_after_busy cache old new key by h m = (m.cache ∙ h.0, subst HoldsNoTicket (sym m.calls) (none_after_busy old.calls old.number by key h.1))
+
+looked_keeps : (old new : Seated) (key : List ℕ) (P : Mode ℕ → Type 0) → HasLooked old new key P → KeepsTickets old new
+looked_keeps old new key P l = record { cache = l.kept.cache; number = l.kept.number; tickets = λ q. ap (λ cs. has_ticket cs q) l.kept.calls }
+
+-- giving up a value leaves a seat its tickets
+pub forgot_keeps : {V : Type 0} (stands_for : V → List ℕ → Type 0) (old new : Seated) (key : List ℕ) (r : forget.Forget V) → HasForgot stands_for old new key r → KeepsTickets old new
+forgot_keeps stands_for old new key (answer.Dropped value) (st, (number, m)) = record {
+  cache = m.cache;
+  number = m.number;
+  tickets = λ q. ap (λ cs. has_ticket cs q) m.calls ∙ same_after_forget old.calls old.number number key q;
+}
+forgot_keeps stands_for old new key answer.Free l = looked_keeps old new key (λ mode. mode ≡ free) l
+forgot_keeps stands_for old new key (answer.Busy by) l = looked_keeps old new key (λ mode. mode ≡ held by) l
+
+pub idle_kept : (cache : TableId) (old new : Seated) → IsIdle cache old → KeepsTickets old new → IsIdle cache new
+idle_kept cache old new h k = (k.cache ∙ h.0, λ q. k.tickets q ∙ h.1 q)
 
 -- a seat that has one ticket
 pub one_after_claim : (old new : Seated) (key own : List ℕ) → HoldsNoTicket old.calls → own ≡ key → Made old new key Yours → HoldsOnly own new.calls

@@ -15,3 +15,4 @@ pub mod Meeting
 pub mod Spending
 pub mod Dealing
 pub mod Idle
+pub mod Sharing

@@ -8,7 +8,8 @@ use Rattle.result_cache.specs.declared.view.Known.{Known}
 use Rattle.result_cache.specs.declared.view.View.{View}
 use Rattle.result_cache.specs.Tickets.{calls_by}
 use Rattle.result_cache.specs.Shared.{StartsWith, AreBelow, on_shard, view_of, first_of, rest_of, seat_of, with_seen, EachSeat, Agrees}
-use Rattle.result_cache.specs.Seats.{Seated, seat_at, first_view, count_of, claims, fills, give_backs, capped, IsSeat}
+use Rattle.result_cache.specs.Counts.{count_of, claims, fills, give_backs, drops}
+use Rattle.result_cache.specs.Seats.{Seated, seat_at, first_view, capped, IsSeat}
 use Rattle.result_cache.specs.Meet.{SeesTo, AllSeeTo, LookedTo, SeatsSeeTo, SeatsAgree, Gathered, HasMet}
 use Rattle.result_cache.proofs.Histories.{list_here, list_else}
 use Rattle.result_cache.proofs.Steps.{upd, upd_same, upd_other}
@@ -128,10 +129,10 @@ all_meet n cache cache' k news ss ss' same h i l =
     (g.logs i, seats_meet n i g.logs (seat_at cache k ∷ ss) (seat_at cache' (first_of news) ∷ ss') l g.others_see (g.others_agree i l))
 
 -- a seat that looked is a seat
-pub seat_seen : (n : ℕ) (logs : ℕ → List Call) (cache cache' : TableId) (k k' : Known) (number cl fi gi : ℕ) (old new : List View)
-    → IsSeat cache number cl fi gi old → k ≡ seat_of (first_view old) → cache' ≡ cache → SeesTo n logs k k' → new ≡ view_of (k' ∷ []) ∷ [] → IsSeat cache' number cl fi gi new
-seat_seen n logs cache cache' k k' number cl fi gi old new h is same s new_is =
-    subst (λ us. IsSeat cache' number cl fi gi us) (sym new_is) (record {
+pub seat_seen : (n : ℕ) (logs : ℕ → List Call) (cache cache' : TableId) (k k' : Known) (number cl fi gi dr : ℕ) (old new : List View)
+    → IsSeat cache number cl fi gi dr old → k ≡ seat_of (first_view old) → cache' ≡ cache → SeesTo n logs k k' → new ≡ view_of (k' ∷ []) ∷ [] → IsSeat cache' number cl fi gi dr new
+seat_seen n logs cache cache' k k' number cl fi gi dr old new h is same s new_is =
+    subst (λ us. IsSeat cache' number cl fi gi dr us) (sym new_is) (record {
       view_is = refl;
       number_is = s.number ∙ ap (λ (x : Known). x.number) is ∙ h.number_is;
       below = subst (λ m. number < m) (sym (s.callers ∙ ap (λ (x : Known). x.callers) is)) h.below;
@@ -139,4 +140,5 @@ seat_seen n logs cache cache' k k' number cl fi gi old new h is same s new_is =
       claims_are = h.claims_are ∙ ap (λ cs. capped (count_of claims cs)) (sym (s.calls ∙ ap (λ (x : Known). x.calls) is));
       fills_are = h.fills_are ∙ ap (λ cs. capped (count_of fills cs)) (sym (s.calls ∙ ap (λ (x : Known). x.calls) is));
       give_backs_are = h.give_backs_are ∙ ap (λ cs. capped (count_of give_backs cs)) (sym (s.calls ∙ ap (λ (x : Known). x.calls) is));
+      drops_are = h.drops_are ∙ ap (λ cs. capped (count_of drops cs)) (sym (s.calls ∙ ap (λ (x : Known). x.calls) is));
     })

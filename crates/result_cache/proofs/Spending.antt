@@ -2,7 +2,7 @@
 use Rattle.std.proofs.Common.{◌≡◌, ℕ, List, [], ◌∷◌, ◌++◌, Bool, true, false, cond, refl, ap, ◌∙◌}
 use Rattle.std.specs.Str.{bytes_eq}
 use Rattle.result_cache.specs.declared.call.Act.{Act}
-use Rattle.result_cache.specs.declared.call.Act.TheVariants.{Hit, Busy, Yours, Fill, GiveBack}
+use Rattle.result_cache.specs.declared.call.Act.TheVariants.{Hit, Busy, Yours, Fill, GiveBack, Forget}
 use Rattle.result_cache.specs.declared.call.Call.{Call}
 use Rattle.result_cache.specs.History.{call}
 use Rattle.result_cache.specs.Tickets.{ticket_after, ticket_from, has_ticket, HoldsNoTicket, HoldsOnly}
@@ -31,6 +31,12 @@ none_after_hit calls seat number key h q = ticket_snoc calls seat key q (Hit num
 
 pub none_after_busy : (calls : List Call) (seat by : ℕ) (key : List ℕ) → HoldsNoTicket calls → HoldsNoTicket (calls ++ call seat key (Busy by) ∷ [])
 none_after_busy calls seat by key h q = ticket_snoc calls seat key q (Busy by) ∙ same_either (bytes_eq key q) (has_ticket calls q) ∙ h q
+
+pub same_after_forget : (calls : List Call) (seat number : ℕ) (key q : List ℕ) → has_ticket (calls ++ call seat key (Forget number) ∷ []) q ≡ has_ticket calls q
+same_after_forget calls seat number key q = ticket_snoc calls seat key q (Forget number) ∙ same_either (bytes_eq key q) (has_ticket calls q)
+
+pub none_after_forget : (calls : List Call) (seat number : ℕ) (key : List ℕ) → HoldsNoTicket calls → HoldsNoTicket (calls ++ call seat key (Forget number) ∷ [])
+none_after_forget calls seat number key h q = same_after_forget calls seat number key q ∙ h q
 
 pub one_after_yours : (calls : List Call) (seat : ℕ) (key : List ℕ) → HoldsNoTicket calls → HoldsOnly key (calls ++ call seat key Yours ∷ [])
 one_after_yours calls seat key h q = ticket_snoc calls seat key q Yours ∙ ap (λ b. cond (bytes_eq key q) true b) (h q) ∙ either_true (bytes_eq key q)

@@ -6,18 +6,21 @@ use Rattle.std.proofs.Math.Seq.{drop-append_seam}
 use Rattle.atomic_table.specs.Seated.{TableId}
 use Rattle.atomic_table.specs.Table.{Me}
 use Rattle.result_cache.specs.declared.call.Act.{Act}
-use Rattle.result_cache.specs.declared.call.Act.TheVariants.{Hit, Busy, Yours}
+use Rattle.result_cache.specs.declared.call.Act.TheVariants.{Hit, Busy, Yours, Forget}
 use Rattle.result_cache.specs.declared.call.Call.{Call}
 use Rattle.result_cache.specs.declared.shard.Claim as claim
 use Rattle.result_cache.specs.declared.shard.Claim.TheVariants as reply
+use Rattle.result_cache.specs.declared.shard.Forget as forget
+use Rattle.result_cache.specs.declared.shard.Forget.TheVariants as answered
 use Rattle.result_cache.specs.declared.view.Known.{Known}
 use Rattle.result_cache.specs.declared.view.View.{View}
-use Rattle.result_cache.specs.History.{held, all_free, IsAllowed, state_after, IsLegal, call}
+use Rattle.result_cache.specs.History.{Mode, free, held, filled, all_free, IsAllowed, state_after, IsLegal, call}
 use Rattle.result_cache.specs.Tickets.{calls_by, ticket_after, ticket_from, has_ticket}
 use Rattle.result_cache.specs.Stored.{Contents, mode_at, AddsCall}
-use Rattle.result_cache.specs.Claims.{Claimed, IfHit}
+use Rattle.result_cache.specs.Claims.{Claimed, Forgot, IfHit}
 use Rattle.result_cache.specs.Shared.{StartsWith, AreBelow, shard_of, on_shard, AreOf, seen_at, view_of, holding, seat_of, alone, Agrees, Entered, TakenIf, seat_after, released, MayGive, MayGiveUp, Swaps}
-use Rattle.result_cache.specs.Seats.{Seated, seat_at, first_view, claims, fills, give_backs, count_of, capped, IsSeat, Made, HasClaimed, HasWaited}
+use Rattle.result_cache.specs.Counts.{claims, fills, give_backs, drops, count_of}
+use Rattle.result_cache.specs.Seats.{Seated, seat_at, first_view, capped, IsSeat, Made, HasClaimed, HasForgot, HasLooked}
 use Rattle.result_cache.proofs.Keys.{bytes_true}
 use Rattle.result_cache.proofs.Sounds.{legal_snoc}
 use Rattle.result_cache.proofs.Holders.{own_ticket}
@@ -137,11 +140,11 @@ module _ (V : Type 0) where
       let new : drop (length o.y.history) o.z.history ≡ call k.number key act ∷ [] = ap (λ r. drop (length o.y.history) r) o.grown ∙ drop-append_seam o.y.history (call k.number key act ∷ []) in
       ap (λ (m : Me (Contents V) View). released m) o.me_is ∙ (λ j. view_of (seat_after k at (new j) o.z.history ∷ []))
 
-  pub seat_made : (cache cache' : TableId) (k : Known) (at : ℕ) (key : List ℕ) (act : Act) (z : Contents V) (n cl fi gi cl' fi' gi' : ℕ) (old new : List View)
-      → IsSeat cache n cl fi gi old → k ≡ seat_of (first_view old) → cache' ≡ cache → new ≡ view_of (after_call k at key act z ∷ []) ∷ []
-      → cl' ≡ capped (cl + claims act) → fi' ≡ capped (fi + fills act) → gi' ≡ capped (gi + give_backs act) → IsSeat cache' n cl' fi' gi' new
-  seat_made cache cache' k at key act z n cl fi gi cl' fi' gi' old new h is same new_is c_is f_is g_is =
-      subst (λ us. IsSeat cache' n cl' fi' gi' us) (sym new_is) (record {
+  pub seat_made : (cache cache' : TableId) (k : Known) (at : ℕ) (key : List ℕ) (act : Act) (z : Contents V) (n cl fi gi dr cl' fi' gi' dr' : ℕ) (old new : List View)
+      → IsSeat cache n cl fi gi dr old → k ≡ seat_of (first_view old) → cache' ≡ cache → new ≡ view_of (after_call k at key act z ∷ []) ∷ []
+      → cl' ≡ capped (cl + claims act) → fi' ≡ capped (fi + fills act) → gi' ≡ capped (gi + give_backs act) → dr' ≡ capped (dr + drops act) → IsSeat cache' n cl' fi' gi' dr' new
+  seat_made cache cache' k at key act z n cl fi gi dr cl' fi' gi' dr' old new h is same new_is c_is f_is g_is d_is =
+      subst (λ us. IsSeat cache' n cl' fi' gi' dr' us) (sym new_is) (record {
         view_is = refl;
         number_is = ap (λ (x : Known). x.number) is ∙ h.number_is;
         below = subst (λ (x : Known). n < x.callers) (sym is) h.below;
@@ -149,6 +152,7 @@ module _ (V : Type 0) where
         claims_are = counted claims cl cl' c_is h.claims_are;
         fills_are = counted fills fi fi' f_is h.fills_are;
         give_backs_are = counted give_backs gi gi' g_is h.give_backs_are;
+        drops_are = counted drops dr dr' d_is h.drops_are;
       })
     where
       counted : (f : Act → ℕ) (a a' : ℕ) → a' ≡ capped (a + f act) → a ≡ capped (count_of f (seat_of (first_view old)).calls) → a' ≡ capped (count_of f (after_call k at key act z).calls)
@@ -188,6 +192,7 @@ pub record Answered (V : Type 0) (stands_for : V → List ℕ → Type 0) (k : K
   pub a_claim : claims act ≡ 1
   pub no_fill : fills act ≡ 0
   pub no_return : give_backs act ≡ 0
+  pub no_drop : drops act ≡ 0
   pub means : (old new : Seated) → old.number ≡ k.number → Made old new key act → HasClaimed stands_for old new key reply
 
 module _ (V : Type 0) (stands_for : V → List ℕ → Type 0) where
@@ -203,6 +208,7 @@ module _ (V : Type 0) (stands_for : V → List ℕ → Type 0) where
     a_claim = refl;
     no_fill = refl;
     no_return = refl;
+    no_drop = refl;
     means = λ old new num m. (st, (got.0, m));
   }
   answer k at key (reply.Busy by) me y z is h ne got st = record {
@@ -211,6 +217,7 @@ module _ (V : Type 0) (stands_for : V → List ℕ → Type 0) where
     a_claim = refl;
     no_fill = refl;
     no_return = refl;
+    no_drop = refl;
     means = λ old new num m. ((λ e. ne (got.0 ∙ ap held (e ∙ num))), m);
   }
   answer k at key (reply.Yours ticket) me y z is h ne got st = record {
@@ -219,6 +226,7 @@ module _ (V : Type 0) (stands_for : V → List ℕ → Type 0) where
     a_claim = refl;
     no_fill = refl;
     no_return = refl;
+    no_drop = refl;
     means = λ old new num m. (got.1 ∙ sym num, got.2, m);
   }
 
@@ -294,11 +302,11 @@ module _ (V : Type 0) where
   unfolding turned
   agrees_seen k at P me me' e s = (turned V k at P me me' e s).agrees
 
-pub seat_looked : (cache cache' : TableId) (k : Known) (at : ℕ) (log : List Call) (n cl fi gi : ℕ) (old new : List View)
-    → IsSeat cache n cl fi gi old → k ≡ seat_of (first_view old) → cache' ≡ cache → new ≡ view_of (seat_after k at [] log ∷ []) ∷ [] → IsSeat cache' n cl fi gi new
-seat_looked cache cache' k at log n cl fi gi old new h is same new_is =
+pub seat_looked : (cache cache' : TableId) (k : Known) (at : ℕ) (log : List Call) (n cl fi gi dr : ℕ) (old new : List View)
+    → IsSeat cache n cl fi gi dr old → k ≡ seat_of (first_view old) → cache' ≡ cache → new ≡ view_of (seat_after k at [] log ∷ []) ∷ [] → IsSeat cache' n cl fi gi dr new
+seat_looked cache cache' k at log n cl fi gi dr old new h is same new_is =
     let calls_are : (seat_of (first_view old)).calls ≡ k.calls ++ [] = ap (λ (x : Known). x.calls) (sym is) ∙ sym (append_none k.calls) in
-    subst (λ us. IsSeat cache' n cl fi gi us) (sym new_is) (record {
+    subst (λ us. IsSeat cache' n cl fi gi dr us) (sym new_is) (record {
       view_is = refl;
       number_is = ap (λ (x : Known). x.number) is ∙ h.number_is;
       below = subst (λ (x : Known). n < x.callers) (sym is) h.below;
@@ -306,12 +314,13 @@ seat_looked cache cache' k at log n cl fi gi old new h is same new_is =
       claims_are = h.claims_are ∙ ap (λ cs. capped (count_of claims cs)) calls_are;
       fills_are = h.fills_are ∙ ap (λ cs. capped (count_of fills cs)) calls_are;
       give_backs_are = h.give_backs_are ∙ ap (λ cs. capped (count_of give_backs cs)) calls_are;
+      drops_are = h.drops_are ∙ ap (λ cs. capped (count_of drops cs)) calls_are;
     })
 
 -- a look, as contracts see it
-pub waited : (cache : TableId) (k : Known) (at : ℕ) (key : List ℕ) (log : List Call) → Agrees log at k → at ≡ shard_of k.shards key → ((by : ℕ) → state_after log key ≡ held by → by ≡ k.number)
-    → HasWaited (seat_at cache k) (seat_at cache (seat_after k at [] log)) key
-waited cache k at key log h is none_else =
+pub looked : (cache : TableId) (k : Known) (at : ℕ) (key : List ℕ) (P : Mode ℕ → Type 0) (log : List Call) → Agrees log at k → at ≡ shard_of k.shards key → P (state_after log key)
+    → HasLooked (seat_at cache k) (seat_at cache (seat_after k at [] log)) key P
+looked cache k at key P log h is holds =
     let seen_in : at < length k.seen = let b = h.within in let w = h.wide in omega arith in
     let here : get_or (set k.seen at log) (shard_of k.shards key) [] ≡ log = subst (λ i. get_or (set k.seen at log) i [] ≡ log) is (list_here k.seen at log seen_in) in
     record {
@@ -321,11 +330,33 @@ waited cache k at key log h is none_else =
       numbers = subst (AreBelow k.callers) (sym here) h.numbers;
       own = ap (calls_by k.number) here ∙ h.own ∙ ap (λ i. on_shard k.shards i k.calls) is;
       others = λ j ne. list_else k.seen at j log (λ e. ne (e ∙ is));
-      no_other = λ by e. none_else by (ap (λ l. state_after l key) (sym here) ∙ e);
+      mode_is = subst (λ l. P (state_after l key)) (sym here) holds;
     }
 
 pub in_place : (cache cache' : TableId) (k : Known) (key : List ℕ) (at shards : ℕ) → k.shards ≡ cache.slots → cache ≡ cache' → cache'.slots ≡ shards → at ≡ shard_of shards key → at ≡ shard_of k.shards key
 in_place cache cache' k key at shards k_is same is place = place ∙ ap (λ m. shard_of m key) (sym (k_is ∙ ap (λ (i : TableId). i.slots) same ∙ is))
 
-pub seat_stays : (cache cache' : TableId) (n cl fi gi : ℕ) (old new : List View) → IsSeat cache n cl fi gi old → cache' ≡ cache → new ≡ old → IsSeat cache' n cl fi gi new
-seat_stays cache cache' n cl fi gi old new h same is = subst (λ (x : TableId × List View). IsSeat x.0 n cl fi gi x.1) (λ j. (sym same j, sym is j)) h
+pub seat_stays : (cache cache' : TableId) (n cl fi gi dr : ℕ) (old new : List View) → IsSeat cache n cl fi gi dr old → cache' ≡ cache → new ≡ old → IsSeat cache' n cl fi gi dr new
+seat_stays cache cache' n cl fi gi dr old new h same is = subst (λ (x : TableId × List View). IsSeat x.0 n cl fi gi dr x.1) (λ j. (sym same j, sym is j)) h
+
+-- an answer that hands no value out leaves the shard as it was
+pub stays_same : {V : Type 0} (y z : Contents V) (n : ℕ) (key : List ℕ) (r : forget.Forget V) → ((value : V) → r ≡ answered.Dropped value → ⊥) → Forgot y z n key r → z ≡ y
+stays_same y z n key (answered.Dropped value) other h = absurd (other value refl)
+stays_same y z n key answered.Free other h = h.1
+stays_same y z n key (answered.Busy by) other h = h.1
+
+-- and tells the key's mode
+pub stays_seen : {V : Type 0} (stands_for : V → List ℕ → Type 0) (y z : Contents V) (n : ℕ) (key : List ℕ) (r : forget.Forget V) (old new : Seated) → ((value : V) → r ≡ answered.Dropped value → ⊥)
+    → Forgot y z n key r → ((P : Mode ℕ → Type 0) → P (mode_at y key) → HasLooked old new key P) → HasForgot stands_for old new key r
+stays_seen stands_for y z n key (answered.Dropped value) old new other h look = absurd (other value refl)
+stays_seen stands_for y z n key answered.Free old new other h look = look (λ mode. mode ≡ free) h.0
+stays_seen stands_for y z n key (answered.Busy by) old new other h look = look (λ mode. mode ≡ held by) h.0
+
+module _ (V : Type 0) where
+  -- a value that was given up
+  pub dropped : (k : Known) (at : ℕ) (key : List ℕ) (n number : ℕ) (P : Contents V → Contents V → Type 0) (me me' : Me (Contents V) View)
+      → Entered V k at me → k.number ≡ n → (s : Swaps V at me me' P) → AddsCall s.0 s.1 n key (Forget number) → state_after s.0.history key ≡ filled number → OneCall V k at key (Forget number) me'
+  unfolding turned
+  dropped k at key n number P me me' e num s grown is =
+      let t = turned V k at P me me' e s in
+      record { y = s.0; z = s.1; me_is = t.me_is; agrees = t.agrees; grown = subst (λ m. AddsCall s.0 s.1 m key (Forget number)) (sym num) grown; allowed = is }

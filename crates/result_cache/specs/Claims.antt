@@ -1,8 +1,10 @@
 -- Replies of a shard.
 use Rattle.std.specs.Prelude.{◌≡◌, ℕ, List, Option, Some, None}
-use Rattle.result_cache.specs.declared.call.Act.TheVariants.{Hit, Busy, Yours}
+use Rattle.result_cache.specs.declared.call.Act.TheVariants.{Hit, Busy, Yours, Forget}
 use Rattle.result_cache.specs.declared.shard.Claim as claim
 use Rattle.result_cache.specs.declared.shard.Claim.TheVariants as reply
+use Rattle.result_cache.specs.declared.shard.Forget as forget
+use Rattle.result_cache.specs.declared.shard.Forget.TheVariants as answer
 use Rattle.result_cache.specs.History.{Mode, free, held, filled}
 use Rattle.result_cache.specs.Stored.{Contents, value_at, mode_at, AddsCall}
 
@@ -23,3 +25,15 @@ abbrev pub IfHit : {V : Type 0} → claim.Claim V → (V → Type 0) → Type 0
 IfHit (reply.Hit value) P = P value
 IfHit (reply.Busy by) P = Unit {0}
 IfHit (reply.Yours ticket) P = Unit {0}
+
+-- the answer to giving up the value of a key: the kept value where the key is filled, with the call that this is; where the key is free, or held by the seat that the answer names, nothing changes
+abbrev pub Forgot : {V : Type 0} → Contents V → Contents V → ℕ → List ℕ → forget.Forget V → Type 0
+Forgot old new seat key (answer.Dropped value) = (number : ℕ) × (mode_at old key ≡ filled number) × (value_at old key ≡ Some value) × AddsCall old new seat key (Forget number)
+Forgot old new seat key answer.Free = (mode_at old key ≡ free) × (new ≡ old)
+Forgot old new seat key (answer.Busy by) = (mode_at old key ≡ held by) × (new ≡ old)
+
+-- P holds of the value that an answer hands out
+abbrev pub IfDropped : {V : Type 0} → forget.Forget V → (V → Type 0) → Type 0
+IfDropped (answer.Dropped value) P = P value
+IfDropped answer.Free P = Unit {0}
+IfDropped (answer.Busy by) P = Unit {0}

@@ -1,4 +1,5 @@
 pub mod History
+pub mod Counts
 pub mod Tickets
 pub mod Stored
 pub mod Filled

@@ -2,8 +2,10 @@
 use Rattle.std.specs.Prelude.{◌≡◌, ℕ, ◌<◌, ◌≤◌, List, [], ◌∷◌, length}
 use Rattle.result_cache.specs.declared.call.Call.{Call}
 use Rattle.result_cache.specs.declared.view.Known.{Known}
-use Rattle.result_cache.specs.Shared.{seen_at, EachSeat, Agrees}
+use Rattle.result_cache.specs.History.{IsLegal}
+use Rattle.result_cache.specs.Shared.{AreBelow, on_shard, seen_at, EachSeat, Agrees}
 use Rattle.result_cache.specs.Seats.{Seated, known_of, seen_of, KeepsCalls}
+use Rattle.result_cache.specs.Tickets.{calls_by}
 
 -- the seat has seen these histories of the first n shards; all else stays
 pub record SeesTo (n : ℕ) (logs : ℕ → List Call) (old new : Known) : Type 0 where
@@ -54,3 +56,19 @@ HasMet i log [] [] = Unit {0}
 HasMet i log (s ∷ olds) (t ∷ news) = KeepsCalls s t × Agrees log i (known_of s) × (seen_of t i ≡ log) × HasMet i log olds news
 HasMet i log [] (t ∷ news) = ⊥
 HasMet i log (s ∷ olds) [] = ⊥
+
+-- the seat has seen this whole history of shard i, which is legal, has calls of the cache's seats alone, and has under the seat's number just its calls
+pub record HasSeen (i : ℕ) (log : List Call) (s : Seated) : Type 0 where
+  pub seen : seen_of s i ≡ log
+  pub legal : IsLegal log
+  pub numbers : AreBelow s.callers log
+  pub own : calls_by s.number log ≡ on_shard s.shards i s.calls
+
+-- so has each of these
+abbrev pub AllSaw : ℕ → List Call → List Seated → Type 0
+AllSaw i log [] = Unit {0}
+AllSaw i log (s ∷ seats) = HasSeen i log s × AllSaw i log seats
+
+-- the seats share one history of each shard
+abbrev pub Share : ℕ → List Seated → Type 0
+Share shards seats = (i : ℕ) → i < shards → (log : List Call) × AllSaw i log seats

@@ -2,14 +2,17 @@
 use Rattle.std.specs.Prelude.{◌≡◌, ◌≢◌, ℕ, zero, suc, ◌+◌, ◌-◌, ◌^◌, ◌<◌, List, [], ◌∷◌, ◌++◌, min, slice_index_or}
 use Rattle.atomic_table.specs.Seated.{TableId}
 use Rattle.result_cache.specs.declared.call.Act.{Act}
-use Rattle.result_cache.specs.declared.call.Act.TheVariants.{Hit, Busy, Yours, Fill, GiveBack}
+use Rattle.result_cache.specs.declared.call.Act.TheVariants.{Hit, Busy, Yours, Fill, Forget}
 use Rattle.result_cache.specs.declared.call.Call.{Call}
 use Rattle.result_cache.specs.declared.shard.Claim as claim
 use Rattle.result_cache.specs.declared.shard.Claim.TheVariants as reply
+use Rattle.result_cache.specs.declared.shard.Forget as forget
+use Rattle.result_cache.specs.declared.shard.Forget.TheVariants as answer
 use Rattle.result_cache.specs.declared.view.Known.{Known}
 use Rattle.result_cache.specs.declared.view.View.{View}
-use Rattle.result_cache.specs.History.{IsLegal, call, held, state_after}
-use Rattle.result_cache.specs.Tickets.{calls_by, HoldsNoTicket}
+use Rattle.result_cache.specs.Counts.{claims, fills, give_backs, drops, count_of}
+use Rattle.result_cache.specs.History.{Mode, IsLegal, call, free, held, state_after}
+use Rattle.result_cache.specs.Tickets.{calls_by, has_ticket, HoldsNoTicket}
 use Rattle.result_cache.specs.Shared.{StartsWith, AreBelow, shard_of, on_shard, newcomer, nobody, view_of, seat_of}
 
 -- which cache the seat is of and how many seats and shards that has, the seat's number, the calls that it made, and the history that it has seen of each shard
@@ -38,41 +41,12 @@ first_view (v ∷ views) = v
 abbrev pub seated_of : TableId → List View → Seated
 seated_of cache views = seat_at cache (seat_of (first_view views))
 
--- a claim counts as one, and no other call counts
-abbrev pub claims : Act → ℕ
-claims (Hit number) = 1
-claims (Busy by) = 1
-claims Yours = 1
-claims (Fill number) = 0
-claims GiveBack = 0
-
--- a filling counts as one, and no other call counts
-abbrev pub fills : Act → ℕ
-fills (Hit number) = 0
-fills (Busy by) = 0
-fills Yours = 0
-fills (Fill number) = 1
-fills GiveBack = 0
-
--- a giving back counts as one, and no other call counts
-abbrev pub give_backs : Act → ℕ
-give_backs (Hit number) = 0
-give_backs (Busy by) = 0
-give_backs Yours = 0
-give_backs (Fill number) = 0
-give_backs GiveBack = 1
-
--- how many of the calls count
-abbrev pub count_of : (Act → ℕ) → List Call → ℕ
-count_of counts [] = 0
-count_of counts (c ∷ calls) = counts c.act + count_of counts calls
-
 -- a number that stays at the last value of its type
 abbrev pub capped : ℕ → ℕ
 capped n = min n (2 ^ 64 - 1)
 
 -- what holds of every seat: its view is of this seat alone, its number is that of one of the cache's seats, and its counts are those of its calls
-pub record IsSeat (cache : TableId) (number claimed filled given_back : ℕ) (views : List View) : Type 0 where
+pub record IsSeat (cache : TableId) (number claimed filled given_back dropped : ℕ) (views : List View) : Type 0 where
   pub view_is : views ≡ view_of (seat_of (first_view views) ∷ []) ∷ []
   pub number_is : (seat_of (first_view views)).number ≡ number
   pub below : number < (seat_of (first_view views)).callers
@@ -80,6 +54,7 @@ pub record IsSeat (cache : TableId) (number claimed filled given_back : ℕ) (vi
   pub claims_are : claimed ≡ capped (count_of claims (seat_of (first_view views)).calls)
   pub fills_are : filled ≡ capped (count_of fills (seat_of (first_view views)).calls)
   pub give_backs_are : given_back ≡ capped (count_of give_backs (seat_of (first_view views)).calls)
+  pub drops_are : dropped ≡ capped (count_of drops (seat_of (first_view views)).calls)
 
 -- that many seats that made no call and have seen the empty history of each shard, numbered from n on
 abbrev pub new_seats_from : TableId → ℕ → ℕ → ℕ → ℕ → List Seated
@@ -142,15 +117,35 @@ HasClaimed stands_for old new key (reply.Yours ticket) = (ticket.seat ≡ old.nu
 abbrev pub HasFilled : Seated → Seated → List ℕ → Type 0
 HasFilled old new key = (number : ℕ) × Made old new key (Fill number)
 
--- the seat looked at the key's shard, which was in a state in which no other seat held the key. Its number and its calls stay; what it has seen of the key's shard is legal, begins with what it had seen before, and has under its number just its calls; what it has seen of the other shards stays
-pub record HasWaited (old new : Seated) (key : List ℕ) : Type 0 where
+-- the seat looked at the key's shard, in which the key had a mode of which this holds. Its number and its calls stay; what it has seen of the key's shard is legal, begins with what it had seen before, and has under its number just its calls; what it has seen of the other shards stays
+pub record HasLooked (old new : Seated) (key : List ℕ) (P : Mode ℕ → Type 0) : Type 0 where
   pub kept : KeepsCalls old new
   pub grows : StartsWith (seen_of new (shard_at old key)) (seen_of old (shard_at old key))
   pub legal : IsLegal (seen_of new (shard_at old key))
   pub numbers : AreBelow old.callers (seen_of new (shard_at old key))
   pub own : calls_by old.number (seen_of new (shard_at old key)) ≡ on_shard old.shards (shard_at old key) old.calls
   pub others : (j : ℕ) → j ≢ shard_at old key → seen_of new j ≡ seen_of old j
-  pub no_other : (by : ℕ) → state_after (seen_of new (shard_at old key)) key ≡ held by → by ≡ old.number
+  pub mode_is : P (state_after (seen_of new (shard_at old key)) key)
+
+-- no seat but this one holds a key of this mode
+abbrev pub NoOtherHolds : ℕ → Mode ℕ → Type 0
+NoOtherHolds seat mode = (by : ℕ) → mode ≡ held by → by ≡ seat
+
+-- the seat waited until no other seat held the key
+abbrev pub HasWaited : Seated → Seated → List ℕ → Type 0
+HasWaited old new key = HasLooked old new key (NoOtherHolds old.number)
+
+-- the seat gave up the value of a key, with this answer: the value, which stands for the key; or it saw that the key is free, or that the seat of this number holds it
+abbrev pub HasForgot : {V : Type 0} → (V → List ℕ → Type 0) → Seated → Seated → List ℕ → forget.Forget V → Type 0
+HasForgot stands_for old new key (answer.Dropped value) = stands_for value key × ((number : ℕ) × Made old new key (Forget number))
+HasForgot stands_for old new key answer.Free = HasLooked old new key (λ mode. mode ≡ free)
+HasForgot stands_for old new key (answer.Busy by) = HasLooked old new key (λ mode. mode ≡ held by)
+
+-- the seat's cache, its number and its tickets stay
+pub record KeepsTickets (old new : Seated) : Type 0 where
+  pub cache : new.cache ≡ old.cache
+  pub number : new.number ≡ old.number
+  pub tickets : (key : List ℕ) → has_ticket new.calls key ≡ has_ticket old.calls key
 
 -- the seat is of this cache, and has no ticket
 abbrev pub IsIdle : TableId → Seated → Type 0

@@ -44,6 +44,12 @@ module _ {V : Type 0} where
   holds (Held seat) = 1
   holds (Filled number value) = 0
 
+  -- how many calls are still to come by right: a held key's ticket is spent, and then its value may be given up
+  abbrev pub owes : Kept V → ℕ
+  owes Free = 0
+  owes (Held seat) = 2
+  owes (Filled number value) = 1
+
   -- what f says of what is kept of a key, or d where it is not among the keys
   abbrev pub look_up : {A : Type 0} → A → (Kept V → A) → List (List ℕ) → List (Kept V) → List ℕ → A
   look_up d f [] kept key = d
@@ -68,8 +74,8 @@ pub record Contents (V : Type 0) : Type 0 where
   pub keys : List (List ℕ)
   pub kept : List (Kept V)
 
--- what holds of every shard: no key stands twice; the stored history is legal, and replayed from the start it gives the present shard; each value stands for its key; as many keys are held as tickets are out, and there is room for the call that spends each
-pub record IsSound (V : Type 0) (stands_for : V → List ℕ → Type 0) (keys : List (List ℕ)) (kept : List (Kept V)) (entries : List Entry) (out room : ℕ) : Type 0 where
+-- what holds of every shard: no key stands twice; the stored history is legal, and replayed from the start it gives the present shard; each value stands for its key; as many keys are held as tickets are out, and there is room for the calls that are owed
+pub record IsSound (V : Type 0) (stands_for : V → List ℕ → Type 0) (keys : List (List ℕ)) (kept : List (Kept V)) (entries : List Entry) (owed room : ℕ) : Type 0 where
   pub beside : length kept ≡ length keys
   pub distinct : AreDistinct keys
   pub placed : ArePlaced (length keys) entries
@@ -77,8 +83,8 @@ pub record IsSound (V : Type 0) (stands_for : V → List ℕ → Type 0) (keys :
   pub replays : (key : List ℕ) → state_after (calls_of keys entries) key ≡ look_up free mode_of keys kept key
   pub stand : AllStand stands_for keys kept
   pub tickets : sum_by holds kept + returned (calls_of keys entries) ≡ given (calls_of keys entries)
-  pub counted : out ≡ sum_by holds kept
-  pub reserved : length entries + out ≤ room
+  pub counted : owed ≡ sum_by owes kept
+  pub reserved : length entries + owed ≤ room
 
 module _ {V : Type 0} where
   -- the value of a key, where it is filled

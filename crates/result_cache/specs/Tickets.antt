@@ -1,8 +1,8 @@
--- Tickets and fillings, as a history has them.
+-- Tickets, as a history has them.
 use Rattle.std.specs.Prelude.{◌≡◌, ℕ, ◌+◌, List, [], ◌∷◌, Bool, true, false, if◌then◌else◌, ◌==◌}
 use Rattle.std.specs.Str.{bytes_eq}
 use Rattle.result_cache.specs.declared.call.Act.{Act}
-use Rattle.result_cache.specs.declared.call.Act.TheVariants.{Hit, Busy, Yours, Fill, GiveBack}
+use Rattle.result_cache.specs.declared.call.Act.TheVariants.{Hit, Busy, Yours, Fill, GiveBack, Forget}
 use Rattle.result_cache.specs.declared.call.Call.{Call}
 
 -- a claim that is answered Yours gives one ticket, and no other call gives any
@@ -12,6 +12,7 @@ gives (Hit number) = 0
 gives (Busy by) = 0
 gives (Fill number) = 0
 gives GiveBack = 0
+gives (Forget number) = 0
 
 -- filling and giving back take one ticket each, and no other call takes any
 abbrev pub takes : Act → ℕ
@@ -20,6 +21,7 @@ takes (Hit number) = 0
 takes (Busy by) = 0
 takes (Fill number) = 1
 takes GiveBack = 1
+takes (Forget number) = 0
 
 -- how many tickets were given out
 abbrev pub given : List Call → ℕ
@@ -43,6 +45,7 @@ ticket_after (Busy by) had = had
 ticket_after Yours had = true
 ticket_after (Fill number) had = false
 ticket_after GiveBack had = false
+ticket_after (Forget number) had = had
 
 -- whether a seat has the ticket of a key after these calls of its own, by whether it had it before
 abbrev pub ticket_from : Bool → List ℕ → List Call → Bool
@@ -52,19 +55,6 @@ ticket_from had key (c ∷ calls) = ticket_from (if bytes_eq c.key key then tick
 -- whether a seat that made these calls has the ticket of a key
 abbrev pub has_ticket : List Call → List ℕ → Bool
 has_ticket calls key = ticket_from false key calls
-
--- a filling counts as one, and no other call counts
-abbrev pub fillings : Act → ℕ
-fillings Yours = 0
-fillings (Hit number) = 0
-fillings (Busy by) = 0
-fillings (Fill number) = 1
-fillings GiveBack = 0
-
--- how often a key was filled
-abbrev pub times_filled : List ℕ → List Call → ℕ
-times_filled key [] = 0
-times_filled key (c ∷ calls) = (if bytes_eq c.key key then fillings c.act else 0) + times_filled key calls
 
 -- a seat that made these calls has no ticket
 abbrev pub HoldsNoTicket : List Call → Type 0

@@ -4,12 +4,12 @@ ghost use Rattle.std.specs.Prelude.{◌≡◌, ◌+◌, ◌<◌, ◌≤◌, true
 ghost use Rattle.result_cache.specs.declared.call.Act.TheVariants.{GiveBack};
 ghost use Rattle.result_cache.specs.Tickets.{has_ticket, HoldsNoTicket};
 ghost use Rattle.result_cache.specs.Shared.{shard_of};
-ghost use Rattle.result_cache.specs.Seats.{HasClaimed, HasFilled, HasWaited, Made, claims, fills, give_backs, count_of};
-ghost use Rattle.result_cache.specs.Seats.{capped};
+ghost use Rattle.result_cache.specs.Counts.{claims, fills, give_backs, drops, count_of};
+ghost use Rattle.result_cache.specs.Seats.{HasClaimed, HasFilled, HasForgot, HasWaited, Made, capped};
 
 use crate::keyed::Keyed;
 use crate::seat::{Seat, SeatCalls};
-use crate::shard::{Claim, Shard, Ticket};
+use crate::shard::{Claim, Forget, Shard, Ticket};
 use crate::view::{OneHistory, View};
 use atomic_table::{Badge, Table};
 use rtl_bits::{Memory, Text};
@@ -30,8 +30,9 @@ pub struct SharedCache<V: Keyed> {
 }
 
 impl<V: Keyed> SharedCache<V> {
-    /// Asks for the key. The reply `Yours` takes the memory that spending the ticket needs. It may wait
-    /// for the lock of the key's shard. After an error the seat is as before.
+    /// Asks for the key. The reply `Yours` takes the memory that the later filling or giving back of the key
+    /// needs, and a later giving up of its value. It may wait for the lock of the key's shard. After an error
+    /// the seat is as before.
     pub fn claim<R: Wait>(&self, rt: &R, seat: &mut Seat, key: &Text) -> Result<Claim<V>, Memory>
         requires cache { seat.old.cache ≡ self.now.table.shared.table_id }
         requires holds_no_ticket { has_ticket seat.old.calls key.now ≡ false }
@@ -88,6 +89,29 @@ impl<V: Keyed> SharedCache<V> {
         seat.give_backs = seat.give_backs.saturating_add(1);
     }
 
+    /// Gives up the value of the key, which is free then. A key that is free or held stays so, and the seat has
+    /// seen that it is. It takes no memory, and may wait for the lock of the key's shard.
+    pub fn forget<R: Wait>(&self, rt: &R, seat: &mut Seat, key: &Text) -> Forget<V>
+        requires cache { seat.old.cache ≡ self.now.table.shared.table_id }
+        ensures forgot { HasForgot V.stands_for seat.old seat.new key.now result }
+    {
+        let place = place_of(key, self.shards);
+        let badge = mem::replace(&mut seat.badge, Badge::blank());
+        let mut pass = self.enter(rt, badge, place);
+        let answer = self.forget_under(&mut pass, place, seat.number, key);
+        match answer {
+            Forget::Dropped(value) => {
+                seat.badge = self.give(pass, place);
+                seat.drops = seat.drops.saturating_add(1);
+                Forget::Dropped(value)
+            }
+            stays => {
+                seat.badge = self.give(pass, place);
+                stays
+            }
+        }
+    }
+
     /// Waits until no other seat holds the key, and returns after a moment at which none did.
     pub fn wait_key<R: Wait>(&self, rt: &R, seat: &mut Seat, key: &Text)
         requires cache { seat.old.cache ≡ self.now.table.shared.table_id }
@@ -123,18 +147,21 @@ impl<V: Keyed> SharedCache<V> {
         false
     }
 
-    /// Ends the seat, and answers how many claims, fillings and givings back it made. It takes no memory.
+    /// Ends the seat, and answers how many claims, fillings and givings back it made, and how many values it gave
+    /// up. It takes no memory.
     pub fn end<R: Wait>(&self, _rt: &R, seat: Seat) -> SeatCalls
         requires cache { seat.cache ≡ self.now.table.shared.table_id }
         requires holds_no_ticket { HoldsNoTicket seat.calls }
         ensures claims { result.claims ≡ capped (count_of claims seat.calls) }
         ensures fills { result.fills ≡ capped (count_of fills seat.calls) }
         ensures give_backs { result.give_backs ≡ capped (count_of give_backs seat.calls) }
+        ensures drops { result.drops ≡ capped (count_of drops seat.calls) }
     {
         SeatCalls {
             claims: seat.claims,
             fills: seat.fills,
             give_backs: seat.give_backs,
+            drops: seat.drops,
         }
     }
 }

@@ -15,6 +15,8 @@ pub enum Act {
     Fill(u64),
     /// The key was given back, and is free.
     GiveBack,
+    /// The value of this number was given up, and the key is free.
+    Forget(u64),
 }
 
 /// A call of a seat on a key. Contracts speak of it; a shard stores an `Entry`.

@@ -17,4 +17,4 @@ pub use call::{Act, Call};
 pub use keyed::Keyed;
 pub use make::Opened;
 pub use seat::{Seat, SeatCalls};
-pub use shard::{Claim, Shard, Ticket};
+pub use shard::{Claim, Forget, Shard, Ticket};

@@ -7,14 +7,14 @@ ghost use Rattle.std.specs.Prelude.{◌≡◌, ◌≢◌, ◌<◌, ℕ, [], ◌�
 ghost use Rattle.result_cache.specs.declared.call.Act.TheVariants.{Fill, GiveBack};
 ghost use Rattle.result_cache.specs.History.{held};
 ghost use Rattle.result_cache.specs.Stored.{mode_at, AddsCall};
-ghost use Rattle.result_cache.specs.Claims.{Claimed, IfHit};
+ghost use Rattle.result_cache.specs.Claims.{Claimed, Forgot, IfDropped, IfHit};
 ghost use Rattle.result_cache.specs.Shared.{TakenIf, Entered, MayGive, MayGiveUp, Holds, Swaps, view_of, seat_of};
 ghost use Rattle.result_cache.specs.Shared.{released, alone};
 ghost use Rattle.result_cache.specs.Seats.{first_view};
 
 use crate::cache::SharedCache;
 use crate::keyed::Keyed;
-use crate::shard::{Claim, Shard, Ticket};
+use crate::shard::{Claim, Forget, Shard, Ticket};
 use crate::view::{Gives, GivesUp, Takes, Tells, View};
 use atomic_table::{Badge, Seat as Pass};
 use rtl_bits::{Memory, Text};
@@ -141,6 +141,24 @@ impl<V: Keyed> SharedCache<V> {
         self.tell(pass, at);
         let shard = pass.slot_mut(&self.table.shared, at);
         shard.give_back(number, ticket);
+    }
+
+    // Gives up the value of the key, under the lock of its shard.
+    pub(crate) fn forget_under(
+        &self,
+        pass: &mut Pass<Shard<V>, View>,
+        at: usize,
+        number: u32,
+        key: &Text,
+    ) -> Forget<V>
+        requires cache { pass.old.table_id ≡ self.now.table.shared.table_id }
+        requires shard { Holds V at pass.old.me (λ y. Unit {0}) }
+        ensures cache { pass.new.table_id ≡ pass.old.table_id }
+        ensures swaps { Swaps V at pass.old.me pass.new.me (λ y z.
+            Forgot y z number key.now result × IfDropped result (λ value. V.stands_for value key.now)) }
+    {
+        let shard = pass.slot_mut(&self.table.shared, at);
+        shard.forget(number, key)
     }
 
     // Whether no other seat holds the key, under the lock of its shard.

@@ -90,6 +90,7 @@ fn new_seat(number: u32, badge: Badge<View>) -> Seat
         claims: 0,
         fills: 0,
         give_backs: 0,
+        drops: 0,
         badge,
     }
 }

@@ -12,6 +12,7 @@ pub struct Seat {
     pub(crate) claims: u64,
     pub(crate) fills: u64,
     pub(crate) give_backs: u64,
+    pub(crate) drops: u64,
     pub(crate) badge: Badge<View>,
 }
 
@@ -22,7 +23,7 @@ impl Model for Seat {
 
     ghost view = { λ s. seated_of s.badge.table_id s.badge.views };
 
-    ghost invariant = { λ s. IsSeat s.badge.table_id s.number s.claims s.fills s.give_backs s.badge.views };
+    ghost invariant = { λ s. IsSeat s.badge.table_id s.number s.claims s.fills s.give_backs s.drops s.badge.views };
 }
 
 /// How many calls of each kind a seat made. Each number stays at the last value of its type.
@@ -31,4 +32,5 @@ pub struct SeatCalls {
     pub claims: u64,
     pub fills: u64,
     pub give_backs: u64,
+    pub drops: u64,
 }

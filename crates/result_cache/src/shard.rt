@@ -8,7 +8,7 @@ ghost use Rattle.rtl_sig.specs.Names.{has_name, AreDistinct};
 ghost use Rattle.result_cache.specs.History.{held, IsFilled, IsLegal};
 ghost use Rattle.result_cache.specs.Tickets.{given, returned};
 ghost use Rattle.result_cache.specs.Stored.{value_at, mode_at, kept_mode, held_keys, KeepsValues, AddsCall};
-ghost use Rattle.result_cache.specs.Claims.{Claimed, IfHit, holder_of};
+ghost use Rattle.result_cache.specs.Claims.{Claimed, Forgot, IfDropped, IfHit, holder_of};
 
 use crate::call::{Act, Entry, Kept};
 use crate::keyed::Keyed;
@@ -16,6 +16,7 @@ use rtl_bits::{Copied, Memory, Text};
 use rtl_sig::Names;
 use std::alloc::Global;
 use std::marker::Model;
+use std::mem;
 
 /// The right to fill a key, or to give it back. It must be spent by one of the two.
 pub struct Ticket {
@@ -33,14 +34,26 @@ pub enum Claim<V> {
     Busy(u32),
 }
 
-/// Keys with what is kept of each, and the history of the calls. `out` counts the tickets that are
-/// out; for each of them the history has a place left, so that spending it takes no memory.
+/// The answer to giving up the value of a key.
+#[derive(Drop)]
+pub enum Forget<V> {
+    /// The key was filled: its value. The key is free now.
+    Dropped(V),
+    /// The key is free.
+    Free,
+    /// A seat holds the key: its number.
+    Busy(u32),
+}
+
+/// Keys with what is kept of each, and the history of the calls. `owed` counts the calls that are still to
+/// come by right: for each key that is held the one that spends its ticket and one that gives up its value, for
+/// each key that is filled the latter. The history has a place left for each, so that they take no memory.
 #[derive(Drop)]
 pub struct Shard<V: Keyed> {
     keys: Names,
     kept: Vec<Kept<V>>,
     entries: Vec<Entry>,
-    out: usize,
+    owed: usize,
 }
 
 impl<V: Keyed> Model for Shard<V> {
@@ -52,7 +65,7 @@ impl<V: Keyed> Model for Shard<V> {
     ghost view = { λ s. record { history = calls_of s.keys s.entries.items; keys = s.keys; kept = s.kept.items } };
 
     ghost invariant = { λ s.
-        IsSound V V.stands_for s.keys s.kept.items s.entries.items s.out (vec_capacity s.entries) };
+        IsSound V V.stands_for s.keys s.kept.items s.entries.items s.owed (vec_capacity s.entries) };
 }
 
 impl<V: Keyed> Shard<V> {
@@ -65,12 +78,12 @@ impl<V: Keyed> Shard<V> {
             keys: Names::make(alloc),
             kept: Vec::new(alloc),
             entries: Vec::new(alloc),
-            out: 0,
+            owed: 0,
         }
     }
 
-    /// Asks for the key. The reply `Yours` takes the memory that spending the ticket needs. After an
-    /// error the shard is as before.
+    /// Asks for the key. The reply `Yours` takes the memory that spending the ticket, and giving up the key's
+    /// value later, need. After an error the shard is as before.
     pub fn claim(&mut self, seat: u32, key: &Text) -> Result<Claim<V>, Memory>
         requires not_held { mode_at self.old key.now ≢ held seat }
         ensures ok { IfOk result (λ claim. Claimed self.old self.new seat key.now claim) }
@@ -94,7 +107,7 @@ impl<V: Keyed> Shard<V> {
         ensures values { KeepsValues self.old self.new }
         ensures err { OnErr result (self.new ≡ self.old) }
     {
-        make_room(&mut self.entries, self.out)?;
+        make_room(&mut self.entries, self.owed)?;
         match &self.kept[place] {
             Kept::Filled(number, value) => {
                 let value = value.share()?;
@@ -113,7 +126,7 @@ impl<V: Keyed> Shard<V> {
                 let act = Act::Yours;
                 self.entries.push_reserved(Entry { seat, place, act });
                 self.kept[place] = Kept::Held(seat);
-                self.out += 1;
+                self.owed += 2;
                 Ok(Claim::Yours(Ticket { seat, key }))
             }
         }
@@ -128,13 +141,13 @@ impl<V: Keyed> Shard<V> {
         ensures err { OnErr result (self.new ≡ self.old) }
     {
         let own = key.copy()?;
-        make_room(&mut self.entries, self.out)?;
+        make_room(&mut self.entries, self.owed)?;
         self.kept.reserve(1)?;
         let id = self.keys.intern(key.as_slice())?;
         self.kept.push_reserved(Kept::Held(seat));
         let (place, act) = (id.index, Act::Yours);
         self.entries.push_reserved(Entry { seat, place, act });
-        self.out += 1;
+        self.owed += 2;
         Ok(Claim::Yours(Ticket { seat, key: own }))
     }
 
@@ -155,7 +168,7 @@ impl<V: Keyed> Shard<V> {
         let act = Act::Fill(number);
         self.entries.push_reserved(Entry { seat, place, act });
         self.kept[place] = Kept::Filled(number, value);
-        self.out -= 1;
+        self.owed -= 1;
     }
 
     /// Gives the ticket's key back: it is free again. It takes no memory.
@@ -172,7 +185,31 @@ impl<V: Keyed> Shard<V> {
         let act = Act::GiveBack;
         self.entries.push_reserved(Entry { seat, place, act });
         self.kept[place] = Kept::Free;
-        self.out -= 1;
+        self.owed -= 2;
+    }
+
+    /// Gives up the value of the key, which is free then. A key that is free or held stays so. It takes no memory.
+    pub fn forget(&mut self, seat: u32, key: &Text) -> Forget<V>
+        ensures forgot { Forgot self.old self.new seat key.now result }
+        ensures stands { IfDropped result (λ value. V.stands_for value key.now) }
+        ensures values { (q : List ℕ) → value_at self.new q ≡
+            (if bytes_eq key.now q then None else value_at self.old q) }
+    {
+        let Some(id) = self.keys.find(key.as_slice()) else {
+            return Forget::Free;
+        };
+        let number = match &self.kept[id.index] {
+            Kept::Free => return Forget::Free,
+            Kept::Held(by) => return Forget::Busy(*by),
+            Kept::Filled(number, _value) => *number,
+        };
+        let Kept::Filled(_number, value) = mem::replace(&mut self.kept[id.index], Kept::Free) else {
+            unreachable!()
+        };
+        let (place, act) = (id.index, Act::Forget(number));
+        self.entries.push_reserved(Entry { seat, place, act });
+        self.owed -= 1;
+        Forget::Dropped(value)
     }
 
     /// The seat that holds the key, or `None` where the key is free or filled. It takes no memory.
@@ -197,17 +234,17 @@ impl<V: Keyed> Shard<V> {
         ensures stands { (key : List ℕ) → IfSome (value_at self.now key) (λ value. V.stands_for value key) }
         ensures tickets { held_keys self.now + returned self.now.history ≡ given self.now.history }
     {
-        let _out = self.out;
+        let _owed = self.owed;
     }
 }
 
-// Makes room for a call, for one that spends its ticket, and for those that spend the tickets that are out.
-fn make_room(entries: &mut Vec<Entry>, out: usize) -> Result<(), Memory>
-    ensures room { OnOk result (length entries.old.items + 2 + out ≤ vec_capacity entries.new) }
+// Makes room for a claim, for the two calls that a ticket owes, and for those that are owed already.
+fn make_room(entries: &mut Vec<Entry>, owed: usize) -> Result<(), Memory>
+    ensures room { OnOk result (length entries.old.items + 3 + owed ≤ vec_capacity entries.new) }
     ensures items { entries.new.items ≡ entries.old.items }
     ensures capacity { vec_capacity entries.old ≤ vec_capacity entries.new }
 {
-    let Some(room) = out.checked_add(2) else {
+    let Some(room) = owed.checked_add(3) else {
         return Err(Memory);
     };
     entries.reserve(room)?;

@@ -2,7 +2,6 @@ use Rattle.std.proofs.Common.{◌≡◌, ◌++◌, List, Option, length, take, d
 use Rattle.std.specs.List.{list_all}
 use Rattle.std.specs.Option.{is_some}
 use Rattle.std.specs.Vec.{with_items}
-use Rattle.rtl_ir.specs.declared.module.Design.{Design}
 use Rattle.result_cache.specs.Filled.{new_count}
 use Rattle.result_cache.specs.Seats.{Seated}
 use Rattle.build_crew.specs.declared.finding.Found.{Found}
@@ -13,16 +12,8 @@ use Rattle.desk_core.specs.declared.results.Results.{Results}
 use Rattle.desk_core.specs.Builds.{BuildsOrReturns, HasClaims}
 use Rattle.desk_core.specs.Netlist.{key_texts}
 use Rattle.desk_core.specs.Results.{AreSeated, TellKeys}
-use Rattle.desk_core.proofs.Finding.{all_beside, back_whole, beside_of, built_few, run_returns, run_ticks, sound_run, sound_stopped, stopped_returns, tell_keys}
-use Rattle.desk_core.proofs.Rises.{returns_none}
-use Rattle.desk_core.proofs.Told.{on_err}
+use Rattle.desk_core.proofs.Finding.{all_beside, back_whole, beside_of, run_returns, run_ticks, sound_run, sound_stopped, stopped_returns, tell_keys}
 use Rattle.desk_core.proofs.results.find_all.Goals as goal
-
-pub returns-in_err-table-clause-err : goal.returns-in_err-table-clause-err
-returns-in_err-table-clause-err g c = on_err c.from_residual.result (λ text known. known)
-
-pub returns-in_err-table-clause-returned : goal.returns-in_err-table-clause-returned
-returns-in_err-table-clause-returned g c = returns_none _ c.args.results.now.seats.items c.args.results.now.seats.items c.args.meter.now c.args.meter.now refl refl
 
 pub found_by-requires-clause-seats : goal.found_by-requires-clause-seats
 found_by-requires-clause-seats g c κs within =
@@ -31,45 +22,32 @@ found_by-requires-clause-seats g c κs within =
 
 pub found_by-requires-clause-keys : goal.found_by-requires-clause-keys
 found_by-requires-clause-keys g c κs within =
-    let design = c.args.design.now.design in
-    let table = c.in_ok-table.table.modules.now in
-    subst (λ (found : List (Option Built)). TellKeys design table c.args.script.now found) (sym c.as_slice.ensures.value)
-    (tell_keys design table c.args.script.now c.args.results.now (c.in_ok-table.ensures.value ∙ ap (λ (d : Design). d.modules) c.design.ensures.value) c.requires.sound)
+    let design = c.args.keys.now.design.now.design in
+    let table = c.args.keys.now.table.now.modules.now in
+    subst (λ (found : List (Option Built)). TellKeys design table c.args.keys.now.script.now found) (sym c.as_slice.ensures.value)
+    (tell_keys design table c.args.keys.now.script.now c.args.results.now c.requires.table c.requires.sound)
 
 pub returns-in_err-items-clause-sound : goal.returns-in_err-items-clause-sound
 returns-in_err-items-clause-sound g c =
     let results = c.args.results.now in
     let news = c.found_by.new.seats in
-    let keys = key_texts c.args.script.now c.args.design.now.design.modules in
+    let keys = key_texts c.args.keys.now.script.now c.args.keys.now.design.now.design.modules in
     let lent = ap length c.as_mut_slice.ensures.value in
     let kept = c.found_by.auto.seats in
     let size = results.seats.ok.0 in
     let back : take results.seats.len (news ++ drop (length news) results.seats.items) ≡ news = back_whole results.seats.len results.seats.items news (omega (arith, lent, kept, size)) in
     let stopped : HasStopped keys results.seats.items news c.args.meter.now c.found_by.new.meter =
     subst (λ (s : List Seated). HasStopped keys s news c.args.meter.now c.found_by.new.meter) c.as_mut_slice.ensures.value c.in_err-items.ensures.err in
-    let after : Results = record { cache = results.cache; seats = with_items results.seats news; found = results.found } in
-    sound_stopped c.args.design.now.design c.args.script.now results after c.requires.sound
+    let after : Results = record { cache = results.cache; seats = with_items results.seats news; ages = results.ages; found = results.found } in
+    sound_stopped c.args.keys.now.design.now.design c.args.keys.now.script.now results after c.requires.sound
     (subst (AreSeated results.cache.table.shared.table_id results.cache.shards) (sym back) c.found_by.ensures.seats) refl
-    (subst (λ (s : List Seated). HasStill (kept_by results.seats.items) (kept_by s)) (sym back) stopped.kept)
-
-pub returns-in_err-items-clause-err : goal.returns-in_err-items-clause-err
-returns-in_err-items-clause-err g c =
-    let results = c.args.results.now in
-    let news = c.found_by.new.seats in
-    let keys = key_texts c.args.script.now c.args.design.now.design.modules in
-    let lent = ap length c.as_mut_slice.ensures.value in
-    let kept = c.found_by.auto.seats in
-    let size = results.seats.ok.0 in
-    let back : take results.seats.len (news ++ drop (length news) results.seats.items) ≡ news = back_whole results.seats.len results.seats.items news (omega (arith, lent, kept, size)) in
-    let stopped : HasStopped keys results.seats.items news c.args.meter.now c.found_by.new.meter =
-    subst (λ (s : List Seated). HasStopped keys s news c.args.meter.now c.found_by.new.meter) c.as_mut_slice.ensures.value c.in_err-items.ensures.err in
-    on_err c.from_residual-in_err-items.result (subst (λ (s : List Seated). HasStill (kept_by results.seats.items) (kept_by s)) (sym back) stopped.kept)
+    (subst (λ (s : List Seated). HasStill (kept_by results.seats.items) (kept_by s)) (sym back) stopped.kept) refl
 
 pub returns-in_err-items-clause-returned : goal.returns-in_err-items-clause-returned
 returns-in_err-items-clause-returned g c =
     let results = c.args.results.now in
     let news = c.found_by.new.seats in
-    let keys = key_texts c.args.script.now c.args.design.now.design.modules in
+    let keys = key_texts c.args.keys.now.script.now c.args.keys.now.design.now.design.modules in
     let lent = ap length c.as_mut_slice.ensures.value in
     let kept = c.found_by.auto.seats in
     let size = results.seats.ok.0 in
@@ -79,17 +57,9 @@ returns-in_err-items-clause-returned g c =
     subst (λ (s : List Seated). BuildsOrReturns (new_count (kept_by results.seats.items) keys) results.seats.items s c.args.meter.now c.found_by.new.meter) (sym back)
     (stopped_returns keys results.seats.items news c.args.meter.now c.found_by.new.meter stopped)
 
-pub built_now-built-requires : goal.built_now-built-requires
-built_now-built-requires g c =
-    let modules = c.args.design.now.design.modules in
-    let count : length c.in_ok-items.items.items ≡ length modules = c.in_ok-items.ensures.count in
-    let few = c.requires.sound.readable.count in
-    let same = ap length c.as_slice-2.ensures.value in
-    record { few = omega (arith, count, few, same) }
-
 pub put_beside-requires : goal.put_beside-requires
 put_beside-requires g c =
-    let modules = c.args.design.now.design.modules in
+    let modules = c.args.keys.now.design.now.design.modules in
     let count : length c.in_ok-items.items.items ≡ length modules = c.in_ok-items.ensures.count in
     let same = ap length c.as_mut_slice-2.ensures.value in
     let beside = c.requires.sound.beside in
@@ -99,7 +69,7 @@ pub returns-clause-sound : goal.returns-clause-sound
 returns-clause-sound g c =
     let results = c.args.results.now in
     let news = c.found_by.new.seats in
-    let keys = key_texts c.args.script.now c.args.design.now.design.modules in
+    let keys = key_texts c.args.keys.now.script.now c.args.keys.now.design.now.design.modules in
     let lent = ap length c.as_mut_slice.ensures.value in
     let kept = c.found_by.auto.seats in
     let size = results.seats.ok.0 in
@@ -107,7 +77,7 @@ returns-clause-sound g c =
     let built = new_among (λ (item : Found Built). item.is_new) c.in_ok-items.items.items in
     let run : HasRun keys built results.seats.items news c.args.meter.now c.found_by.new.meter =
     subst (λ (s : List Seated). HasRun keys built s news c.args.meter.now c.found_by.new.meter) c.as_mut_slice.ensures.value c.in_ok-items.ensures.ok in
-    let modules = c.args.design.now.design.modules in
+    let modules = c.args.keys.now.design.now.design.modules in
     let count : length c.in_ok-items.items.items ≡ length modules = c.in_ok-items.ensures.count in
     let put = c.put_beside.new.found in
     let lent_found = ap length c.as_mut_slice-2.ensures.value in
@@ -115,48 +85,16 @@ returns-clause-sound g c =
     let size_found = results.found.ok.0 in
     let beside : take results.found.len (put ++ drop (length put) results.found.items) ≡ beside_of c.in_ok-items.items.items =
     back_whole results.found.len results.found.items put (omega (arith, lent_found, kept_found, size_found)) ∙ c.put_beside.ensures.beside in
-    let after : Results = record { cache = results.cache; seats = with_items results.seats news; found = with_items results.found put } in
-    sound_run c.args.design.now.design c.args.script.now results after c.in_ok-items.items.items c.requires.sound
+    let after : Results = record { cache = results.cache; seats = with_items results.seats news; ages = results.ages; found = with_items results.found put } in
+    sound_run c.args.keys.now.design.now.design c.args.keys.now.script.now results after c.in_ok-items.items.items c.requires.sound
     (subst (AreSeated results.cache.table.shared.table_id results.cache.shards) (sym back) c.found_by.ensures.seats) count c.in_ok-items.ensures.answers beside
-    (ap kept_by back ∙ run.kept)
-
-pub returns-clause-built : goal.returns-clause-built
-returns-clause-built g c =
-    let results = c.args.results.now in
-    let news = c.found_by.new.seats in
-    let keys = key_texts c.args.script.now c.args.design.now.design.modules in
-    let lent = ap length c.as_mut_slice.ensures.value in
-    let kept = c.found_by.auto.seats in
-    let size = results.seats.ok.0 in
-    let back : take results.seats.len (news ++ drop (length news) results.seats.items) ≡ news = back_whole results.seats.len results.seats.items news (omega (arith, lent, kept, size)) in
-    let built = new_among (λ (item : Found Built). item.is_new) c.in_ok-items.items.items in
-    let run : HasRun keys built results.seats.items news c.args.meter.now c.found_by.new.meter =
-    subst (λ (s : List Seated). HasRun keys built s news c.args.meter.now c.found_by.new.meter) c.as_mut_slice.ensures.value c.in_ok-items.ensures.ok in
-    let is : c.built_now-built.result ≡ new_count (kept_by results.seats.items) keys =
-    c.built_now-built.ensures.value ∙ ap (new_among (λ (item : Found Built). item.is_new)) c.as_slice-2.ensures.value ∙ run.built_is in
-    is
-
-pub returns-clause-few : goal.returns-clause-few
-returns-clause-few g c =
-    let results = c.args.results.now in
-    let news = c.found_by.new.seats in
-    let keys = key_texts c.args.script.now c.args.design.now.design.modules in
-    let lent = ap length c.as_mut_slice.ensures.value in
-    let kept = c.found_by.auto.seats in
-    let size = results.seats.ok.0 in
-    let back : take results.seats.len (news ++ drop (length news) results.seats.items) ≡ news = back_whole results.seats.len results.seats.items news (omega (arith, lent, kept, size)) in
-    let built = new_among (λ (item : Found Built). item.is_new) c.in_ok-items.items.items in
-    let run : HasRun keys built results.seats.items news c.args.meter.now c.found_by.new.meter =
-    subst (λ (s : List Seated). HasRun keys built s news c.args.meter.now c.found_by.new.meter) c.as_mut_slice.ensures.value c.in_ok-items.ensures.ok in
-    let is : c.built_now-built.result ≡ new_count (kept_by results.seats.items) keys =
-    c.built_now-built.ensures.value ∙ ap (new_among (λ (item : Found Built). item.is_new)) c.as_slice-2.ensures.value ∙ run.built_is in
-    built_few c.args.design.now.design c.args.script.now (kept_by results.seats.items) c.built_now-built.result is
+    (ap kept_by back ∙ run.kept) refl
 
 pub returns-clause-filled : goal.returns-clause-filled
 returns-clause-filled g c =
     let results = c.args.results.now in
     let news = c.found_by.new.seats in
-    let keys = key_texts c.args.script.now c.args.design.now.design.modules in
+    let keys = key_texts c.args.keys.now.script.now c.args.keys.now.design.now.design.modules in
     let lent = ap length c.as_mut_slice.ensures.value in
     let kept = c.found_by.auto.seats in
     let size = results.seats.ok.0 in
@@ -181,7 +119,7 @@ pub returns-clause-claims : goal.returns-clause-claims
 returns-clause-claims g c =
     let results = c.args.results.now in
     let news = c.found_by.new.seats in
-    let keys = key_texts c.args.script.now c.args.design.now.design.modules in
+    let keys = key_texts c.args.keys.now.script.now c.args.keys.now.design.now.design.modules in
     let lent = ap length c.as_mut_slice.ensures.value in
     let kept = c.found_by.auto.seats in
     let size = results.seats.ok.0 in
@@ -195,7 +133,7 @@ pub returns-clause-ticks : goal.returns-clause-ticks
 returns-clause-ticks g c =
     let results = c.args.results.now in
     let news = c.found_by.new.seats in
-    let keys = key_texts c.args.script.now c.args.design.now.design.modules in
+    let keys = key_texts c.args.keys.now.script.now c.args.keys.now.design.now.design.modules in
     let lent = ap length c.as_mut_slice.ensures.value in
     let kept = c.found_by.auto.seats in
     let size = results.seats.ok.0 in
@@ -209,7 +147,7 @@ pub returns-clause-returned : goal.returns-clause-returned
 returns-clause-returned g c =
     let results = c.args.results.now in
     let news = c.found_by.new.seats in
-    let keys = key_texts c.args.script.now c.args.design.now.design.modules in
+    let keys = key_texts c.args.keys.now.script.now c.args.keys.now.design.now.design.modules in
     let lent = ap length c.as_mut_slice.ensures.value in
     let kept = c.found_by.auto.seats in
     let size = results.seats.ok.0 in

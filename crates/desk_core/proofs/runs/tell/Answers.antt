@@ -1,32 +1,115 @@
-use Rattle.desk_core.proofs.Told.{on_err, on_ok, still_kept}
+use Rattle.std.proofs.Common.{◌≡◌, ℕ, ◌-◌, List, ◌++◌, Option, Ok, refl, sym, ap, subst, ◌∙◌, arith}
+use Rattle.std.specs.Prelude.{codes}
+use Rattle.reply_lines.specs.Lines.{counted}
+use Rattle.rtl_ir.specs.declared.module.Module.{Module}
+use Rattle.desk_core.specs.State.{KeptKey}
+use Rattle.result_cache.specs.Filled.{new_count}
+use Rattle.build_crew.specs.Kept.{kept_by}
+use Rattle.rtl_ir.specs.declared.module.Design.{Design}
+use Rattle.script_core.specs.declared.built.Built.{Built}
+use Rattle.desk_core.specs.Netlist.{built_count, key_texts}
+use Rattle.desk_core.specs.Ages.{kept_in, texts_of}
+use Rattle.desk_core.specs.Results.{TellKeys, over_of, state_of}
+use Rattle.desk_core.proofs.Ended.{returns_more}
+use Rattle.desk_core.proofs.Finding.{built_few, tell_keys}
+use Rattle.desk_core.proofs.Rises.{returns_none, rises_within}
+use Rattle.desk_core.proofs.Told.{built_more, grown_sound, grown_state, told_is, told_over}
 use Rattle.desk_core.proofs.runs.tell.Goals as goal
 
-pub returns-in_err-words-clause-err : goal.returns-in_err-words-clause-err
-returns-in_err-words-clause-err g c =
-    on_err c.from_residual-in_err-words.result (still_kept c.args.design.now.design c.args.script.now c.args.results.now c.find_all.new.results c.in_ok-built.ensures.filled)
+pub needed_by-requires-clause-keys : goal.needed_by-requires-clause-keys
+needed_by-requires-clause-keys g c =
+    let design = c.args.design.now.design in
+    let table = c.in_ok-table.table.modules.now in
+    let same : table ≡ design.modules = c.in_ok-table.ensures.value ∙ ap (λ (d : Design). d.modules) c.design.ensures.value in
+    subst (λ (found : List (Option Built)). TellKeys design table c.args.script.now found) (sym c.as_slice.ensures.value)
+    (tell_keys design table c.args.script.now c.args.results.now same c.requires.sound)
 
-pub returns-in_err-over-clause-err : goal.returns-in_err-over-clause-err
-returns-in_err-over-clause-err g c =
-    on_err c.from_residual-in_err-over.result (still_kept c.args.design.now.design c.args.script.now c.args.results.now c.find_all.new.results c.in_ok-built.ensures.filled)
+pub needed_by-requires-clause-beside : goal.needed_by-requires-clause-beside
+needed_by-requires-clause-beside g c = c.requires.sound.aged.beside
 
-pub returns-clause-err : goal.returns-clause-err
-returns-clause-err g c =
-    on_err c.told_by.result (still_kept c.args.design.now.design c.args.script.now c.args.results.now c.find_all.new.results c.in_ok-built.ensures.filled)
+pub find_all-requires-clause-sound : goal.find_all-requires-clause-sound
+find_all-requires-clause-sound g c κs within =
+    grown_sound c.args.design.now.design c.args.script.now c.args.results.now c.needed_by.new.ages c.needed_by.ensures.kept c.requires.sound c.needed_by.ensures.beside c.needed_by.ensures.young
 
-pub returns-clause-claims : goal.returns-clause-claims
-returns-clause-claims g c = on_ok c.told_by.result c.in_ok-built.ensures.claims
+pub returns-in_err-needed-clause-sound : goal.returns-in_err-needed-clause-sound
+returns-in_err-needed-clause-sound g c =
+    grown_sound c.args.design.now.design c.args.script.now c.args.results.now c.needed_by.new.ages c.needed_by.ensures.kept c.requires.sound c.needed_by.ensures.beside c.needed_by.ensures.young
 
-pub returns-clause-ticks : goal.returns-clause-ticks
-returns-clause-ticks g c = on_ok c.told_by.result c.in_ok-built.ensures.ticks
+pub returns-in_err-needed-clause-state : goal.returns-in_err-needed-clause-state
+returns-in_err-needed-clause-state g c =
+    grown_state c.args.design.now.design c.args.script.now c.args.results.now c.needed_by.new.ages c.needed_by.ensures.kept (record c.args.results.now { ages = c.needed_by.new.ages }) refl
 
-pub returns-in_err-built-clause-returned : goal.returns-in_err-built-clause-returned
-returns-in_err-built-clause-returned g c = c.find_all.ensures.returned
+pub returns-in_err-needed-clause-returned : goal.returns-in_err-needed-clause-returned
+returns-in_err-needed-clause-returned g c =
+    returns_none (built_count (state_of c.args.design.now.design c.args.script.now c.args.results.now)) c.args.results.now.seats.items c.args.results.now.seats.items c.args.meter.now c.args.meter.now refl refl
+
+pub returns-in_err-find_all-clause-state : goal.returns-in_err-find_all-clause-state
+returns-in_err-find_all-clause-state g c =
+    grown_state c.args.design.now.design c.args.script.now c.args.results.now c.needed_by.new.ages c.needed_by.ensures.kept c.find_all.new.results c.find_all.ensures.ages
+
+pub returns-in_err-find_all-clause-returned : goal.returns-in_err-find_all-clause-returned
+returns-in_err-find_all-clause-returned g c =
+    returns_more (new_count (kept_by c.args.results.now.seats.items) (key_texts c.args.script.now c.args.design.now.design.modules)) (built_count (state_of c.args.design.now.design c.args.script.now c.args.results.now)) c.args.results.now.seats.items c.find_all.new.results.seats.items
+    c.args.meter.now c.find_all.new.meter (built_more c.args.design.now.design c.args.script.now c.args.results.now c.requires.sound) c.find_all.ensures.returned
+
+pub returns-in_err-words-clause-state : goal.returns-in_err-words-clause-state
+returns-in_err-words-clause-state g c =
+    grown_state c.args.design.now.design c.args.script.now c.args.results.now c.needed_by.new.ages c.needed_by.ensures.kept c.find_all.new.results c.find_all.ensures.ages
 
 pub returns-in_err-words-clause-returned : goal.returns-in_err-words-clause-returned
-returns-in_err-words-clause-returned g c = c.find_all.ensures.returned
+returns-in_err-words-clause-returned g c =
+    returns_more (new_count (kept_by c.args.results.now.seats.items) (key_texts c.args.script.now c.args.design.now.design.modules)) (built_count (state_of c.args.design.now.design c.args.script.now c.args.results.now)) c.args.results.now.seats.items c.find_all.new.results.seats.items
+    c.args.meter.now c.find_all.new.meter (built_more c.args.design.now.design c.args.script.now c.args.results.now c.requires.sound) c.find_all.ensures.returned
+
+pub returns-in_err-over-clause-state : goal.returns-in_err-over-clause-state
+returns-in_err-over-clause-state g c =
+    grown_state c.args.design.now.design c.args.script.now c.args.results.now c.needed_by.new.ages c.needed_by.ensures.kept c.find_all.new.results c.find_all.ensures.ages
 
 pub returns-in_err-over-clause-returned : goal.returns-in_err-over-clause-returned
-returns-in_err-over-clause-returned g c = c.find_all.ensures.returned
+returns-in_err-over-clause-returned g c =
+    returns_more (new_count (kept_by c.args.results.now.seats.items) (key_texts c.args.script.now c.args.design.now.design.modules)) (built_count (state_of c.args.design.now.design c.args.script.now c.args.results.now)) c.args.results.now.seats.items c.find_all.new.results.seats.items
+    c.args.meter.now c.find_all.new.meter (built_more c.args.design.now.design c.args.script.now c.args.results.now c.requires.sound) c.find_all.ensures.returned
+
+pub returns-clause-state : goal.returns-clause-state
+returns-clause-state g c =
+    grown_state c.args.design.now.design c.args.script.now c.args.results.now c.needed_by.new.ages c.needed_by.ensures.kept c.find_all.new.results c.find_all.ensures.ages
 
 pub returns-clause-returned : goal.returns-clause-returned
-returns-clause-returned g c = c.find_all.ensures.returned
+returns-clause-returned g c =
+    returns_more (new_count (kept_by c.args.results.now.seats.items) (key_texts c.args.script.now c.args.design.now.design.modules)) (built_count (state_of c.args.design.now.design c.args.script.now c.args.results.now)) c.args.results.now.seats.items c.find_all.new.results.seats.items
+    c.args.meter.now c.find_all.new.meter (built_more c.args.design.now.design c.args.script.now c.args.results.now c.requires.sound) c.find_all.ensures.returned
+
+pub returns-clause-ticks : goal.returns-clause-ticks
+returns-clause-ticks g c =
+    rises_within (new_count (kept_by c.args.results.now.seats.items) (key_texts c.args.script.now c.args.design.now.design.modules)) (built_count (state_of c.args.design.now.design c.args.script.now c.args.results.now)) c.args.meter.now c.find_all.new.meter
+    c.in_ok-find_all.ensures.ticks (built_more c.args.design.now.design c.args.script.now c.args.results.now c.requires.sound)
+
+pub returns-in_err-told_by-clause-returned : goal.returns-in_err-told_by-clause-returned
+returns-in_err-told_by-clause-returned g c =
+    returns_more (new_count (kept_by c.args.results.now.seats.items) (key_texts c.args.script.now c.args.design.now.design.modules)) (built_count (state_of c.args.design.now.design c.args.script.now c.args.results.now)) c.args.results.now.seats.items c.find_all.new.results.seats.items
+    c.args.meter.now c.find_all.new.meter (built_more c.args.design.now.design c.args.script.now c.args.results.now c.requires.sound) c.find_all.ensures.returned
+
+pub built_words-requires : goal.built_words-requires
+built_words-requires g c =
+    let few =
+    built_few c.args.design.now.design c.args.script.now (texts_of (kept_in c.needed_by.new.ages.keys c.needed_by.new.ages.ages.items)) c.in_ok-needed.needed.built c.in_ok-needed.ensures.needed.built in
+    let count = c.module_count.ensures.value in
+    record { few = omega (arith, few, count) }
+
+pub returns-clause-told : goal.returns-clause-told
+returns-clause-told g c =
+    let design = c.args.design.now.design in
+    let s = state_of design c.args.script.now c.args.results.now in
+    let texts = key_texts c.args.script.now design.modules in
+    let built = c.in_ok-needed.needed.built in
+    let words =
+    c.in_ok-words.ensures.value
+    ∙ ap (λ (n : ℕ). counted (codes "built") built ++ counted (codes "reused") (n - built)) c.module_count.ensures.value in
+    let count : built ≡ built_count s = c.in_ok-needed.ensures.needed.built ∙ ap (λ (kept : List KeptKey). new_count (texts_of kept) texts) c.needed_by.ensures.kept in
+    let modules = c.as_slice-modules.ensures.value ∙ ap (λ (d : Design). d.modules) c.design-2.ensures.value in
+    let over =
+    c.in_ok-over.ensures.value
+    ∙ ap (λ (ms : List Module). over_of ms c.as_slice-2.result.now) modules
+    ∙ ap (over_of design.modules) c.as_slice-2.ensures.value in
+    told_is s c.in_ok-words.words c.in_ok-over.over built (Ok c.in_ok-told_by.field-0) c.in_ok-told_by.ensures.value words count
+    (told_over design c.args.script.now c.find_all.new.results c.in_ok-over.over c.find_all.ensures.sound c.in_ok-find_all.ensures.found over)

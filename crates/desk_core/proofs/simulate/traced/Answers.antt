@@ -1,4 +1,4 @@
-use Rattle.std.proofs.Common.{◌≡◌, ◌++◌, ◌<◌, ◌^◌, List, ℕ, Option, length, map, slice_get, sym, subst, ap, ◌∙◌}
+use Rattle.std.proofs.Common.{◌≡◌, ◌++◌, ◌<◌, ◌^◌, List, ℕ, length, map, slice_get, sym, subst, ap, ◌∙◌}
 use Rattle.std.specs.Prelude.{codes}
 use Rattle.std.proofs.lemmas.List.{length-map}
 use Rattle.rtl_ir.specs.declared.module.Design.{Design}
@@ -8,7 +8,6 @@ use Rattle.flat_net.specs.Titled.{HaveNoProcess, titled_design, titled_module}
 use Rattle.net_model.specs.Within.{Each}
 use Rattle.sim_eval.specs.Shapes.{HaveShapes}
 use Rattle.reply_lines.specs.Lines.{counted, ok_line, ok_reply}
-use Rattle.script_core.specs.declared.built.Built.{Built}
 use Rattle.sim_trace.specs.Stimulus.{trace_text}
 use Rattle.desk_core.specs.Netlist.{done_modules}
 use Rattle.desk_core.specs.Results.{outcomes_of}
@@ -18,15 +17,14 @@ use Rattle.desk_core.proofs.simulate.traced.Goals as goal
 
 pub put_titled_trace-requires : goal.put_titled_trace-requires
 put_titled_trace-requires c =
-    let all = done_modules (outcomes_of c.args.design.now.design.modules c.args.results.now.found.items) in
+    let all = done_modules (outcomes_of c.args.design.now.design.modules c.args.found.now) in
     let source = c.as_slice-modules.ensures.value ∙ ap (λ (d : Design). d.modules) c.design.ensures.value in
     let lent = c.in_ok-netlist.netlist.items in
     let made : map titled_module lent ≡ all =
     c.in_ok-netlist.ensures.value
-    ∙ ap (λ (ms : List Module). done_modules (outcomes_of ms c.as_slice.result.now)) source
-    ∙ ap (λ (fs : List (Option Built)). done_modules (outcomes_of c.args.design.now.design.modules fs)) c.as_slice.ensures.value in
-    let same = c.as_slice-3.ensures.value in
-    let count : length all ≡ length c.as_slice-3.result.now = ap length (sym made) ∙ length-map lent titled_module ∙ ap length (sym same) in
+    ∙ ap (λ (ms : List Module). done_modules (outcomes_of ms c.args.found.now)) source in
+    let same = c.as_slice-2.ensures.value in
+    let count : length all ≡ length c.as_slice-2.result.now = ap length (sym made) ∙ length-map lent titled_module ∙ ap length (sym same) in
     let shaped : Each IsShaped (map titled_module lent) = subst (Each IsShaped) (sym made) c.requires.gates in
     record {
       in_range = subst (λ (n : ℕ). c.args.at < n) count c.requires.in_range;
@@ -39,15 +37,14 @@ pub returns : goal.returns
 returns c = record {
   value = λ m there.
       let steps = c.args.stimulus.now in
-      let all : Design = record { modules = done_modules (outcomes_of c.args.design.now.design.modules c.args.results.now.found.items) } in
+      let all : Design = record { modules = done_modules (outcomes_of c.args.design.now.design.modules c.args.found.now) } in
       let source = c.as_slice-modules.ensures.value ∙ ap (λ (d : Design). d.modules) c.design.ensures.value in
-      let made : (titled_design c.as_slice-3.result.now).modules ≡ all.modules =
-      ap (λ (ts : List Titled). (titled_design ts).modules) c.as_slice-3.ensures.value
+      let made : (titled_design c.as_slice-2.result.now).modules ≡ all.modules =
+      ap (λ (ts : List Titled). (titled_design ts).modules) c.as_slice-2.ensures.value
       ∙ c.in_ok-netlist.ensures.value
-      ∙ ap (λ (ms : List Module). done_modules (outcomes_of ms c.as_slice.result.now)) source
-      ∙ ap (λ (fs : List (Option Built)). done_modules (outcomes_of c.args.design.now.design.modules fs)) c.as_slice.ensures.value in
-      let netlist : titled_design c.as_slice-3.result.now ≡ all = ap (λ (ms : List Module). record { modules = ms }) made in
-      let words : c.as_slice-2.result.now ≡ c.args.words ++ counted (codes "steps") (length steps) = c.as_slice-2.ensures.value ∙ c.in_ok-put_counted.ensures.ok in
+      ∙ ap (λ (ms : List Module). done_modules (outcomes_of ms c.args.found.now)) source in
+      let netlist : titled_design c.as_slice-2.result.now ≡ all = ap (λ (ms : List Module). record { modules = ms }) made in
+      let words : c.as_slice.result.now ≡ c.args.words ++ counted (codes "steps") (length steps) = c.as_slice.ensures.value ∙ c.in_ok-put_counted.ensures.ok in
       let line : c.in_ok-text.text ≡ ok_line (c.args.words ++ counted (codes "steps") (length steps)) = c.in_ok-text.ensures.value ∙ ap ok_line words in
       c.ok_reply.ensures.value
       ∙ ap ok_reply

@@ -1,71 +1,50 @@
-use Rattle.std.proofs.Common.{◌≡◌, Result, sym, ap, subst, ◌∙◌}
-use Rattle.std.specs.Prelude.{IfOk}
-use Rattle.rtl_bits.specs.declared.memory.Memory.{Memory}
-use Rattle.reply_lines.specs.declared.reply.Reply.{Reply}
-use Rattle.reply_lines.specs.Lines.{error_reply}
-use Rattle.rtl_write.specs.Text.{text_of}
+use Rattle.build_crew.specs.Kept.{kept_by}
+use Rattle.desk_core.proofs.Ended.{ended_claims, ended_returns, ended_sound, ended_state, marked_all}
+use Rattle.desk_core.proofs.Outcomes.{outcomes_cold}
+use Rattle.desk_core.proofs.Told.{answered, claims_seen, returns_seen, ticks_seen}
 use Rattle.desk_core.specs.Answers.{print_answer, printed_reply}
-use Rattle.desk_core.specs.Builds.{KeepsAll}
-use Rattle.desk_core.specs.Netlist.{all_kept, built_words, netlist_of}
+use Rattle.desk_core.specs.Netlist.{built_count, built_words, key_texts}
+use Rattle.desk_core.specs.Netlist.{netlist_of}
 use Rattle.desk_core.specs.Results.{outcomes_of, state_of}
 use Rattle.desk_core.specs.State.{DeskView, State, answer}
-use Rattle.desk_core.proofs.Outcomes.{outcomes_cold}
-use Rattle.desk_core.proofs.Showing.{told_same}
-use Rattle.desk_core.proofs.Told.{all_are_kept, answer_over, claims_seen, keeps_all, on_err, on_ok, print_built, returns_seen, still_kept, ticks_seen}
-use Rattle.desk_core.proofs.desk.Desk.print.Goals.{in-Built, in-Over+in-Boxed-1, in-Over+in-Listed-1, in-Over+in-Inline-1}
+use Rattle.rtl_write.specs.Text.{text_of}
+use Rattle.script_core.specs.declared.built.Built.{Built}
+use Rattle.std.proofs.Common.{◌≡◌, List, Option, ap, subst, ◌∙◌}
 use Rattle.desk_core.proofs.desk.Desk.print.Goals as goal
+
+pub end-requires-clause-seats : goal.end-requires-clause-seats
+end-requires-clause-seats g c = c.tell.ensures.sound.idle
+
+pub end-requires-clause-beside : goal.end-requires-clause-beside
+end-requires-clause-beside g c =
+    marked_all (key_texts c.self.inside.present.script c.self.inside.present.design.design.modules) c.tell.new.results.ages c.in_ok-told.needed c.tell.ensures.sound.aged.beside c.in_ok-told.ensures.needed
+
+pub invariant_of-self-2 : goal.invariant_of-self-2
+invariant_of-self-2 g c =
+    ended_sound c.self.inside.present.design.design c.self.inside.present.script c.tell.new.results c.end.new.self c.in_ok-told.needed c.tell.ensures.sound c.in_ok-told.ensures.needed c.end.ensures.keys c.end.ensures.ages
+    (kept_by c.self.inside.results.seats.items) c.in_ok-told.ensures.filled c.end.ensures.seats c.end.ensures.found c.end.ensures.kept
 
 pub returns-clause-ok : goal.returns-clause-ok
 returns-clause-ok g c =
-    let design = c.self.inside.design.design in
-    let script = c.self.inside.script in
-    let s : State = state_of design script c.self.inside.results in
-    let after : State = state_of design script c.tell.new.results in
-    let state : after ≡ all_kept s = all_are_kept design script c.self.inside.results c.tell.new.results c.in_ok-words.ensures.filled in
-    let other : Reply = printed_reply (built_words s) (text_of (netlist_of s)) in
-    subst (λ (t : DeskView). IfOk c.match-branch-2.result (λ reply. answer reply after ≡ print_answer t.state)) c.self.view_is
-    (elim c.match-branch-2.branch [
-      | in-Built w ↦
-          subst (λ (r : Result Reply Memory). IfOk r (λ reply. answer reply after ≡ print_answer s)) (sym w.result-is)
-          (print_built s after w.in-Built.words (outcomes_of design.modules c.tell.new.results.found.items) w.printed.result (sym w.in-Built.is ∙ c.in_ok-words.ensures.told)
-          (outcomes_cold design script c.tell.new.results c.in_ok-words.ensures.sound c.in_ok-words.ensures.found) w.printed.ensures.value state)
-      | in-Over+in-Boxed-1 w ↦
-          subst (λ (r : Result Reply Memory). IfOk r (λ reply. answer reply after ≡ print_answer s)) (sym w.result-is)
-          (answer_over s after w.in-Over.words other w.error_reply.result (sym w.in-Over.is ∙ c.in_ok-words.ensures.told)
-          (told_same w.error_reply.result _ _ (ap error_reply w.as_slice.ensures.value) w.error_reply.ensures.value) state)
-      | in-Over+in-Listed-1 w ↦
-          subst (λ (r : Result Reply Memory). IfOk r (λ reply. answer reply after ≡ print_answer s)) (sym w.result-is)
-          (answer_over s after w.in-Over.words other w.error_reply.result (sym w.in-Over.is ∙ c.in_ok-words.ensures.told)
-          (told_same w.error_reply.result _ _ (ap error_reply w.as_slice.ensures.value) w.error_reply.ensures.value) state)
-      | in-Over+in-Inline-1 w ↦
-          subst (λ (r : Result Reply Memory). IfOk r (λ reply. answer reply after ≡ print_answer s)) (sym w.result-is)
-          (answer_over s after w.in-Over.words other w.error_reply.result (sym w.in-Over.is ∙ c.in_ok-words.ensures.told)
-          (told_same w.error_reply.result _ _ (ap error_reply w.as_slice.ensures.value) w.error_reply.ensures.value) state)
-    ])
-
-pub returns-clause-err : goal.returns-clause-err
-returns-clause-err g c =
-    on_err c.match-branch-2.result
-    (subst (λ (v : DeskView). KeepsAll v.state (state_of c.self.inside.design.design c.self.inside.script c.tell.new.results)) c.self.view_is
-    (keeps_all c.self.inside.design.design c.self.inside.script c.self.inside.results c.tell.new.results
-    (still_kept c.self.inside.design.design c.self.inside.script c.self.inside.results c.tell.new.results c.in_ok-words.ensures.filled)))
+    let s = state_of c.self.inside.present.design.design c.self.inside.present.script c.self.inside.results in
+    let same : s ≡ c.args.self.now.state = ap (λ (v : DeskView). v.state) c.self.view_is in
+    let after = state_of c.self.inside.present.design.design c.self.inside.present.script c.end.new.self in
+    let kept = ended_state c.self.inside.present.design.design c.self.inside.present.script c.tell.new.results c.end.new.self c.in_ok-told.needed c.tell.ensures.sound c.in_ok-told.ensures.needed c.end.ensures.keys c.end.ensures.ages s c.tell.ensures.state in
+    let outcomes =
+    ap (λ (fs : List (Option Built)). outcomes_of c.self.inside.present.design.design.modules fs) c.as_slice-found.ensures.value
+    ∙ outcomes_cold c.self.inside.present.design.design c.self.inside.present.script c.tell.new.results c.tell.ensures.sound c.in_ok-told.ensures.found in
+    subst (λ (t : State). answer c.in_ok-reply.reply after ≡ print_answer t) same
+    (answered s after c.in_ok-reply.reply (printed_reply (built_words s) (text_of (netlist_of s))) (c.in_ok-reply.ensures.value s c.in_ok-told.ensures.told outcomes) kept)
 
 pub returns-clause-claims : goal.returns-clause-claims
 returns-clause-claims g c =
-    on_ok c.match-branch-2.result
-    (claims_seen c.self.inside.design.design c.self.inside.script c.self.inside.results c.args.self.now c.self.view_is c.tell.new.results.seats.items c.in_ok-words.ensures.claims)
+    claims_seen c.self.inside.present.design.design c.self.inside.present.script c.self.inside.results c.args.self.now c.self.view_is c.end.new.self.seats.items
+    (ended_claims (key_texts c.self.inside.present.script c.self.inside.present.design.design.modules) c.self.inside.results.seats.items c.tell.new.results.seats.items c.end.new.self.seats.items c.in_ok-told.ensures.claims c.end.ensures.claims)
 
 pub returns-clause-ticks : goal.returns-clause-ticks
-returns-clause-ticks g c =
-    on_ok c.match-branch-2.result
-    (ticks_seen c.self.inside.design.design c.self.inside.script c.self.inside.results c.args.self.now c.self.view_is c.args.meter.now c.tell.new.meter c.in_ok-words.ensures.ticks)
-
-pub returns-in_err-words-clause-returned : goal.returns-in_err-words-clause-returned
-returns-in_err-words-clause-returned g c =
-    returns_seen c.self.inside.design.design c.self.inside.script c.self.inside.results c.args.self.now c.self.view_is c.tell.new.results.seats.items c.args.meter.now
-    c.tell.new.meter c.tell.ensures.returned
+returns-clause-ticks g c = ticks_seen c.self.inside.present.design.design c.self.inside.present.script c.self.inside.results c.args.self.now c.self.view_is c.args.meter.now c.tell.new.meter c.in_ok-told.ensures.ticks
 
 pub returns-clause-returned : goal.returns-clause-returned
 returns-clause-returned g c =
-    returns_seen c.self.inside.design.design c.self.inside.script c.self.inside.results c.args.self.now c.self.view_is c.tell.new.results.seats.items c.args.meter.now
-    c.tell.new.meter c.tell.ensures.returned
+    returns_seen c.self.inside.present.design.design c.self.inside.present.script c.self.inside.results c.args.self.now c.self.view_is c.end.new.self.seats.items c.args.meter.now c.tell.new.meter
+    (ended_returns (built_count (state_of c.self.inside.present.design.design c.self.inside.present.script c.self.inside.results)) c.self.inside.results.seats.items c.tell.new.results.seats.items c.end.new.self.seats.items c.args.meter.now c.tell.new.meter c.tell.ensures.returned c.end.ensures.given)

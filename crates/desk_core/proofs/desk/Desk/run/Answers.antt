@@ -1,45 +1,44 @@
-use Rattle.std.proofs.Common.{subst}
-use Rattle.desk_core.specs.Builds.{KeepsAll}
+use Rattle.build_crew.specs.Kept.{kept_by}
+use Rattle.desk_core.proofs.Ended.{ended_claims, ended_returns, ended_sound, ended_state, marked_all}
+use Rattle.desk_core.proofs.Told.{answered, claims_seen, returns_seen, ticks_seen}
+use Rattle.desk_core.specs.Answers.{run_answer}
+use Rattle.desk_core.specs.Netlist.{built_count, built_words, key_texts}
 use Rattle.desk_core.specs.Results.{state_of}
-use Rattle.desk_core.specs.State.{DeskView}
-use Rattle.desk_core.proofs.Told.{claims_seen, keeps_all, on_err, on_ok, returns_seen, still_kept, ticks_seen}
+use Rattle.desk_core.specs.State.{DeskView, State, answer}
+use Rattle.reply_lines.specs.Lines.{ok_line, ok_reply}
+use Rattle.std.proofs.Common.{◌≡◌, ap, subst}
 use Rattle.desk_core.proofs.desk.Desk.run.Goals as goal
 
-pub returns-in_err-ok_line-in-Built-clause-err : goal.returns-in_err-ok_line-in-Built-clause-err
-returns-in_err-ok_line-in-Built-clause-err g c =
-    on_err c.from_residual-in_err-ok_line-in-Built.result
-    (subst (λ (v : DeskView). KeepsAll v.state (state_of c.self.inside.design.design c.self.inside.script c.tell.new.results)) c.self.view_is
-    (keeps_all c.self.inside.design.design c.self.inside.script c.self.inside.results c.tell.new.results
-    (still_kept c.self.inside.design.design c.self.inside.script c.self.inside.results c.tell.new.results c.in_ok-words.ensures.filled)))
+pub end-requires-clause-seats : goal.end-requires-clause-seats
+end-requires-clause-seats g c = c.tell.ensures.sound.idle
 
-pub returns-clause-err : goal.returns-clause-err
-returns-clause-err g c =
-    on_err c.match-branch-2.result
-    (subst (λ (v : DeskView). KeepsAll v.state (state_of c.self.inside.design.design c.self.inside.script c.tell.new.results)) c.self.view_is
-    (keeps_all c.self.inside.design.design c.self.inside.script c.self.inside.results c.tell.new.results
-    (still_kept c.self.inside.design.design c.self.inside.script c.self.inside.results c.tell.new.results c.in_ok-words.ensures.filled)))
+pub end-requires-clause-beside : goal.end-requires-clause-beside
+end-requires-clause-beside g c =
+    marked_all (key_texts c.self.inside.present.script c.self.inside.present.design.design.modules) c.tell.new.results.ages c.in_ok-told.needed c.tell.ensures.sound.aged.beside c.in_ok-told.ensures.needed
+
+pub invariant_of-self-2 : goal.invariant_of-self-2
+invariant_of-self-2 g c =
+    ended_sound c.self.inside.present.design.design c.self.inside.present.script c.tell.new.results c.end.new.self c.in_ok-told.needed c.tell.ensures.sound c.in_ok-told.ensures.needed c.end.ensures.keys c.end.ensures.ages
+    (kept_by c.self.inside.results.seats.items) c.in_ok-told.ensures.filled c.end.ensures.seats c.end.ensures.found c.end.ensures.kept
+
+pub returns-clause-ok : goal.returns-clause-ok
+returns-clause-ok g c =
+    let s = state_of c.self.inside.present.design.design c.self.inside.present.script c.self.inside.results in
+    let same : s ≡ c.args.self.now.state = ap (λ (v : DeskView). v.state) c.self.view_is in
+    let after = state_of c.self.inside.present.design.design c.self.inside.present.script c.end.new.self in
+    let kept = ended_state c.self.inside.present.design.design c.self.inside.present.script c.tell.new.results c.end.new.self c.in_ok-told.needed c.tell.ensures.sound c.in_ok-told.ensures.needed c.end.ensures.keys c.end.ensures.ages s c.tell.ensures.state in
+    subst (λ (t : State). answer c.in_ok-reply.reply after ≡ run_answer t) same
+    (answered s after c.in_ok-reply.reply (ok_reply (ok_line (built_words s))) (c.in_ok-reply.ensures.value s c.in_ok-told.ensures.told) kept)
 
 pub returns-clause-claims : goal.returns-clause-claims
 returns-clause-claims g c =
-    on_ok c.match-branch-2.result
-    (claims_seen c.self.inside.design.design c.self.inside.script c.self.inside.results c.args.self.now c.self.view_is c.tell.new.results.seats.items c.in_ok-words.ensures.claims)
+    claims_seen c.self.inside.present.design.design c.self.inside.present.script c.self.inside.results c.args.self.now c.self.view_is c.end.new.self.seats.items
+    (ended_claims (key_texts c.self.inside.present.script c.self.inside.present.design.design.modules) c.self.inside.results.seats.items c.tell.new.results.seats.items c.end.new.self.seats.items c.in_ok-told.ensures.claims c.end.ensures.claims)
 
 pub returns-clause-ticks : goal.returns-clause-ticks
-returns-clause-ticks g c =
-    on_ok c.match-branch-2.result
-    (ticks_seen c.self.inside.design.design c.self.inside.script c.self.inside.results c.args.self.now c.self.view_is c.args.meter.now c.tell.new.meter c.in_ok-words.ensures.ticks)
-
-pub returns-in_err-words-clause-returned : goal.returns-in_err-words-clause-returned
-returns-in_err-words-clause-returned g c =
-    returns_seen c.self.inside.design.design c.self.inside.script c.self.inside.results c.args.self.now c.self.view_is c.tell.new.results.seats.items c.args.meter.now
-    c.tell.new.meter c.tell.ensures.returned
-
-pub returns-in_err-ok_line-in-Built-clause-returned : goal.returns-in_err-ok_line-in-Built-clause-returned
-returns-in_err-ok_line-in-Built-clause-returned g c =
-    returns_seen c.self.inside.design.design c.self.inside.script c.self.inside.results c.args.self.now c.self.view_is c.tell.new.results.seats.items c.args.meter.now
-    c.tell.new.meter c.tell.ensures.returned
+returns-clause-ticks g c = ticks_seen c.self.inside.present.design.design c.self.inside.present.script c.self.inside.results c.args.self.now c.self.view_is c.args.meter.now c.tell.new.meter c.in_ok-told.ensures.ticks
 
 pub returns-clause-returned : goal.returns-clause-returned
 returns-clause-returned g c =
-    returns_seen c.self.inside.design.design c.self.inside.script c.self.inside.results c.args.self.now c.self.view_is c.tell.new.results.seats.items c.args.meter.now
-    c.tell.new.meter c.tell.ensures.returned
+    returns_seen c.self.inside.present.design.design c.self.inside.present.script c.self.inside.results c.args.self.now c.self.view_is c.end.new.self.seats.items c.args.meter.now c.tell.new.meter
+    (ended_returns (built_count (state_of c.self.inside.present.design.design c.self.inside.present.script c.self.inside.results)) c.self.inside.results.seats.items c.tell.new.results.seats.items c.end.new.self.seats.items c.args.meter.now c.tell.new.meter c.tell.ensures.returned c.end.ensures.given)

@@ -7,6 +7,7 @@ use Rattle.rtl_ir.specs.declared.module.Module.{Module}
 use Rattle.rtl_ir.specs.Faults.Recursion.{place_named}
 use Rattle.rtl_ir.specs.Types.{module_named}
 use Rattle.sim_trace.specs.Stimulus.{stimulus_of}
+use Rattle.desk_core.specs.Ages.{texts_of}
 use Rattle.desk_core.specs.Answers.{netlist_reply}
 use Rattle.desk_core.specs.Builds.{BuildsOrReturns, HasClaims}
 use Rattle.desk_core.specs.Netlist.{netlist_answer, netlist_of}
@@ -96,7 +97,7 @@ returns-in-Ok-clause-ticks g c =
     let reads : stimulus_of m ask.steps ≡ Ok c.as_slice-in-Ok.result.now =
     ap (stimulus_of m) (sym c.as_slice-2.ensures.value) ∙ c.in-Ok.ensures.reads ∙ ap Ok (sym c.as_slice-in-Ok.ensures.value) in
     let all = asked_all s ask at m c.as_slice-in-Ok.result.now place own reads in
-    subst (λ (keys : List (List ℕ)). OnOk c.netlist_trace.result (RisesUpTo (new_count s.kept keys) c.args.meter.now c.netlist_trace.new.meter)) (sym all) c.netlist_trace.ensures.ticks
+    subst (λ (keys : List (List ℕ)). OnOk c.netlist_trace.result (RisesUpTo (new_count (texts_of s.kept) keys) c.args.meter.now c.netlist_trace.new.meter)) (sym all) c.netlist_trace.ensures.ticks
 
 pub returns-in-Ok-clause-returned : goal.returns-in-Ok-clause-returned
 returns-in-Ok-clause-returned g c =
@@ -113,7 +114,7 @@ returns-in-Ok-clause-returned g c =
     let reads : stimulus_of m ask.steps ≡ Ok c.as_slice-in-Ok.result.now =
     ap (stimulus_of m) (sym c.as_slice-2.ensures.value) ∙ c.in-Ok.ensures.reads ∙ ap Ok (sym c.as_slice-in-Ok.ensures.value) in
     let all = asked_all s ask at m c.as_slice-in-Ok.result.now place own reads in
-    subst (λ (keys : List (List ℕ)). BuildsOrReturns (new_count s.kept keys) c.args.self.now.seats c.netlist_trace.new.self.seats c.args.meter.now c.netlist_trace.new.meter) (sym all)
+    subst (λ (keys : List (List ℕ)). BuildsOrReturns (new_count (texts_of s.kept) keys) c.args.self.now.seats c.netlist_trace.new.self.seats c.args.meter.now c.netlist_trace.new.meter) (sym all)
     c.netlist_trace.ensures.returned
 
 pub returns-in-Err-Bad-clause-claims : goal.returns-in-Err-Bad-clause-claims

@@ -56,11 +56,12 @@ invariant_of-seat g c =
     let a = claimed D g.V.Keyed.stands_for k at key inside.number c.in-Ok.claim _ me me' entered c.seat.invariant.number_is at_is no_ticket s s.4.0 s.4.1 in
     let views_are : c.give.result.views ≡ view_of (after_call D k at key a.act a.one.z ∷ []) ∷ [] = c.give.ensures.given ∙ ap (λ u. u ∷ []) (left D k at key a.act me' a.one) in
     let table_is : c.give.result.table_id ≡ inside.badge.table_id = c.give.ensures.cache ∙ c.in-Ok.ensures.cache ∙ c.enter-pass.ensures.cache ∙ ap (λ b. b.table_id) replaced in
-    seat_made D inside.badge.table_id c.give.result.table_id k at key a.act a.one.z inside.number inside.claims inside.fills inside.give_backs c.saturating_add-seat-inside.result inside.fills inside.give_backs old c.give.result.views
+    seat_made D inside.badge.table_id c.give.result.table_id k at key a.act a.one.z inside.number inside.claims inside.fills inside.give_backs inside.drops c.saturating_add-seat-inside.result inside.fills inside.give_backs inside.drops old c.give.result.views
     c.seat.invariant refl table_is views_are
     (c.saturating_add-seat-inside.ensures ∙ ap (λ m. capped (inside.claims + m)) (sym a.a_claim))
     (let e = a.no_fill in let f = c.seat.invariant.fills_are in omega arith)
     (let e = a.no_return in let f = c.seat.invariant.give_backs_are in omega arith)
+    (let e = a.no_drop in let f = c.seat.invariant.drops_are in omega arith)
 
 pub returns-in-Ok-clause-ok : goal.returns-in-Ok-clause-ok
 returns-in-Ok-clause-ok g c =

@@ -64,11 +64,12 @@ invariant_of-seat g c =
     let below : k.number < k.callers = let e = c.seat.invariant.number_is in let b = c.seat.invariant.below in omega arith in
     let views_are : c.give.result.views ≡ view_of (after_call D k at key act o.z ∷ []) ∷ [] = c.give.ensures.given ∙ ap (λ u. u ∷ []) (left D k at key act me' o) in
     let table_is : c.give.result.table_id ≡ inside.badge.table_id = c.give.ensures.cache ∙ c.give_back_under.ensures.cache ∙ c.enter-pass.ensures.cache ∙ ap (λ b. b.table_id) replaced in
-    seat_made D inside.badge.table_id c.give.result.table_id k at key act o.z inside.number inside.claims inside.fills inside.give_backs inside.claims inside.fills c.saturating_add-seat-inside.result old c.give.result.views
+    seat_made D inside.badge.table_id c.give.result.table_id k at key act o.z inside.number inside.claims inside.fills inside.give_backs inside.drops inside.claims inside.fills c.saturating_add-seat-inside.result inside.drops old c.give.result.views
     c.seat.invariant refl table_is views_are
     (let f = c.seat.invariant.claims_are in omega arith)
     (let f = c.seat.invariant.fills_are in omega arith)
     c.saturating_add-seat-inside.ensures
+    (let f = c.seat.invariant.drops_are in omega arith)
 
 pub returns : goal.returns
 returns g c =

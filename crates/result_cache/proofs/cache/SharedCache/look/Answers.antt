@@ -1,8 +1,8 @@
 use Rattle.std.proofs.Common.{◌≡◌, ℕ, ◌<◌, [], ◌∷◌, refl, sym, ap, ◌∙◌, subst, arith}
 use Rattle.result_cache.specs.History.{state_after, held}
 use Rattle.result_cache.specs.Shared.{Entered, seat_of, seat_after, view_of}
-use Rattle.result_cache.specs.Seats.{Seated, seat_at, first_view, seated_of, HasWaited}
-use Rattle.result_cache.proofs.Turns.{holds_some, may_give_seen, left_seen, agrees_seen, may_give_up, seat_looked, waited, in_place}
+use Rattle.result_cache.specs.Seats.{Seated, seat_at, first_view, seated_of, HasWaited, NoOtherHolds}
+use Rattle.result_cache.proofs.Turns.{holds_some, may_give_seen, left_seen, agrees_seen, may_give_up, seat_looked, looked, in_place}
 use Rattle.result_cache.proofs.cache.SharedCache.look.Goals as goal
 
 pub is_free_for-free-requires-clause-shard : goal.is_free_for-free-requires-clause-shard
@@ -64,7 +64,7 @@ invariant_of-seat g c =
     let s = c.is_free_for-free.ensures.swaps in
     let views_are : c.give.result.views ≡ view_of (seat_after k at [] s.0.history ∷ []) ∷ [] = c.give.ensures.given ∙ ap (λ u. u ∷ []) (left_seen D k at _ me me' entered s s.4.0) in
     let table_is : c.give.result.table_id ≡ inside.badge.table_id = c.give.ensures.cache ∙ c.is_free_for-free.ensures.cache ∙ c.enter-pass.ensures.cache ∙ ap (λ b. b.table_id) replaced in
-    seat_looked inside.badge.table_id c.give.result.table_id k at s.0.history inside.number inside.claims inside.fills inside.give_backs old c.give.result.views c.seat.invariant refl table_is views_are
+    seat_looked inside.badge.table_id c.give.result.table_id k at s.0.history inside.number inside.claims inside.fills inside.give_backs inside.drops old c.give.result.views c.seat.invariant refl table_is views_are
 
 pub returns-then-free : goal.returns-then-free
 returns-then-free g c =
@@ -85,4 +85,4 @@ returns-then-free g c =
     let at_is = in_place inside.badge.table_id c.args.self.now.table.shared.table_id k key at c.args.self.now.shards c.seat.invariant.shards_are same c.args.self.now.slots c.requires.place in
     let now_is : seat_at inside.badge.table_id (seat_after k at [] s.0.history) ≡ seated_of c.give.result.table_id c.give.result.views = λ j. seated_of (sym table_is j) (sym views_are j) in
     let free : (by : ℕ) → state_after s.0.history key ≡ held by → by ≡ k.number = λ by e. s.4.1 c.if-free.true by e ∙ sym c.seat.invariant.number_is in
-    record { looked = subst (λ (x : Seated × Seated). HasWaited x.0 x.1 key) (λ j. (c.seat.view_is j, now_is j)) (waited inside.badge.table_id k at key s.0.history (agrees_seen D k at _ me me' entered s) at_is free) }
+    record { looked = subst (λ (x : Seated × Seated). HasWaited x.0 x.1 key) (λ j. (c.seat.view_is j, now_is j)) (looked inside.badge.table_id k at key (NoOtherHolds k.number) s.0.history (agrees_seen D k at _ me me' entered s) at_is free) }

@@ -11,15 +11,15 @@ unreachable-requires g c = held_known c.self.invariant c.self.view_is c.requires
 pub push_reserved-requires : goal.push_reserved-requires
 push_reserved-requires g c =
     let at = held_found c.self.invariant c.self.view_is c.requires.held (found_at c.in-Some.ensures.within c.in-Some.ensures.text c.as_slice.ensures.value) in
-    let some = at.some_out in let r = c.self.invariant.reserved in let n = c.self.inside.entries.ok.0 in omega arith
+    let some = at.some_owed in let r = c.self.invariant.reserved in let n = c.self.inside.entries.ok.0 in omega arith
 
 pub overflow_sub-self : goal.overflow_sub-self
-overflow_sub-self g c = (held_found c.self.invariant c.self.view_is c.requires.held (found_at c.in-Some.ensures.within c.in-Some.ensures.text c.as_slice.ensures.value)).some_out
+overflow_sub-self g c = (held_found c.self.invariant c.self.view_is c.requires.held (found_at c.in-Some.ensures.within c.in-Some.ensures.text c.as_slice.ensures.value)).some_owed
 
 pub invariant_of-self : goal.invariant_of-self
 invariant_of-self g c =
     let at = held_found c.self.invariant c.self.view_is c.requires.held (found_at c.in-Some.ensures.within c.in-Some.ensures.text c.as_slice.ensures.value) in
-    rw (c.push_reserved.ensures.items) (sound_spent GiveBack Free (vec_capacity c.push_reserved.new.self) c.self.invariant at refl refl tt refl refl c.push_reserved.ensures.capacity)
+    rw (c.push_reserved.ensures.items) (sound_spent c.args.seat GiveBack Free 2 (vec_capacity c.push_reserved.new.self) c.self.invariant at refl refl tt refl refl (omega arith) c.push_reserved.ensures.capacity)
 
 pub returns-clause-history : goal.returns-clause-history
 returns-clause-history g c =

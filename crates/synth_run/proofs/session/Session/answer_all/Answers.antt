@@ -145,3 +145,6 @@ returns-in-Err-clause-taken g c =
     took_kept c.args.self c.loop-count.self (g.S.Source.left c.args.source.now) (g.S.Source.left c.loop-count.source) (g.S.Source.left c.read_next-next.new.source) (g.K.Sink.held c.args.sink.now) (g.K.Sink.held c.loop-count.sink) c.loop-count.taken c.args.meter.now c.loop-count.meter
     c.loop-count.invariant.stands
     c.in-Err.ensures.lost
+
+pub returns-in-Err-take_bytes-clause-sink_count : goal.returns-in-Err-take_bytes-clause-sink_count
+returns-in-Err-take_bytes-clause-sink_count g c = λ other. c.in-Err-take_bytes.ensures.same other ∙ c.loop-count.invariant.sink
