@@ -9,9 +9,11 @@ Each time is the difference of two sessions, the second of which has the command
 second `run` takes 1 % of the first one's time or more, or an edit with its `run` 3 % or more."""
 import argparse
 import os
+import re
 import subprocess
 import sys
 import tempfile
+import time
 
 TOP = os.path.dirname(os.path.dirname(os.path.abspath(__file__)))
 PROGRAM = f'{TOP}/crates/rtlsyn/out/rtlsyn'
@@ -51,22 +53,33 @@ def ever_new(count):
                    for number in range(1, count + 1))
 
 
+def peak(child):
+    """The greatest memory in MB of a running child so far, 0 where it has none any more."""
+    with open(f'/proc/{child}/status') as status:
+        found = re.search(r'VmHWM:\s*(\d+) kB', status.read())
+    return int(found[1]) / 1024 if found else 0
+
+
 def measured(program, session):
     """The user time in seconds and the greatest memory in MB of the program over a session, and the last line of its replies."""
     with tempfile.TemporaryFile() as lines, tempfile.TemporaryFile() as replies:
         lines.write(session.encode())
         lines.seek(0)
         child = subprocess.Popen([program, '--session'], stdin=lines, stdout=replies)
-        _, status, usage = os.wait4(child.pid, 0)
+        memory, ended = 0, 0
+        # Not by what it used in all: that counts what this script held when it started the program.
+        while not ended:
+            memory = max(memory, peak(child.pid))
+            time.sleep(0.002)
+            ended, status, usage = os.wait4(child.pid, os.WNOHANG)
         if status:
             sys.exit(f'session: {program} ended with status {os.waitstatus_to_exitcode(status)}')
         replies.seek(0)
-        # line by line: what this script holds when it starts the next program counts as that one's memory
         told = ''
         for line in replies:
             if line.startswith((b'ok', b'error')):
                 told = line.decode().rstrip()
-    return usage.ru_utime, usage.ru_maxrss / 1024, told
+    return usage.ru_utime, memory, told
 
 
 def main():
@@ -92,13 +105,13 @@ def main():
         ('print', cold + 'print\n' * REPEATS, None),
     ]
     for name, session, goal in rows:
-        time, _, told = measured(given.program, session)
-        share = 100 * max(time - whole, 0) / REPEATS / first
+        used, _, told = measured(given.program, session)
+        share = 100 * max(used - whole, 0) / REPEATS / first
         good = good and (goal is None or share < goal)
         print(f'{name}: {share:.2f} % of the first run' + (f', goal under {goal} %' if goal else '') + f': {told}')
 
-    time, memory, told = measured(given.program, cold + edits(given.modules, [k % 2 + 2 for k in range(1000)]))
-    print(f'1,000 edits back and forth: {1000 * (time - whole) / 1000:.2f} ms each, {memory:.0f} MB at most: {told}')
+    used, memory, told = measured(given.program, cold + edits(given.modules, [k % 2 + 2 for k in range(1000)]))
+    print(f'1,000 edits back and forth: {1000 * (used - whole) / 1000:.2f} ms each, {memory:.0f} MB at most: {told}')
 
     alone = block('load', [0], 1) + 'run\n'
     _, before, _ = measured(given.program, alone)
