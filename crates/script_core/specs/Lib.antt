@@ -1,4 +1,5 @@
 pub mod Words
+pub mod Reached
 pub mod Keys
 pub mod Fold
 pub mod Built
