@@ -11,6 +11,5 @@ pub mod Memories
 pub mod Updates
 pub mod Processes
 pub mod WellDriven
-pub mod Once
 pub mod Accepted
 pub mod Readable

@@ -18,4 +18,3 @@ pub mod CrewBuilds
 pub mod Traces
 pub mod Shaped
 pub mod Present
-pub mod Solo

@@ -10,3 +10,4 @@ pub mod Trees
 pub mod Recodes
 pub mod Machines
 pub mod Short
+pub mod Inside

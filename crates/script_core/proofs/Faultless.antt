@@ -50,7 +50,7 @@ use Rattle.check_laws.specs.Sound.{IsSoundModule}
 use Rattle.check_laws.proofs.Counting.{none_parts, none_each}
 use Rattle.check_laws.proofs.Named.{ordered_lines, lines_distinct, ports_distinct, port_found}
 use Rattle.check_laws.proofs.Readable.{sound}
-use Rattle.script_core.specs.Reached.{table_of}
+use Rattle.script_core.specs.Cold.{table_of}
 use Rattle.script_core.proofs.Tables.{same_name, table_instance, instantiated}
 use Rattle.rtl_check.proofs.Testing.{bad_same}
 

@@ -2,7 +2,6 @@ pub mod ScriptLemmas
 pub mod ParseLemmas
 pub mod KeyLemmas
 pub mod FoldLemmas
-pub mod EachProc
 pub mod Tables
 pub mod Faultless
 pub mod BuildLemmas
@@ -13,6 +12,3 @@ pub mod Stepping
 pub mod Renaming
 pub mod Gating
 pub mod Refining
-pub mod BelowReadable
-pub mod Flattening
-pub mod BelowTexts

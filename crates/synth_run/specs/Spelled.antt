@@ -13,7 +13,6 @@ given_as given = record {
   script = option_map (λ value. value.now) given.script;
   workers = option_map (λ value. value.now) given.workers;
   generate = option_map (λ value. value.now) given.generate;
-  desks = option_map (λ value. value.now) given.desks;
 }
 
 abbrev pub form_as : Form → options.Form

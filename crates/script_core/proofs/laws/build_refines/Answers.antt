@@ -1,9 +1,5 @@
-use Rattle.script_core.proofs.Flattening.{value_refines_below}
 use Rattle.script_core.proofs.Refining.{value_refines}
 use Rattle.script_core.proofs.laws.build_refines.Goals as goal
 
 pub returns : goal.returns
-returns c = record {
-  ports = λ d at before after script readable none here stage plain value name. value_refines d readable at before here script none stage plain after value name;
-  below = λ d at before after script readable none here stage flat value name. value_refines_below d readable none at before after script here stage flat value name;
-}
+returns c = λ d at before after script readable none here stage value name. value_refines d readable at before here script none stage after value name

@@ -11,16 +11,13 @@ returns c =
     let script_is : rule_of c.long-script.result ≡ value_rule (codes "script") = search rules in
     let workers_is : rule_of c.long-workers.result ≡ value_rule (codes "workers") = search rules in
     let generate_is : rule_of c.long-generate.result ≡ value_rule (codes "gen") = search rules in
-    let desks_is : rule_of c.long-desks.result ≡ value_rule (codes "desks") = search rules in
     let bare_is : app_of c.disable_help_flag.result ≡ bare_app =
     ap app_of_fields c.disable_help_flag.ensures
     ∙ ap (on_top (λ s. record s { disable_help_flag = true }))
-    (ap app_of_fields c.no_binary_name.ensures ∙ ap (on_top (λ s. record s { no_binary_name = true })) c.new-6.ensures.app) in
+    (ap app_of_fields c.no_binary_name.ensures ∙ ap (on_top (λ s. record s { no_binary_name = true })) c.new-5.ensures.app) in
     record {
-      app = IfOk-weaker c.arg-5.result _ _
+      app = IfOk-weaker c.arg-4.result _ _
           (λ command added. added.shape (search rules)
-          ∙ ap₂ with_rule
-          (c.in_ok-arg-4.ensures.shape (search rules)
           ∙ ap₂ with_rule
           (c.in_ok-arg-3.ensures.shape (search rules)
           ∙ ap₂ with_rule
@@ -28,6 +25,5 @@ returns c =
           ∙ ap₂ with_rule (c.in_ok-arg.ensures.shape (search rules) ∙ ap₂ with_rule bare_is session_is) script_is)
           workers_is)
           generate_is)
-          desks_is)
-          c.arg-5.ensures;
+          c.arg-4.ensures;
     }
