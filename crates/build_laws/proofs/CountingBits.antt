@@ -2,7 +2,7 @@
 use Rattle.std.proofs.Common.{◌≡◌, ◌≤◌, ◌<◌, ℕ, zero, suc, ◌+◌, Bool, true, false, cond, if◌then◌else◌, List, [], ◌∷◌, ◌++◌, length, inl, inr, ⊎_elim, refl, sym, ◌∙◌, ap, arith, append_assoc}
 use Rattle.std.specs.Prelude.{◌==◌, ◌&&◌, count_by, flat_map, map, nat_lt}
 use Rattle.std.specs.List.{fold, range_with_len}
-use Rattle.std.proofs.lemmas.Bool.{and_parts, eqb-false, eqb-true, le-ltb, ltb-false}
+use Rattle.std.proofs.lemmas.Bool.{and_parts, cases_lt, eqb-false, eqb-true, le-ltb, ltb-false}
 use Rattle.rtl_sig.specs.declared.sig.SigBit.{SigBit}
 use Rattle.rtl_sig.specs.declared.sig.SigBit.TheVariants.{Fixed, Wire as OnWire}
 use Rattle.rtl_sig.specs.declared.sig.WireBit.{WireBit}
@@ -261,3 +261,7 @@ module _ (id : List ℕ) (es : List Drive) where
         let first = less_first 0 ws (omega (arith, e)) none in
         let last = none_from n (0 + length ws) fs (omega (arith, e)) few in
         faults_split 0 ws fs ∙ (λ i. first i ++ last i)
+
+-- where no bit has two drivers, none has after drives that drive bits of the old wires no more often, and other bits once at most
+pub once_more : (n : ℕ) (ds es : List Drive) → ((b : WireBit) → b.wire < n → drive_count es b ≤ drive_count ds b) → ((b : WireBit) → n ≤ b.wire → drive_count es b ≤ 1) → ((b : WireBit) → drive_count ds b ≤ 1) → (b : WireBit) → drive_count es b ≤ 1
+once_more n ds es old new once b = ⊎_elim (λ l. omega (arith, old b l, once b)) (λ r. new b r) (cases_lt b.wire n)

@@ -1,9 +1,9 @@
 -- What no bit with two drivers says of the list of drivers.
-use Rattle.std.proofs.Common.{◌≡◌, ℕ, zero, suc, ◌+◌, ◌<◌, ◌≤◌, Bool, true, false, cond, List, [], ◌∷◌, ◌++◌, Some, inl, inr, refl, sym, ◌∙◌, ap, subst, arith}
-use Rattle.std.specs.Prelude.{map, slice_get, flat_map, if◌then◌else◌}
+use Rattle.std.proofs.Common.{◌≡◌, ℕ, zero, suc, ◌+◌, ◌<◌, ◌≤◌, Bool, true, false, cond, List, [], ◌∷◌, ◌++◌, Some, ◌⊎◌, inl, inr, refl, sym, ◌∙◌, ap, subst, arith}
+use Rattle.std.specs.Prelude.{◌==◌, map, slice_get, flat_map, if◌then◌else◌}
 use Rattle.std.specs.List.{range_with_len}
 use Rattle.std.proofs.lemmas.List.Sums.{sum_by-cons, sum_by-append}
-use Rattle.std.proofs.lemmas.Bool.{and_from, ltb-false}
+use Rattle.std.proofs.lemmas.Bool.{and_from, and_parts, ltb-false}
 use Rattle.std.proofs.lemmas.Bool.Decides.{Decides-eqb}
 use Rattle.rtl_sig.specs.declared.sig.WireBit.{WireBit}
 use Rattle.rtl_ir.specs.declared.wire.Wire.{Wire}
@@ -85,6 +85,21 @@ counted_in (d ∷ ds) b (inr i) =
     let c = count_more d ds b in
     let h = counted_in ds b i in
     omega (arith, c, h)
+
+-- a bit is counted, and stands there, or neither
+pub counted_or : (ds : List Drive) (b : WireBit) → (drive_count ds b ≡ 0) ⊎ In b (driven ds)
+counted_or [] b = inl refl
+counted_or (d ∷ ds) b = by (same_bit d.bit b) refl (counted_or ds b)
+  where
+    by : (t : Bool) → same_bit d.bit b ≡ t → (drive_count ds b ≡ 0) ⊎ In b (driven ds) → (drive_count (d ∷ ds) b ≡ 0) ⊎ In b (driven (d ∷ ds))
+    by true e h =
+        let k = and_parts (d.bit.wire == b.wire) (d.bit.at == b.at) e in
+        let wire : d.bit.wire ≡ b.wire = (Decides-eqb d.bit.wire b.wire).0 k.0 in
+        let at : d.bit.at ≡ b.at = (Decides-eqb d.bit.at b.at).0 k.1 in
+        inr (inl (λ i. record { wire = sym wire i; at = sym at i }))
+    by false e (inl h) =
+        let none : hit b d ≡ 0 = ap (λ t. cond t 1 0) e in inl (omega (arith, count_more d ds b, none, h))
+    by false e (inr h) = inr (inr h)
 
 counted_once : (ds : List Drive) → ((b : WireBit) → In b (driven ds) → drive_count ds b ≤ 1) → Distinct (driven ds)
 counted_once [] h = tt

@@ -11,5 +11,6 @@ pub mod Memories
 pub mod Updates
 pub mod Processes
 pub mod WellDriven
+pub mod Once
 pub mod Accepted
 pub mod Readable

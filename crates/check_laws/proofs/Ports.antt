@@ -53,7 +53,7 @@ role_once p (n ∷ ns) u =
       both = λ q i j.
           let k = role_is Input p ns q j in
           let f = named n.role q i in
-          let both : OfWire n.name f.at ≡ OfWire k.0.name k.3.0 = sym (ap (λ (z : Place). z.spot) f.is) ∙ k.3.1 in
+          let both : OfWire n.name f.at ≡ OfWire k.0.name k.3.0 = sym (ap (λ (z : Place). z.spot) f.is) ∙ k.3.2 in
           let same : n.name ≡ k.0.name = cc in
           apart_at n.name (map (λ (z : PortLine). z.name) ns) u.0 k.0.name (In-map (λ (z : PortLine). z.name) k.0 ns k.1) same;
     }))

@@ -51,7 +51,7 @@ pins_have wires type (pin ∷ pins) h b i =
     (λ r. pins_have wires type pins (λ z j. h z (inr j)) b r)
     (In-cases b (if drives_pin type pin.name then wire_bits pin.sig else []) (pins_bits type pins) i)
 
-cells_have : (wires : List Wire) (ports : Ports) (cs : List Cell) → ((c : Cell) → In c cs → (pin : Pin) → In pin c.pins → Each (HasBit wires) (wire_bits pin.sig)) → Each (HasBit wires) (cells_bits ports cs)
+pub cells_have : (wires : List Wire) (ports : Ports) (cs : List Cell) → ((c : Cell) → In c cs → (pin : Pin) → In pin c.pins → Each (HasBit wires) (wire_bits pin.sig)) → Each (HasBit wires) (cells_bits ports cs)
 cells_have wires ports [] h b i = absurd i
 cells_have wires ports (c ∷ cs) h b i =
     ⊎_elim

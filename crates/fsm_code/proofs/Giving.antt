@@ -1,6 +1,6 @@
 -- What is promised of a module in which a machine has its code.
-use Rattle.std.proofs.Common.{◌≡◌, ◌≤◌, ℕ, List, [], Option, Some, None, Result, Ok, Err, refl, sym, ◌∙◌, ap, subst}
-use Rattle.std.specs.Prelude.{IfOk, OnOk, slice_get, unwrap_or}
+use Rattle.std.proofs.Common.{◌≡◌, ◌≤◌, ℕ, List, Option, Some, None, Result, Ok, Err, refl, sym, ◌∙◌, ap, subst}
+use Rattle.std.specs.Prelude.{IfOk, OnOk, slice_get}
 use Rattle.std.specs.Option.{option_map_or}
 use Rattle.rtl_sig.specs.declared.sig.SigBit.{SigBit}
 use Rattle.rtl_ir.specs.Build.{building_of}
@@ -23,8 +23,7 @@ use Rattle.fsm_laws.proofs.Formed.{inner}
 use Rattle.fsm_laws.proofs.InTurn.{IsFormed, one_formed}
 use Rattle.fsm_laws.proofs.NumbersTaken.{taken}
 use Rattle.fsm_laws.specs.Short.{IsShort}
-use Rattle.fsm_laws.proofs.MachinesRefined.{one_inside, recoded_refines}
-use Rattle.fsm_laws.specs.Inside.{DrivesInside}
+use Rattle.fsm_laws.proofs.MachinesRefined.{recoded_refines}
 use Rattle.fsm_code.specs.Limits.{recoding, widened}
 use Rattle.fsm_code.specs.Machines.{IsMachineOf}
 
@@ -54,8 +53,7 @@ pub record Gives (table : PortTable) (m : Module) (machine : Machine) (n : Modul
   pub ports : ports_of n.wires ≡ ports_of m.wires
   pub memories : n.memories ≡ m.memories
   pub formed : IsMachineOf table m machine → IsFormed (table_ports table.modules) m n
-  pub refines : IsMachineOf table m machine → DrivesInside (table_ports table.modules) m → RefinesIn m n table
-  pub inside : IsMachineOf table m machine → DrivesInside (table_ports table.modules) m → DrivesInside (table_ports table.modules) n
+  pub refines : IsMachineOf table m machine → RefinesIn m n table
 
 module _ (table : PortTable) (m : Module) (machine : Machine) where
   abbrev ports_in : Ports
@@ -67,8 +65,7 @@ module _ (table : PortTable) (m : Module) (machine : Machine) where
     ports = stays (λ n. ports_of n.wires ≡ ports_of m.wires) m machine refl (λ state. ports_more m.wires (fresh_wires m machine) (inner m machine));
     memories = stays (λ n. n.memories ≡ m.memories) m machine refl (λ state. refl);
     formed = λ of. one_formed ports_in m of.at machine of.ready of.is (short_within m machine (subst IsInLimits (recoding_is ports_in m of.at machine of.is) fits));
-    refines = λ of inside. recoded_refines table m of.ready inside of.at machine of.is;
-    inside = λ of inside. one_inside ports_in (λ name. unwrap_or (ports_in name) []) (λ name lines e. ap (λ o. unwrap_or o []) e) m of.at machine of.ready of.is inside;
+    refines = λ of. recoded_refines table m of.ready of.at machine of.is;
   }
 
   -- of what is answered

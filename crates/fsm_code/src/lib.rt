@@ -20,7 +20,6 @@ ghost use Rattle.net_index.specs.Builder.{IsInLimits, PassesLimit};
 ghost use Rattle.net_model.specs.Fsm.Code.{recoded, recoded_of};
 ghost use Rattle.net_model.specs.Refine.{IsWellDriven, RefinesIn};
 ghost use Rattle.pass_laws.specs.Ready.{IsReady};
-ghost use Rattle.fsm_laws.specs.Inside.{DrivesInside};
 ghost use Rattle.fsm_code.specs.Limits.{recoding, widened};
 ghost use Rattle.fsm_code.specs.Machines.{IsMachineOf};
 
@@ -40,8 +39,8 @@ use std::alloc::Global;
 /// of wires or on fresh names. After an error the module is given up. In the Yosys manual, the command `fsm_recode`,
 /// with `fsm_map`.
 ///
-/// Where a pass may be given the module, the machine is the one that is found for a wire of it, and no bit past the
-/// end of a wire is driven, no known output bit is lost. The answer may be given to the next pass.
+/// Where a pass may be given the module, and the machine is the one that is found for a wire of it, no known output bit
+/// is lost. The answer may be given to the next pass.
 pub fn recode(
     alloc: Global,
     module: Module,
@@ -51,14 +50,11 @@ pub fn recode(
     ensures exact { IfOk result (λ after. after ≡ recoded_of «module» machine.now) }
     ensures over { result ≡ Err PassFault.Over → PassesLimit (recoding «module» machine.now) }
     ensures within { OnOk result (IsInLimits (recoding «module» machine.now)) }
-    ensures refines { IfOk result (λ after. IsMachineOf ports.now «module» machine.now →
-        DrivesInside (table_ports ports.now.modules) «module» → RefinesIn «module» after ports.now) }
+    ensures refines { IfOk result (λ after. IsMachineOf ports.now «module» machine.now → RefinesIn «module» after ports.now) }
     ensures well_driven { IfOk result (λ after. (over : Ports) → IsMachineOf ports.now «module» machine.now →
         IsWellDriven over «module» → IsWellDriven over after) }
     ensures well_formed { IfOk result (λ after. IsMachineOf ports.now «module» machine.now →
         IsReady (table_ports ports.now.modules) after) }
-    ensures inside { IfOk result (λ after. IsMachineOf ports.now «module» machine.now →
-        DrivesInside (table_ports ports.now.modules) «module» → DrivesInside (table_ports ports.now.modules) after) }
     ensures same_id { IfOk result (λ after. after.id ≡ «module».id) }
     ensures same_ports { IfOk result (λ after. ports_of after.wires ≡ ports_of «module».wires) }
     ensures same_instances { IfOk result (λ after. IsMachineOf ports.now «module» machine.now →

@@ -23,7 +23,6 @@ use Rattle.fsm_laws.proofs.MemoriesFound.{memories_free}
 use Rattle.fsm_laws.proofs.OtherFound.{other_part}
 use Rattle.fsm_laws.proofs.PortsFound.{ports_found}
 use Rattle.fsm_laws.proofs.Setting.{IsAsked, IsPart, fresh}
-use Rattle.fsm_laws.specs.Inside.{DrivesInside}
 
 -- what stands in a list stands at a place
 place_of : (cells : List Cell) (c : Cell) → In c cells → (k : ℕ) × (slice_get cells k ≡ Some c)
@@ -32,7 +31,7 @@ place_of (d ∷ cells) c (inl e) = (0, ap Some (sym e))
 place_of (d ∷ cells) c (inr i) = let later = place_of cells c i in (suc later.0, later.1)
 
 -- no bit has two drivers over ports that agree with those that the module was checked with
-module _ (ports : Ports) (m : Module) (at : ℕ) (machine : Machine) (found : IsFoundMachine ports m at machine) (ready : IsReady ports m) (over : flat.Ports) (driven : IsWellDriven over m) (agree : (name : List ℕ) (lines : List PortLine) → ports name ≡ Some lines → over name ≡ lines) (inside : DrivesInside ports m) where
+module _ (ports : Ports) (m : Module) (at : ℕ) (machine : Machine) (found : IsFoundMachine ports m at machine) (ready : IsReady ports m) (over : flat.Ports) (driven : IsWellDriven over m) (agree : (name : List ℕ) (lines : List PortLine) → ports name ≡ Some lines → over name ≡ lines) where
   flop_there : slice_get m.cells machine.flop ≡ Some found.flop
   flop_there = ap (λ (z : Machine). slice_get m.cells z.flop) found.made ∙ found.flop_there
 
@@ -55,7 +54,7 @@ module _ (ports : Ports) (m : Module) (at : ℕ) (machine : Machine) (found : Is
     inner = inner_found ports m at machine found ready;
     stop = stop_found ports m at machine found ready over driven;
     links = links_found ports m at machine found ready over driven;
-    ports = ports_found ports m at machine found ready over driven inside;
+    ports = ports_found ports m at machine found ready over driven;
     children = sym (same_instances ports m at machine ready found);
     parts = λ c i. let k = place_of m.cells c i in part_found k.0 c k.1;
     flop = found.flop;

@@ -58,7 +58,5 @@ pub mod CompareFound
 pub mod OtherFound
 pub mod PortsFound
 pub mod MemoriesFound
-pub mod StillInside
-pub mod Insides
 pub mod Asking
 pub mod MachinesRefined

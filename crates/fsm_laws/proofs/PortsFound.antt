@@ -1,17 +1,13 @@
 -- No bit of a port carries anything of the state.
-use Rattle.std.proofs.Common.{◌≡◌, ◌<◌, ◌≤◌, ℕ, zero, suc, ◌+◌, Bool, true, false, cond, List, [], ◌∷◌, ◌++◌, length, map, filter, Option, Some, None, inl, inr, ⊎_elim, refl, sym, ◌∙◌, ap, subst, arith}
+use Rattle.std.proofs.Common.{◌≡◌, ◌<◌, ℕ, zero, suc, ◌+◌, Bool, true, false, cond, List, [], ◌∷◌, ◌++◌, length, map, filter, Option, Some, None, inl, inr, refl, sym, ◌∙◌, ap, subst, arith}
 use Rattle.std.specs.Prelude.{ℤ, int_lt, pos, ◌&&◌, ◌||◌, not, option_and_then, slice_get}
 use Rattle.std.specs.List.{list_any, range_with_len}
-use Rattle.std.specs.Option.{option_map_or}
 use Rattle.std.specs.Ordering.{int_eq}
-use Rattle.std.proofs.lemmas.Bool.{and_parts, cases_lt, or_parts}
+use Rattle.std.proofs.lemmas.Bool.{and_parts, or_parts}
 use Rattle.rtl_sig.specs.declared.sig.SigBit.{SigBit}
 use Rattle.rtl_sig.specs.declared.sig.SigBit.TheVariants.{Wire as OnWire}
 use Rattle.rtl_sig.specs.declared.sig.WireBit.{WireBit}
-use Rattle.cell_types.specs.declared.pin_name.PinName.{PinName}
 use Rattle.cell_types.specs.declared.pin_name.PinName.TheVariants.{Q, Y}
-use Rattle.cell_types.specs.PinName.{pin_text}
-use Rattle.rtl_ir.specs.Drivers.{Drive, drive_count, drives_of, link_drives}
 use Rattle.rtl_ir.specs.Fault.{BadPort, fault_if, spot}
 use Rattle.rtl_ir.specs.Faults.Wires.{is_bad_port, is_inout, wire_faults, with_number}
 use Rattle.rtl_ir.specs.Flat.Cell as flat
@@ -21,12 +17,10 @@ use Rattle.rtl_ir.specs.Flat.Place.{OfWire, Place}
 use Rattle.rtl_ir.specs.Flat.Point.{bit_place, name_or_empty}
 use Rattle.rtl_ir.specs.Flat.Rows.{rows_of}
 use Rattle.rtl_ir.specs.Follow.{all_joins, back, follow, source_at}
-use Rattle.rtl_ir.specs.declared.follow.Join.{Join}
-use Rattle.rtl_ir.specs.Outputs.{is_output, output_pin}
-use Rattle.rtl_ir.specs.Parameters.{signal_at}
+use Rattle.rtl_ir.specs.Outputs.{is_output}
 use Rattle.rtl_ir.specs.Ports.{in_number_order, is_port, line_of, ports_of}
 use Rattle.rtl_ir.specs.Signals.{bits_of_wire, has_bit, same_bit, wire_bits, same_signal}
-use Rattle.rtl_ir.specs.Types.{Ports, cell_type}
+use Rattle.rtl_ir.specs.Types.{Ports}
 use Rattle.rtl_ir.specs.declared.cell.Cell.{Cell}
 use Rattle.rtl_ir.specs.declared.machine.Machine.{Machine}
 use Rattle.rtl_ir.specs.declared.module.Module.{Module}
@@ -34,20 +28,15 @@ use Rattle.rtl_ir.specs.declared.ports.PortLine.{PortLine}
 use Rattle.rtl_ir.specs.declared.wire.Role.{Role}
 use Rattle.rtl_ir.specs.declared.wire.Role.TheVariants.{Inner, Input, Output, Inout}
 use Rattle.rtl_ir.specs.declared.wire.Wire.{Wire}
-use Rattle.net_model.proofs.Members.{In-left, In-map, In-mapped, In-right}
+use Rattle.net_model.proofs.Members.{In-mapped}
 use Rattle.net_model.specs.Fsm.Code as code
 use Rattle.net_model.specs.Fsm.Find.{at_pin, followed_bits, is_flop, is_fork, meets_any, ports_read_well, tree_outputs, whole_wire}
 use Rattle.net_model.specs.Lists.{In}
 use Rattle.net_model.specs.Refine.{IsWellDriven, places_of}
 use Rattle.net_model.specs.Within.{Each}
-use Rattle.pass_laws.proofs.Alone.{shape_of}
-use Rattle.pass_laws.proofs.Counting.{bits_of, count, count_more, driven_count, link_drives_bits}
-use Rattle.pass_laws.proofs.Faultless.{no_faults, none_left, none_right, plain, type_is}
-use Rattle.pass_laws.proofs.Forming.{own_cells, own_links}
-use Rattle.pass_laws.proofs.Outputs.{output_bits}
-use Rattle.pass_laws.specs.Bits.{cells_bits, links_bits, pin_bits}
+use Rattle.pass_laws.proofs.Faultless.{no_faults, none_left, none_right}
 use Rattle.pass_laws.specs.Ready.{IsReady}
-use Rattle.follow_laws.proofs.Following.{source_in, stays}
+use Rattle.follow_laws.proofs.Following.{stays}
 use Rattle.rtl_ir.specs.Scope.{without_processes}
 use Rattle.fsm_laws.proofs.Carrying.{named_at}
 use Rattle.fsm_laws.specs.Carried.{Carrier, carrier_in, carrier_of, spot_carrier, wire_named}
@@ -55,9 +44,8 @@ use Rattle.fsm_laws.specs.Machines.{IsFoundMachine}
 use Rattle.fsm_laws.specs.Recodes.{IsOf}
 use Rattle.fsm_laws.proofs.Free.{asked_reads, free_signal}
 use Rattle.fsm_laws.proofs.FrameFound.{carrier_there, flop_gives, fork_found, fork_gives, output_from}
-use Rattle.fsm_laws.proofs.OneDriver.{Gives, bit_there, cell_there, given_row, joined_row, same_itself}
+use Rattle.fsm_laws.proofs.OneDriver.{Gives, cell_there, given_row, joined_row}
 use Rattle.fsm_laws.proofs.Setting.{outputs, state}
-use Rattle.fsm_laws.specs.Inside.{DrivesInside}
 use Rattle.pass_laws.proofs.Ports.{has_ordered}
 use Rattle.pass_laws.proofs.SamePlaces.{signal_is}
 
@@ -83,24 +71,6 @@ no_inout id numbers (v ∷ ws) e zero w there =
     by false u f = refl
 no_inout id numbers (v ∷ ws) e (suc k) w there =
     no_inout id (with_number numbers v) ws (none_right (fault_if (is_bad_port numbers v) (BadPort (spot id v.name))) (wire_faults id (with_number numbers v) ws) e) k w there
-
--- a bit that stands in a list is counted
-in_count : (b : WireBit) (xs : List WireBit) → In b xs → 1 ≤ count b xs
-in_count b [] i = absurd i
-in_count b (x ∷ xs) (inl e) =
-    by (same_bit x b) (ap (λ z. same_bit z b) (sym e) ∙ same_itself b) (count b xs)
-  where
-    by : (t : Bool) → t ≡ true → (n : ℕ) → 1 ≤ cond t 1 0 + n
-    by true f n = omega arith
-    by false f n = absurd (cc)
-in_count b (x ∷ xs) (inr i) = omega (arith, in_count b xs i)
-
-among_bits : (ports : Ports) (cells : List Cell) (c : Cell) → In c cells → (b : WireBit) → In b (pin_bits (cell_type ports c.kind_name) c.pins) → In b (cells_bits ports cells)
-among_bits ports [] c i b h = absurd i
-among_bits ports (d ∷ cells) c (inl e) b h =
-    In-left b (pin_bits (cell_type ports d.kind_name) d.pins) (cells_bits ports cells) (subst (λ (z : Cell). In b (pin_bits (cell_type ports z.kind_name) z.pins)) e h)
-among_bits ports (d ∷ cells) c (inr i) b h =
-    In-right b (pin_bits (cell_type ports d.kind_name) d.pins) (cells_bits ports cells) (among_bits ports cells c i b h)
 
 -- bits that meet none of two lists meet none of either
 has_both : (xs ys : List WireBit) (b : WireBit) → has_bit (xs ++ ys) b ≡ false → (has_bit xs b ≡ false) × (has_bit ys b ≡ false)
@@ -155,7 +125,7 @@ inside_list [] k x e = absurd (cc)
 inside_list (y ∷ xs) zero x e = omega arith
 inside_list (y ∷ xs) (suc k) x e = omega (arith, inside_list xs k x e)
 
-module _ (ports : Ports) (m : Module) (at : ℕ) (machine : Machine) (found : IsFoundMachine ports m at machine) (ready : IsReady ports m) (over : flat.Ports) (driven : IsWellDriven over m) (inside : DrivesInside ports m) where
+module _ (ports : Ports) (m : Module) (at : ℕ) (machine : Machine) (found : IsFoundMachine ports m at machine) (ready : IsReady ports m) (over : flat.Ports) (driven : IsWellDriven over m) where
   abbrev GivenBy : Cell → WireBit → Type 0
   GivenBy c b = Gives over m driven c b
 
@@ -184,36 +154,6 @@ module _ (ports : Ports) (m : Module) (at : ℕ) (machine : Machine) (found : Is
           let there = carrier_there (outputs ports m at machine found) b y e in
           absurd (given there.0 there.1.0 there.1.1.0 there.1.1.1)
 
-  -- what drives a bit is counted
-  counted : (b : WireBit) → drive_count (drives_of ports m) b ≡ 0 → (count b (cells_bits ports m.cells) ≡ 0) × (count b (links_bits m.links) ≡ 0)
-  counted b e =
-      let all = driven_count ports m (plain ports m ready.faultless).processes (own_links ports m ready) b in
-      let both = count_more b (cells_bits ports m.cells) (links_bits m.links) in
-      (omega (arith, all, both, e), omega (arith, all, both, e))
-
-  uncounted_free : (b : WireBit) → drive_count (drives_of ports m) b ≡ 0 → carrier_of (outputs ports m at machine found) (follow m.links (OnWire b)) ≡ None
-  uncounted_free b e = undriven_free b (no_link (source_at (all_joins m.links) b) refl) no_cell
-    where
-      no_link : (o : Option SigBit) → source_at (all_joins m.links) b ≡ o → o ≡ None
-      no_link None f = refl
-      no_link (Some r) f =
-          let j : Join = record { bit = b; source = r } in
-          let join : In b (bits_of (link_drives m.links)) = In-map (λ (d : Drive). d.bit) _ (link_drives m.links) (In-map _ j (all_joins m.links) (source_in (all_joins m.links) b r f)) in
-          let some : 1 ≤ count b (links_bits m.links) = in_count b (links_bits m.links) (subst (In b) (link_drives_bits m.links (own_links ports m ready)) join) in
-          absurd (omega (arith, some, (counted b e).1))
-
-      no_cell : (c : Cell) → In c m.cells → GivenBy c b → ⊥
-      no_cell c i g = by (output_pin g.kind) refl g.there
-        where
-          by : (o : Option PinName) → output_pin g.kind ≡ o → slice_get (option_map_or (λ name. signal_at c.pins (pin_text name)) o []) g.place ≡ Some (OnWire b) → ⊥
-          by None f h = absurd (cc)
-          by (Some name) f h =
-              let fit = (shape_of ports c g.kind g.own (own_cells ports m ready c i)).fit in
-              let bits : pin_bits (cell_type ports c.kind_name) c.pins ≡ wire_bits (signal_at c.pins (pin_text name)) = ap (λ t. pin_bits t c.pins) (type_is ports c g.kind g.own) ∙ output_bits g.kind c g.plain fit name f in
-              let there : In b (pin_bits (cell_type ports c.kind_name) c.pins) = subst (In b) (sym bits) (bit_there (signal_at c.pins (pin_text name)) g.place b h) in
-              let some : 1 ≤ count b (cells_bits ports m.cells) = in_count b (cells_bits ports m.cells) (among_bits ports m.cells c i b there) in
-              omega (arith, some, (counted b e).0)
-
   -- a bit of an input port is driven from outside
   input_free : (line : PortLine) → In line (ports_of m.wires) → line.role ≡ Input → (b : WireBit) → bit_place [] m.wires b ≡ record { path = []; spot = OfWire line.name b.at } → carrier_of (outputs ports m at machine found) (follow m.links (OnWire b)) ≡ None
   input_free line i role b is =
@@ -240,9 +180,9 @@ module _ (ports : Ports) (m : Module) (at : ℕ) (machine : Machine) (found : Is
       let bit : In (OnWire (record { wire = x; at = k })) (whole_wire x w) = subst (λ n. In (OnWire (record { wire = x; at = n })) (whole_wire x w)) spot (whole_has x 0 w.width k less) in
       (free (OnWire (record { wire = x; at = k })) bit).none
 
-  -- a bit of a port
-  port_free : (line : PortLine) → In line (ports_of m.wires) → (x : ℕ) (w : Wire) → slice_get m.wires x ≡ Some w → line.name ≡ w.name → line.role ≡ w.role → is_port w.role ≡ true → is_inout w.role ≡ false → (k : ℕ) → carrier_of (outputs ports m at machine found) (follow m.links (OnWire (record { wire = x; at = k }))) ≡ None
-  port_free line i x w there name role port one k = by w.role refl port one
+  -- a bit that a port has
+  port_free : (line : PortLine) → In line (ports_of m.wires) → (x : ℕ) (w : Wire) → slice_get m.wires x ≡ Some w → line.name ≡ w.name → line.role ≡ w.role → is_port w.role ≡ true → is_inout w.role ≡ false → (k : ℕ) → k < w.width → carrier_of (outputs ports m at machine found) (follow m.links (OnWire (record { wire = x; at = k }))) ≡ None
+  port_free line i x w there name role port one k less = by w.role refl port one
     where
       b : WireBit
       b = record { wire = x; at = k }
@@ -253,11 +193,10 @@ module _ (ports : Ports) (m : Module) (at : ℕ) (machine : Machine) (found : Is
       by Input e p o =
           input_free line i (role ∙ e) b
           (ap (λ z. record { path = []; spot = OfWire (name_or_empty z) k }) there ∙ ap (λ n. record { path = []; spot = OfWire n k }) (sym name))
-      by Output e p o =
-          ⊎_elim (λ l. output_free x w there (ap is_output e) k l) (λ l. uncounted_free b (inside.none b w there l)) (cases_lt k w.width)
+      by Output e p o = output_free x w there (ap is_output e) k less
 
-  pub ports_found : (line : PortLine) → In line (ports_of m.wires) → (k : ℕ) → spot_carrier m.links m.wires (outputs ports m at machine found) (OfWire line.name k) ≡ None
-  ports_found line i k =
+  pub ports_found : (line : PortLine) → In line (ports_of m.wires) → (k : ℕ) → k < line.width → spot_carrier m.links m.wires (outputs ports m at machine found) (OfWire line.name k) ≡ None
+  ports_found line i k less =
       let from = In-mapped line_of line (in_number_order (filter (λ (v : Wire). is_port v.role) m.wires)) i in
       let w : Wire = from.0 in
       let there = filtered w m.wires (has_ordered (filter (λ (v : Wire). is_port v.role) m.wires) w from.1) in
@@ -266,4 +205,4 @@ module _ (ports : Ports) (m : Module) (at : ℕ) (machine : Machine) (found : Is
       let here : 0 + there.0 ≡ there.0 = omega arith in
       let wire : wire_named m.wires 0 line.name ≡ Some there.0 = ap (wire_named m.wires 0) name ∙ named_at m.wires 0 there.0 w ready.named there.1.0 ∙ ap Some here in
       ap (option_and_then (λ x. carrier_of (outputs ports m at machine found) (follow m.links (OnWire (record { wire = x; at = k }))))) wire
-      ∙ port_free line i there.0 w there.1.0 name role there.1.1 (no_inout m.id [] m.wires (no_faults without_processes ports m ready.faultless).wires there.0 w there.1.0) k
+      ∙ port_free line i there.0 w there.1.0 name role there.1.1 (no_inout m.id [] m.wires (no_faults without_processes ports m ready.faultless).wires there.0 w there.1.0) k (subst (λ (l : PortLine). k < l.width) from.2 less)

@@ -27,7 +27,7 @@ use Rattle.pass_laws.proofs.Forming.{all_none, own_links}
 use Rattle.pass_laws.specs.Bits.{cells_bits, links_bits}
 use Rattle.pass_laws.specs.Ready.{IsReady}
 use Rattle.pass_laws.specs.Replaces.{IsEven}
-use Rattle.build_laws.proofs.CountingBits.{cells_below, count_beyond, fresh_below, fresh_once, links_below, no_two, ports_below}
+use Rattle.build_laws.proofs.CountingBits.{cells_below, count_beyond, fresh_below, fresh_once, links_below, no_two, once_more, ports_below}
 use Rattle.fsm_laws.specs.Machines.{IsFoundMachine}
 use Rattle.fsm_laws.specs.Recoded.{all_links_made, fresh_wires, machine_coding, recoded_with}
 use Rattle.fsm_laws.proofs.Formed.{cells_access, cells_sound, cells_within, fresh_names, inner, links_even, links_within, names_apart, wires_count}
@@ -120,4 +120,5 @@ module _ (ports : Ports) (m : Module) (wire : ℕ) (machine : Machine) (ready : 
         (ap (process_faults without_processes ports next []) fine.processes) (no_link_faults m.id 1 next.links even_after) bits_none;
     named = all_named;
     within = all_within;
+    once = once_more (length m.wires) (drives_of ports m) (drives_of ports next) old_only fresh_only ready.once;
   }

@@ -203,8 +203,8 @@ module _ (n : Module) (fresh : List Wire) (cells : List Cell) (more : List Link)
     id = refl;
     ports_same = refl;
     children = asked.children;
-    port_to = λ p w line i at a h. subst (λ o. carries states grown o p w (OfWire line.name at) a) (sym (asked.ports line (subst (In line) (ports_more n.wires fresh asked.inner) i) at)) h;
-    port_from = λ p w line i at a h. subst (λ o. carries states grown o p w (OfWire line.name at) a) (asked.ports line (subst (In line) (ports_more n.wires fresh asked.inner) i) at) h;
+    port_to = λ p w line i at lt a h. subst (λ o. carries states grown o p w (OfWire line.name at) a) (sym (asked.ports line (subst (In line) (ports_more n.wires fresh asked.inner) i) at lt)) h;
+    port_from = λ p w line i at lt a h. subst (λ o. carries states grown o p w (OfWire line.name at) a) (asked.ports line (subst (In line) (ports_more n.wires fresh asked.inner) i) at lt) h;
     unknown = λ p w o. carries_none states grown (spot_carrier n.links n.wires outputs o) p w o;
     rows = λ p t u st v w rel r reached x i. row_keeps p t u st v w rel r reached x i;
   }

@@ -10,4 +10,3 @@ pub mod Trees
 pub mod Recodes
 pub mod Machines
 pub mod Short
-pub mod Inside

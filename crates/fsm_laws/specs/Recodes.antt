@@ -215,7 +215,10 @@ pub record Recodes (n : Module) (fresh : List Wire) (cells : List Cell) (more : 
   pub stop : (s r : SigBit) → back (all_joins n.links) s ≡ Some r → carrier_of outputs s ≡ None
   -- each bit is driven by one connection at most, and connections are of the module's wires
   pub links : (j : Join) → In j (all_joins n.links) → (back (all_joins n.links) (OnWire j.bit) ≡ Some j.source) × ((j.bit.wire < length n.wires) × IsOf n.wires j.source)
-  pub ports : (line : PortLine) → In line (ports_of n.wires) → (k : ℕ) → spot_carrier n.links n.wires outputs (OfWire line.name k) ≡ None
+  -- a bit that a port has carries nothing
+  pub ports :
+      (line : PortLine) → In line (ports_of n.wires) → (k : ℕ) → k < line.width →
+      spot_carrier n.links n.wires outputs (OfWire line.name k) ≡ None
   pub children : instances n.cells ≡ instances cells
   pub parts : (c : Cell) → In c n.cells → PartIs width states n.links n.wires fresh outputs code_wire cells more (start_of (n.wires ++ fresh) []) over c
   pub flop : Cell

@@ -13,7 +13,6 @@ ghost use Rattle.net_model.specs.Fsm.Find.{machine_of};
 ghost use Rattle.fsm_laws.specs.Recoded.{recoded_with};
 ghost use Rattle.fsm_laws.specs.Recodes.{Recodes};
 ghost use Rattle.fsm_laws.specs.Short.{AreShort};
-ghost use Rattle.fsm_laws.specs.Inside.{DrivesInside};
 ghost use Rattle.pass_laws.specs.Ready.{IsReady};
 
 use rtl_ir::{Cell, Link, Machine, Module, PortTable, Wire};
@@ -34,11 +33,10 @@ pub fn recoded_by_parts()
         recoded m machine state ≡ recoded_with m machine state }
 {}
 
-/// Where a module may be given to a pass and drives no bit past the end of a wire, the module in which a machine of it
-/// has its code loses no known output bit.
+/// Where a module may be given to a pass, the module in which a machine of it has its code loses no known output bit.
 pub fn recoded_refines()
     ensures refines { (table : PortTable) (m : Module) (at : ℕ) (machine : Machine) →
-        IsReady (table_ports table.modules) m → DrivesInside (table_ports table.modules) m →
+        IsReady (table_ports table.modules) m →
         machine_of (table_ports table.modules) m at ≡ Some machine → RefinesIn m (recoded_of m machine) table }
 {}
 
@@ -46,7 +44,7 @@ pub fn recoded_refines()
 /// after another, loses no known output bit.
 pub fn machines_refine()
     ensures refines { (table : PortTable) (m : Module) →
-        IsReady (table_ports table.modules) m → DrivesInside (table_ports table.modules) m →
+        IsReady (table_ports table.modules) m →
         AreShort (table_ports table.modules) 0 (length m.wires) m →
         RefinesIn m (fsm_of (table_ports table.modules) m) table }
 {}

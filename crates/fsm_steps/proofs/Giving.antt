@@ -13,15 +13,12 @@ use Rattle.net_model.specs.Fsm.Code.{fsm_of, recoded_of}
 use Rattle.net_model.specs.Fsm.Find.{machine_of}
 use Rattle.pass_laws.specs.Pass.{IsPass, StaysDriven}
 use Rattle.pass_laws.specs.Ready.{IsReady}
-use Rattle.pass_laws.proofs.Passes.{IsPass_refl}
 use Rattle.fsm_code.proofs.Giving.{short_within}
 use Rattle.fsm_code.specs.Limits.{widened}
 use Rattle.fsm_laws.specs.Short.{AreShort, IsShortIf}
 use Rattle.fsm_laws.proofs.InTurn.{IsFormed, all_formed}
 use Rattle.fsm_laws.proofs.MachinesRefined.{machines_refine}
-use Rattle.fsm_laws.proofs.Insides.{inside_drives}
-use Rattle.fsm_steps.specs.Within.{are_within, fsm_within, machine_within, machines_within}
-use Rattle.opt_clean.specs.Clean.{is_all_inside}
+use Rattle.fsm_steps.specs.Within.{are_within, fsm_within, machine_within}
 use Rattle.fsm_steps.proofs.Turns.{within_limits}
 
 -- within the limits fresh names are short
@@ -43,13 +40,13 @@ pub record Gives (table : PortTable) (m n : Module) : Type 0 where
   pub memories : n.memories ≡ m.memories
 
 module _ (table : PortTable) (m : Module) (ready : IsReady (table_ports table.modules) m) where
-  all_given : is_all_inside m ≡ true → are_within (table_ports table.modules) 0 (length m.wires) m ≡ true → Gives table m (fsm_of (table_ports table.modules) m)
-  all_given inside e =
+  all_given : are_within (table_ports table.modules) 0 (length m.wires) m ≡ true → Gives table m (fsm_of (table_ports table.modules) m)
+  all_given e =
       let short : AreShort (table_ports table.modules) 0 (length m.wires) m = are_short (table_ports table.modules) 0 (length m.wires) m e in
       let is : IsFormed (table_ports table.modules) m (fsm_of (table_ports table.modules) m) = all_formed (table_ports table.modules) m ready short in
       record {
         pass = record {
-          refines = machines_refine table m ready (inside_drives (table_ports table.modules) m ready inside) short;
+          refines = machines_refine table m ready short;
           ready = λ h. is.ready;
           driven = λ over agree. is.driven over;
           id = is.id;
@@ -60,34 +57,23 @@ module _ (table : PortTable) (m : Module) (ready : IsReady (table_ports table.mo
         memories = sym is.memories;
       }
 
-  -- of a module that stays as it is
-  none_given : Gives table m m
-  none_given = record { pass = IsPass_refl table m; driven = λ over h. h; memories = refl }
-
   -- for the pass as one that may answer nothing
   pub fsm_gives : (n : Module) → fsm_within (table_ports table.modules) m ≡ Some n → Gives table m n
-  fsm_gives n e = by (is_all_inside m) refl (are_within (table_ports table.modules) 0 (length m.wires) m) refl e
+  fsm_gives n e = by (are_within (table_ports table.modules) 0 (length m.wires) m) refl e
     where
-      by : (t : Bool) → is_all_inside m ≡ t → (s : Bool) → are_within (table_ports table.modules) 0 (length m.wires) m ≡ s
-          → cond t (cond s (Some (fsm_of (table_ports table.modules) m)) None) (Some m) ≡ Some n → Gives table m n
-      by true i true f g = let same : fsm_of (table_ports table.modules) m ≡ n = cc in subst (Gives table m) same (all_given i f)
-      by true i false f g = absurd (cc)
-      by false i s f g = let same : m ≡ n = cc in subst (Gives table m) same none_given
+      by : (s : Bool) → are_within (table_ports table.modules) 0 (length m.wires) m ≡ s → cond s (Some (fsm_of (table_ports table.modules) m)) None ≡ Some n → Gives table m n
+      by true f g = let same : fsm_of (table_ports table.modules) m ≡ n = cc in subst (Gives table m) same (all_given f)
+      by false f g = absurd (cc)
 
   -- of what is answered
   pub answer_gives : (r : Result Module PassFault) → IfOk r (λ after. fsm_within (table_ports table.modules) m ≡ Some after) → IfOk r (Gives table m)
   answer_gives r is = IfOk-weaker r (λ after. fsm_within (table_ports table.modules) m ≡ Some after) (Gives table m) fsm_gives is
 
 -- the answer by the limits
-module _ (ports : Ports) (m : Module) (inside : is_all_inside m ≡ true) where
+module _ (ports : Ports) (m : Module) where
   pub answered : (r : Result Module PassFault) → IfOk r (λ after. after ≡ fsm_of ports m) → OnOk r (are_within ports 0 (length m.wires) m ≡ true) → IfOk r (λ after. fsm_within ports m ≡ Some after)
-  answered (Ok after) e f =
-      ap (λ t. cond t (machines_within ports m) (Some m)) inside ∙ ap (λ t. cond t (Some (fsm_of ports m)) None) f ∙ ap Some (sym e)
+  answered (Ok after) e f = ap (λ t. cond t (Some (fsm_of ports m)) None) f ∙ ap Some (sym e)
   answered (Err fault) e f = tt
 
   pub passed : are_within ports 0 (length m.wires) m ≡ false → fsm_within ports m ≡ None
-  passed e =
-      ap (λ t. cond t (machines_within ports m) (Some m)) inside ∙ ap (λ t. cond t (Some (fsm_of ports m)) None) e
-
-pub stays : (ports : Ports) (m : Module) → is_all_inside m ≡ false → fsm_within ports m ≡ Some m
-stays ports m e = ap (λ t. cond t (machines_within ports m) (Some m)) e
+  passed e = ap (λ t. cond t (Some (fsm_of ports m)) None) e

@@ -13,8 +13,7 @@ use Rattle.net_model.specs.Fsm.Code.{Output, code_init, fresh_outputs, fsm_of, r
 use Rattle.net_model.specs.Fsm.Find.{at_pin, machine_of, whole_wire}
 use Rattle.fsm_code.specs.Limits.{widened}
 use Rattle.fsm_laws.proofs.Recoding.{recoded_is}
-use Rattle.fsm_steps.specs.Within.{are_within, fsm_within, is_within, machine_within, machines_within}
-use Rattle.opt_clean.specs.Clean.{is_all_inside}
+use Rattle.fsm_steps.specs.Within.{are_within, fsm_within, is_within, machine_within}
 
 module _ (id : List ℕ) where
   -- a module under the name, and what is built of one
@@ -71,17 +70,10 @@ module _ (id : List ℕ) where
     all_kept at (suc n) m =
         λ i. machine_kept m (machine_of ports m at) i && (ap (are_within ports (at + 1) n) (next_renamed m (machine_of ports m at)) ∙ all_kept (at + 1) n (option_map_or (recoded_of m) (machine_of ports m at) m)) i
 
-    machines_renamed : (m : Module) → machines_within ports (under m) ≡ option_map under (machines_within ports m)
-    machines_renamed m =
+    pub fsm_renamed : (m : Module) → fsm_within ports (under m) ≡ option_map under (fsm_within ports m)
+    fsm_renamed m =
         (λ i. cond (all_kept 0 (length m.wires) m i) (Some (wires_renamed 0 (length m.wires) m i)) None) ∙ by (are_within ports 0 (length m.wires) m)
       where
         by : (t : Bool) → cond t (Some (under (fsm_of ports m))) None ≡ option_map under (cond t (Some (fsm_of ports m)) None)
         by true = refl
-        by false = refl
-
-    pub fsm_renamed : (m : Module) → fsm_within ports (under m) ≡ option_map under (fsm_within ports m)
-    fsm_renamed m = by (is_all_inside m)
-      where
-        by : (t : Bool) → cond t (machines_within ports (under m)) (Some (under m)) ≡ option_map under (cond t (machines_within ports m) (Some m))
-        by true = machines_renamed m
         by false = refl

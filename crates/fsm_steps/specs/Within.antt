@@ -9,7 +9,6 @@ use Rattle.net_index.specs.Numbering.{bit_count, widths_of}
 use Rattle.net_model.specs.Fsm.Code.{fsm_of, recoded_of}
 use Rattle.net_model.specs.Fsm.Find.{machine_of}
 use Rattle.fsm_code.specs.Limits.{widened}
-use Rattle.opt_clean.specs.Clean.{is_all_inside}
 
 -- a module that is added to is within the limits on cells, on bits of wires and on the numbers of fresh names
 unfoldable pub is_within : Building → Bool
@@ -26,10 +25,6 @@ are_within ports at zero m = true
 are_within ports at (suc n) m =
     machine_within m (machine_of ports m at) && are_within ports (at + 1) n (option_map_or (recoded_of m) (machine_of ports m at) m)
 
--- the module after its machines in turn; None where one of them passes a limit
-abbrev pub machines_within : Ports → Module → Option Module
-machines_within ports m = if are_within ports 0 (length m.wires) m then Some (fsm_of ports m) else None
-
--- the module after the pass, where it is one; a module that names a bit that no wire has, which no text does, stays as it is
+-- the module after the pass: its machines in turn; None where one of them passes a limit
 abbrev pub fsm_within : Ports → Module → Option Module
-fsm_within ports m = if is_all_inside m then machines_within ports m else Some m
+fsm_within ports m = if are_within ports 0 (length m.wires) m then Some (fsm_of ports m) else None

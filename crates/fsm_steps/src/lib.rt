@@ -13,14 +13,12 @@ ghost use Rattle.fsm_steps.specs.Within.{are_within, fsm_within};
 use crate::search::{next_machine, place_number};
 use fsm_code::recode;
 use net_index::PassFault;
-use opt_clean::is_all_inside;
 use rtl_ir::{Module, PortTable};
 use std::alloc::Global;
 
 /// The module in which each machine has its code. The wires that there were before are asked in their order, each of
-/// the module that the one before it left. A module that names a bit that no wire has stays as it is. `Over` comes
-/// where one of the modules with the fresh wires of a machine would pass a limit on cells, on bits of wires or on fresh
-/// names. In the Yosys manual, the command `fsm`.
+/// the module that the one before it left. `Over` comes where one of the modules with the fresh wires of a machine would
+/// pass a limit on cells, on bits of wires or on fresh names. In the Yosys manual, the command `fsm`.
 pub fn apply(alloc: Global, module: Module, ports: &PortTable) -> Result<Module, PassFault>
     requires ready { IsReady (table_ports ports.now.modules) «module» }
     ensures exact { IfOk result (λ after. fsm_within (table_ports ports.now.modules) «module» ≡ Some after) }
@@ -29,18 +27,6 @@ pub fn apply(alloc: Global, module: Module, ports: &PortTable) -> Result<Module,
     ensures driven { IfOk result (StaysDriven «module») }
     ensures same_memories { IfOk result (λ after. after.memories ≡ «module».memories) }
 {
-    coded(alloc, module, ports)
-}
-
-/// The module with its machines in their codes, of a module without processes.
-fn coded(alloc: Global, module: Module, ports: &PortTable) -> Result<Module, PassFault>
-    requires process_free { «module».processes ≡ [] }
-    ensures exact { IfOk result (λ after. fsm_within (table_ports ports.now.modules) «module» ≡ Some after) }
-    ensures over { result ≡ Err PassFault.Over → fsm_within (table_ports ports.now.modules) «module» ≡ None }
-{
-    if !is_all_inside(&module) {
-        return Ok(module);
-    }
     each_machine(alloc, module, ports)
 }
 

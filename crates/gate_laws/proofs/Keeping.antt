@@ -14,10 +14,10 @@ use Rattle.net_model.proofs.Members.{In-mapped}
 use Rattle.net_model.proofs.Ranges.{each_both, each_more, each_none}
 use Rattle.net_model.specs.Within.{Each}
 use Rattle.follow_laws.specs.Inputs.{followed, followed_cell}
-use Rattle.opt_clean.specs.Clean.{clean_of, is_all_inside, reduced}
+use Rattle.opt_clean.specs.Clean.{clean_of, reduced}
 use Rattle.opt_clean.specs.Kept.{kept_marks, marked}
 use Rattle.opt_clean.specs.Runs.{links_of}
-use Rattle.opt_clean.specs.Wires.{moved_cell, named_bits, trimmed, wire_marks}
+use Rattle.opt_clean.specs.Wires.{moved_cell, named_bits, wire_marks}
 use Rattle.opt_merge.specs.Merge.{Merging, after_cells, after_kind, has_traits, join, merge_of, stay}
 use Rattle.opt_merge.specs.Traits.{merging_kind, traits_of}
 use Rattle.tech_map.specs.Gates.{HasGatesAlone, IsGateOrInstance}
@@ -65,11 +65,7 @@ unfolding cell_kind
 moved_same marks c gate = gate
 
 pub clean_gates : (ports : Ports) (m : Module) → HasGatesAlone m → HasGatesAlone (clean_of ports m)
-clean_gates ports m gates = by (is_all_inside m)
-  where
-    by : (t : Bool) → HasGatesAlone (if t then trimmed (reduced ports (followed ports m)) else m)
-    by true =
-        mapped_gates (moved_cell (wire_marks (named_bits (reduced ports (followed ports m))) 0 (reduced ports (followed ports m)).wires)) (reduced ports (followed ports m)).cells (moved_same _)
-        (marked_gates (kept_marks ports (followed ports m).wires (links_of (followed ports m).wires (followed ports m).links) (followed ports m).cells) (followed ports m).cells
-        (mapped_gates (followed_cell ports m.links) m.cells (followed_same ports m) gates))
-    by false = gates
+clean_gates ports m gates =
+    mapped_gates (moved_cell (wire_marks (named_bits (reduced ports (followed ports m))) 0 (reduced ports (followed ports m)).wires)) (reduced ports (followed ports m)).cells (moved_same _)
+    (marked_gates (kept_marks ports (followed ports m).wires (links_of (followed ports m).wires (followed ports m).links) (followed ports m).cells) (followed ports m).cells
+    (mapped_gates (followed_cell ports m.links) m.cells (followed_same ports m) gates))

@@ -32,7 +32,7 @@ use Rattle.pass_laws.proofs.Alone.{is_false, library_faultless, links_even, no_l
 use Rattle.pass_laws.proofs.Counting.{bits_of, cells_more, count, count_more, driven_count, links_more}
 use Rattle.pass_laws.proofs.Faultless.{HasNoFaults, all_fine, fits, no_cell_faults, no_faults, none_left, none_right}
 use Rattle.pass_laws.proofs.Forming.{all_none}
-use Rattle.build_laws.proofs.CountingBits.{cells_below, count_beyond, fresh_below, fresh_once, links_below, no_two, ports_below}
+use Rattle.build_laws.proofs.CountingBits.{cells_below, count_beyond, fresh_below, fresh_once, links_below, no_two, once_more, ports_below}
 use Rattle.build_laws.proofs.Growing.{IsPlainCell}
 use Rattle.pass_laws.specs.OwnNames.{HaveOwnNames}
 use Rattle.memory_laws.proofs.Counted.{data_of, fewer_cells, parted}
@@ -174,6 +174,7 @@ module _ (ports : Ports) (k : Module) (s : Store) (place : ℕ) (there : slice_g
     faultless = all_none (more_faults m.id [] m.wires wires (made k s place there apart ready.within few).inner ∙ none.wires) (without_none (store_faults without_processes m.id) place k.memories none.stores) cells_none refl (no_link_faults m.id 1 (m.links ++ links) even_after) bits_none;
     named = all_named;
     within = subst IsWithin (after_is k s place there apart ready.within few) (expanded_within k s place ready.within);
+    once = once_more (length m.wires) (drives_of ports m) (drives_of ports next) old_only fresh_only ready.once;
   }
 
   pub before_ready : IsReady ports (expanded_memory m (plan k s place) s)

@@ -198,8 +198,8 @@ module _ (n : Module) (s : Store) (place : ℕ) (there : slice_get n.memories pl
     id = refl;
     ports_same = refl;
     children = no_children;
-    port_to = λ p w line i at a h. h;
-    port_from = λ p w line i at a h. h;
+    port_to = λ p w line i at lt a h. h;
+    port_from = λ p w line i at lt a h. h;
     unknown = λ p w o. unknown_said s.name (wires n s place) (words n s place) p w o;
     rows = λ p t u st v w rel r reached x i. row_keeps over p t u st v w rel r reached x i;
   }

@@ -63,8 +63,8 @@ refines_relates b c ports r = record {
   id = r.id;
   ports_same = r.ports_same;
   children = r.children;
-  port_to = λ p w n i k a h. h;
-  port_from = λ p w n i k a h. h;
+  port_to = λ p w n i k l a h. h;
+  port_from = λ p w n i k l a h. h;
   unknown = λ p w o. tt;
   rows = λ p t u st v w h n s x i. let low = Below_trans (value_of x.driver t v) (value_of x.driver u w) (w x.place) (row_grows b ports just_below p t u st v w h x i (λ z q l e a k. subst (λ y. Below a (z (record { path = y; spot = q.spot }))) (sym e) k)) (r.rows p u w (reached_solved (rows_of ports p c) n u w s) (was p n u w s) x i) in
       record { own = λ e. subst (λ y. Below (value_of x.driver t v) (w (record { path = y; spot = x.place.spot }))) e low; outer = λ _. low };

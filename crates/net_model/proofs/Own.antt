@@ -1,15 +1,17 @@
 -- Rows of a module that have its own bits and read its own bits alone: those of all but instances.
-use Rattle.std.proofs.Common.{◌≡◌, ℕ, zero, suc, Bool, true, false, List, [], ◌∷◌, ◌++◌, inl, inr, ⊎_elim, refl, sym, ap, subst}
+use Rattle.std.proofs.Common.{◌≡◌, ◌+◌, ◌<◌, ℕ, zero, suc, Bool, true, false, List, [], ◌∷◌, ◌++◌, inl, inr, ⊎_elim, refl, sym, ap, subst, arith}
 use Rattle.std.specs.Prelude.{map, flat_map, if◌then◌else◌}
 use Rattle.rtl_sig.specs.declared.sig.SigBit.{SigBit}
 use Rattle.rtl_sig.specs.declared.sig.SigBit.TheVariants.{Fixed, Wire as OnWire}
+use Rattle.rtl_ir.specs.declared.ports.PortLine.{PortLine}
 use Rattle.rtl_ir.specs.declared.wire.Wire.{Wire}
 use Rattle.rtl_ir.specs.Flat.Driver.{Driven}
-use Rattle.rtl_ir.specs.Flat.Place.{Path, Place, IsOf}
+use Rattle.rtl_ir.specs.Flat.Place.{OfWire, Path, Place}
 use Rattle.rtl_ir.specs.Flat.Point.{Point, Constant, At, point, points, point_at, wire_points}
 use Rattle.rtl_ir.specs.Flat.Reads.{read_points}
 use Rattle.rtl_ir.specs.Flat.Tree.{places}
 use Rattle.net_model.specs.Lists.{In}
+use Rattle.net_model.specs.Relate.{IsBitOf}
 use Rattle.net_model.proofs.Members.{In-cases, In-mapped}
 
 -- a point is a constant or one of the module's own bits
@@ -73,8 +75,16 @@ module _ (p : Path) where
   own_if true xs ys h i = h
   own_if false xs ys h i = i
 
--- the bits of a wire
-pub wire_own : (p : Path) (name : List ℕ) (at n : ℕ) (q : Place) → In q (places (wire_points p name at n)) → (q.path ≡ p) × IsOf name q.spot
+-- the bits of a wire, from this one on, so many
+pub wire_own : (p : Path) (name : List ℕ) (at n : ℕ) (q : Place) → In q (places (wire_points p name at n)) → (q.path ≡ p) × ((k : ℕ) × (k < at + n) × (q.spot ≡ OfWire name k))
 wire_own p name at zero q i = absurd i
-wire_own p name at (suc n) q (inl e) = (ap (λ z. z.path) e, (at, ap (λ z. z.spot) e))
-wire_own p name at (suc n) q (inr i) = wire_own p name (suc at) n q i
+wire_own p name at (suc n) q (inl e) = (ap (λ z. z.path) e, (at, omega arith, ap (λ z. z.spot) e))
+wire_own p name at (suc n) q (inr i) =
+    let later = wire_own p name (suc at) n q i in
+    (later.0, (later.1.0, omega (arith, later.1.1), later.1.2))
+
+-- the bits of a port
+pub port_own : (p : Path) (n : PortLine) (q : Place) → In q (places (wire_points p n.name 0 n.width)) → (q.path ≡ p) × IsBitOf n q.spot
+port_own p n q i =
+    let own = wire_own p n.name 0 n.width q i in
+    (own.0, (own.1.0, omega (arith, own.1.1), own.1.2))

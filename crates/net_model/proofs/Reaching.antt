@@ -25,7 +25,7 @@ use Rattle.rtl_ir.specs.Parameters.{signal_at}
 use Rattle.net_model.specs.Lists.{In}
 use Rattle.net_model.specs.Relate.{Reach}
 use Rattle.net_model.proofs.Members.{In-left, In-right, In-cases}
-use Rattle.net_model.proofs.Own.{IsOwnRow, AreOwnRows, own_places, own_points, own_both, wire_own}
+use Rattle.net_model.proofs.Own.{IsOwnRow, AreOwnRows, own_places, own_points, own_both, port_own}
 use Rattle.net_model.proofs.OwnCells.{kind_own, links_own}
 use Rattle.net_model.proofs.OwnProcesses.{processes_own}
 use Rattle.net_model.proofs.OwnMemories.{memories_own}
@@ -65,7 +65,7 @@ module _ (ports : Ports) (frames : List Frame) (p : Path) (wires : List Wire) wh
       own q j = own_places p (points p wires (signal_at pins n.name)) (own_points p wires (signal_at pins n.name)) q j
 
       port : (role : Role) → n.role ≡ role → (q : Place) → In q (places (wire_points (f ∷ p) n.name 0 n.width)) → Reach role ports frames p q
-      port role e q j = let o = wire_own (f ∷ p) n.name 0 n.width q j in inr (f, n, m, h n (inl refl), o.0, o.1, e)
+      port role e q j = let o = port_own (f ∷ p) n q j in inr (f, n, m, h n (inl refl), o.0, o.1, e)
 
       by : (role : Role) → n.role ≡ role → In x (port_joins role (points p wires (signal_at pins n.name)) (wire_points (f ∷ p) n.name 0 n.width)) → Reaches ports frames p x
       by Inner e l = absurd l

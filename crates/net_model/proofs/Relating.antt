@@ -15,7 +15,7 @@ use Rattle.rtl_ir.specs.declared.wire.Role.TheVariants.{Inner, Input, Output, In
 use Rattle.rtl_ir.specs.Ports.{ports_of}
 use Rattle.rtl_ir.specs.Flat.Cell.{Ports, instances}
 use Rattle.rtl_ir.specs.Flat.Driver.{Given, Driven}
-use Rattle.rtl_ir.specs.Flat.Place.{Frame, frame, Path, Place, place_same, IsOf}
+use Rattle.rtl_ir.specs.Flat.Place.{Frame, frame, Path, Place, place_same}
 use Rattle.rtl_ir.specs.Flat.Point.{Point, Constant, At, wire_points}
 use Rattle.rtl_ir.specs.Flat.Reads.{reads}
 use Rattle.rtl_ir.specs.Flat.Rows.{rows_of}
@@ -26,7 +26,7 @@ use Rattle.net_model.specs.Run.{Time, Start, Step, rows_at, row_at, run, TraceBe
 use Rattle.net_model.specs.Valuation.{Valuation}
 use Rattle.net_model.specs.Value.{value_of, meaning, meanings}
 use Rattle.net_model.specs.Refine.{run_of, ModuleBelow, ModulesBelow, AgreeOn, places_of, Solved}
-use Rattle.net_model.specs.Relate.{is_zero, Reached, OwnerIs, Says, PortOf, Reach, Related as Locally, SameMoment as LocalMoment, RowsRelate}
+use Rattle.net_model.specs.Relate.{is_zero, Reached, OwnerIs, Says, IsBitOf, PortOf, Reach, Related as Locally, SameMoment as LocalMoment, RowsRelate}
 use Rattle.net_model.proofs.Members.{In-left, In-right, In-cases, In-map, In-mapped, map-append, map-map}
 use Rattle.net_model.proofs.Settling.{applied_keeps}
 use Rattle.net_model.proofs.Running.{AlwaysMonotone, Solves, SameTime, run_below}
@@ -34,7 +34,7 @@ use Rattle.net_model.proofs.Places.{place_same-same}
 use Rattle.net_model.proofs.Orders.{below as below_order, flat as flat_order}
 use Rattle.net_model.proofs.Drivers.{value_on, TimeOn, meanings_kept}
 use Rattle.net_model.proofs.Instances.{instances_find, instances_have, rows_agree, agree_at}
-use Rattle.net_model.proofs.Own.{wire_own}
+use Rattle.net_model.proofs.Own.{port_own}
 use Rattle.net_model.proofs.Reaching.{rows_reach}
 
 -- in instances of the module, what is said; elsewhere the order of knowledge
@@ -110,16 +110,16 @@ places-append (Constant b ∷ ls) rs = places-append ls rs
 places-append (At p ∷ ls) rs = ap (λ z. p ∷ z) (places-append ls rs)
 
 -- the bits of ports of a role
-pub role_is : (r : Role) (p : Path) (ns : List PortLine) (q : Place) → In q (places (role_points r p ns)) → (n : PortLine) × In n ns × (q.path ≡ p) × IsOf n.name q.spot × (n.role ≡ r)
+pub role_is : (r : Role) (p : Path) (ns : List PortLine) (q : Place) → In q (places (role_points r p ns)) → (n : PortLine) × In n ns × (q.path ≡ p) × IsBitOf n q.spot × (n.role ≡ r)
 role_is r p [] q i = absurd i
 role_is r p (n ∷ ns) q i =
     ⊎_elim (λ l. by r n.role refl l) (λ z. let k = role_is r p ns q z in (k.0, inr k.1, k.2, k.3, k.4)) (In-cases q (places (if_role r n.role (wire_points p n.name 0 n.width))) (places (role_points r p ns)) (subst (In q) (places-append (if_role r n.role (wire_points p n.name 0 n.width)) (role_points r p ns)) i))
   where
     Is : Role → Type 0
-    Is r = (z : PortLine) × In z (n ∷ ns) × (q.path ≡ p) × IsOf z.name q.spot × (z.role ≡ r)
+    Is r = (z : PortLine) × In z (n ∷ ns) × (q.path ≡ p) × IsBitOf z q.spot × (z.role ≡ r)
 
     own : (r : Role) → n.role ≡ r → In q (places (wire_points p n.name 0 n.width)) → Is r
-    own r e l = let o = wire_own p n.name 0 n.width q l in (n, inl refl, o.0, o.1, e)
+    own r e l = let o = port_own p n q l in (n, inl refl, o.0, o.1, e)
 
     by : (r s : Role) → n.role ≡ s → In q (places (if_role r s (wire_points p n.name 0 n.width))) → Is r
     by Inner Inner e l = own Inner e l
@@ -219,14 +219,14 @@ module _ (b c : Module) (ports : Ports) (says : Says) (r : RowsRelate b c ports 
     port_below role frames p w q a o h =
         ⊎_elim
         (λ y. let s : says q.path w q.spot a = h.0 (subst (OwnerIs b.id) (sym o.4) y) in
-        subst (λ z. Below a (w (record { path = q.path; spot = z }))) (sym o.5.1) (r.port_from q.path w o.1 (b_port o.0.module_name o.1 o.3 y) o.5.0 a (subst (λ z. says q.path w z a) o.5.1 s)))
+        subst (λ z. Below a (w (record { path = q.path; spot = z }))) (sym o.5.2) (r.port_from q.path w o.1 (b_port o.0.module_name o.1 o.3 y) o.5.0 o.5.1 a (subst (λ z. says q.path w z a) o.5.2 s)))
         (λ n. h.1 (λ z. n (subst (OwnerIs b.id) o.4 z)))
         (decide_id o.0.module_name b.id)
 
     port_rel : (role : Role) (frames : List Frame) (p : Path) (w : Valuation) (q : Place) (a : Bit) → PortOf role (design_ports d) frames p q → Below a (w q) → Rel b.id says w q a
     port_rel role frames p w q a o h = (
       λ z. let y : o.0.module_name ≡ b.id = subst (OwnerIs b.id) o.4 z in
-          subst (λ s. says q.path w s a) (sym o.5.1) (r.port_to q.path w o.1 (b_port o.0.module_name o.1 o.3 y) o.5.0 a (subst (λ s. Below a (w (record { path = q.path; spot = s }))) o.5.1 h)),
+          subst (λ s. says q.path w s a) (sym o.5.2) (r.port_to q.path w o.1 (b_port o.0.module_name o.1 o.3 y) o.5.0 o.5.1 a (subst (λ s. Below a (w (record { path = q.path; spot = s }))) o.5.2 h)),
       λ _. h,
     )
 
@@ -302,18 +302,18 @@ module _ (b c : Module) (ports : Ports) (says : Says) (r : RowsRelate b c ports 
 
     -- the bits of the ports of the module that is run
     module _ (m n : Module) (g : Pair m n) (w : Valuation) where
-      root_below : (q : Place) (a : Bit) (z : PortLine) → In z (ports_of m.wires) → q.path ≡ root m → IsOf z.name q.spot → Rel b.id says w q a → Below a (w q)
+      root_below : (q : Place) (a : Bit) (z : PortLine) → In z (ports_of m.wires) → q.path ≡ root m → IsBitOf z q.spot → Rel b.id says w q a → Below a (w q)
       root_below q a z i o f h =
           ⊎_elim
           (λ y. let s : says q.path w q.spot a = h.0 (subst (OwnerIs b.id) (sym o) y) in
-          subst (λ l. Below a (w (record { path = q.path; spot = l }))) (sym f.1) (r.port_from q.path w z (subst (λ l. In z (ports_of l.wires)) (pair_is m n g y) i) f.0 a (subst (λ l. says q.path w l a) f.1 s)))
+          subst (λ l. Below a (w (record { path = q.path; spot = l }))) (sym f.2) (r.port_from q.path w z (subst (λ l. In z (ports_of l.wires)) (pair_is m n g y) i) f.0 f.1 a (subst (λ l. says q.path w l a) f.2 s)))
           (λ y. h.1 (λ l. y (subst (OwnerIs b.id) o l)))
           (decide_id m.id b.id)
 
-      root_rel : (q : Place) (a : Bit) (z : PortLine) → In z (ports_of m.wires) → q.path ≡ root m → IsOf z.name q.spot → Below a (w q) → Rel b.id says w q a
+      root_rel : (q : Place) (a : Bit) (z : PortLine) → In z (ports_of m.wires) → q.path ≡ root m → IsBitOf z q.spot → Below a (w q) → Rel b.id says w q a
       root_rel q a z i o f h = (
         λ l. let y : m.id ≡ b.id = subst (OwnerIs b.id) o l in
-            subst (λ s. says q.path w s a) (sym f.1) (r.port_to q.path w z (subst (λ s. In z (ports_of s.wires)) (pair_is m n g y) i) f.0 a (subst (λ s. Below a (w (record { path = q.path; spot = s }))) f.1 h)),
+            subst (λ s. says q.path w s a) (sym f.2) (r.port_to q.path w z (subst (λ s. In z (ports_of s.wires)) (pair_is m n g y) i) f.0 f.1 a (subst (λ s. Below a (w (record { path = q.path; spot = s }))) f.2 h)),
         λ _. h,
       )
 
@@ -371,7 +371,7 @@ module _ (b c : Module) (ports : Ports) (says : Says) (r : RowsRelate b c ports 
         let a = now_reached n t u st w s in
         applied_keeps place_same place_same-same (rows_at t (meanings (flat d m))) v (λ q z. Rel b.id says w q z) (λ q. (λ o. r.unknown q.path w q.spot, λ o. tt)) (λ q i. let k = In-mapped (λ z. row_at t (meaning z)) q (flat d m) (subst (In q) (map-map meaning (row_at t) (flat d m)) i) in subst (λ z. Rel b.id says w z.bit (z.value v)) (sym k.2) (flat_related m n g t u (moment n t u st) v w h a.0 a.1 k.0 k.1))
 
-    seen : (m n : Module) → Pair m n → (os : List Place) → ((o : Place) → In o os → (z : PortLine) × In z (ports_of m.wires) × (o.path ≡ root m) × IsOf z.name o.spot) → (v w : Valuation) → Related b.id says v w → AreBelow (map v os) (map w os)
+    seen : (m n : Module) → Pair m n → (os : List Place) → ((o : Place) → In o os → (z : PortLine) × In z (ports_of m.wires) × (o.path ≡ root m) × IsBitOf z o.spot) → (v w : Valuation) → Related b.id says v w → AreBelow (map v os) (map w os)
     seen m n g [] is v w h = tt
     seen m n g (o ∷ os) is v w h =
         let k = is o (inl refl) in
@@ -382,7 +382,7 @@ module _ (b c : Module) (ports : Ports) (says : Says) (r : RowsRelate b c ports 
     module_below m n g u =
         let more : List Driven = undriven_rows (driven_rows e n) (places (tree_points e (root n) n)) in
         let parts : meanings (flat e n) ≡ meanings (driven_rows e n) ++ meanings more = map-append meaning (driven_rows e n) more in
-        let is : (o : Place) → In o (output_places m) → (z : PortLine) × In z (ports_of m.wires) × (o.path ≡ root m) × IsOf z.name o.spot = λ o i. let z = role_is Output (root m) (ports_of m.wires) o i in (z.0, z.1, z.2, z.3) in
+        let is : (o : Place) → In o (output_places m) → (z : PortLine) × In z (ports_of m.wires) × (o.path ≡ root m) × IsBitOf z o.spot = λ o i. let z = role_is Output (root m) (ports_of m.wires) o i in (z.0, z.1, z.2, z.3) in
         let below : (stimulus : List (List Bit)) → TraceBelow (run_of d m stimulus) (run place_same (meanings (driven_rows e n) ++ meanings more) (output_places m) stimulus) = run_below place_same place_same place_same-same (Related b.id says) (Was n) (meanings (flat d m)) (meanings (driven_rows e n)) (meanings more) (output_places m) (output_places m) (subst (λ z. AlwaysMonotone FlatBelow z) parts (meanings_kept FlatBelow flat_order (flat e n))) (subst Distinct (sym (map-map meaning (λ z. z.bit) (driven_rows e n))) u) (λ w s. (zero, refl, (Start, solved_from (driven_rows e n) Start w s))) (λ v x f w q s. (suc q.0, refl, (Step v x f, (solved_from (driven_rows e n) (Step v x f) w s, q.1, q.2)))) (λ w q. (λ o. r.unknown q.path w q.spot, λ o. tt)) (kept m n g) (seen m n g (output_places m) is) in
         let outs : output_places m ≡ output_places n = ap (λ z. places (role_points Output (frame [] z ∷ []) (ports_of m.wires))) (pair_id m n g) ∙ ap (λ z. places (role_points Output (root n) z)) (pair_ports m n g) in
         (pair_id m n g, pair_ports m n g, λ stimulus. subst (λ z. TraceBelow (run_of d m stimulus) (run place_same (meanings (flat e n)) z stimulus)) outs (subst (λ z. TraceBelow (run_of d m stimulus) (run place_same z (output_places m) stimulus)) (sym parts) (below stimulus)))

@@ -113,7 +113,7 @@ module _ (d : Design) (fine : AreWellDriven d) where
       let frames : f.0 ≡ o.0 = under_one f.0 o.0 p y.0.place.path under (record { front = []; is = at }) in
       let here : y.0.place.path ≡ f.0 ∷ p = at ∙ ap (λ z. z ∷ p) (sym frames) in
       let k = fine.modules f.1 (named_in d.modules f.0.module_name f.1 f.3) in
-      k.apart (f.0 ∷ p) y.0 (tree_own s (f.0 ∷ p) f.1 y.0 f.4 here) here o.1 (ports_are f.0.module_name f.1 f.3 o.1 (subst (λ z. In o.1 (design_ports d z.module_name)) (sym frames) o.3)) o.6 (o.5.0, ap (λ z. z.spot) (sym same) ∙ o.5.1))
+      k.apart (f.0 ∷ p) y.0 (tree_own s (f.0 ∷ p) f.1 y.0 f.4 here) here o.1 (ports_are f.0.module_name f.1 f.3 o.1 (subst (λ z. In o.1 (design_ports d z.module_name)) (sym frames) o.3)) o.6 (o.5.0, ap (λ z. z.spot) (sym same) ∙ o.5.2))
       (rows_reach (design_ports d) p m x.0 x.1).place
 
   in_module_under : (s : ℕ) (p : Path) (f : Frame) (x : Driven) → In x (in_module (tree s) (f ∷ p) (named d.modules f.module_name)) → Under (f ∷ p) x.place.path
@@ -153,7 +153,7 @@ module _ (d : Design) (fine : AreWellDriven d) where
       subst Distinct (sym (places-append (given_rows qs 0) (tree_rows d (root m) m))) (Distinct-append (places_of (given_rows qs 0)) (places_of (tree_rows d (root m) m)) (subst Distinct (sym (given-places qs 0)) (k.inputs (root m))) (tree_apart (length d.modules) (root m) m i) (λ q j l. let y = place_at q (tree_rows d (root m) m) l in
       let z = role_is Input (root m) (ports_of m.wires) q (subst (λ a. In q a) (given-places qs 0) j) in
       let here : y.0.place.path ≡ root m = ap (λ a. a.path) (sym y.2) ∙ z.2 in
-      k.apart (root m) y.0 (tree_own (length d.modules) (root m) m y.0 y.1 here) here z.0 z.1 z.4 (z.3.0, ap (λ a. a.spot) (sym y.2) ∙ z.3.1)))
+      k.apart (root m) y.0 (tree_own (length d.modules) (root m) m y.0 y.1 here) here z.0 z.1 z.4 (z.3.0, ap (λ a. a.spot) (sym y.2) ∙ z.3.2)))
 
 pub one_driver : (d : Design) → AreWellDriven d → HasOneDriver d
 one_driver d fine = record { ids = fine.ids; rows = driven_apart d fine }

@@ -1,5 +1,5 @@
 -- What a pass owes under which bits go or change their meaning: a relation between the bits before and after, spot by spot.
-use Rattle.std.specs.Prelude.{◌≡◌, ◌⊎◌, ℕ, zero, suc, Bool, true, false, List, [], ◌∷◌}
+use Rattle.std.specs.Prelude.{◌≡◌, ◌⊎◌, ◌<◌, ℕ, zero, suc, Bool, true, false, List, [], ◌∷◌}
 use Rattle.rtl_bits.specs.declared.bit.Bit.{Bit}
 use Rattle.rtl_bits.specs.declared.bit.Bit.TheVariants.{X}
 use Rattle.rtl_bits.specs.Knowledge.{Below}
@@ -10,7 +10,7 @@ use Rattle.rtl_ir.specs.declared.wire.Role.TheVariants.{Input, Output}
 use Rattle.rtl_ir.specs.Ports.{ports_of}
 use Rattle.rtl_ir.specs.Flat.Cell.{Ports, instances}
 use Rattle.rtl_ir.specs.Flat.Driver.{Driven}
-use Rattle.rtl_ir.specs.Flat.Place.{Frame, Path, Spot, OfWire, Place, wire_place, IsOf}
+use Rattle.rtl_ir.specs.Flat.Place.{Frame, Path, Spot, OfWire, Place, wire_place}
 use Rattle.rtl_ir.specs.Flat.Rows.{rows_of}
 use Rattle.net_model.specs.Lists.{In}
 use Rattle.net_model.specs.Run.{Time, Start, Step}
@@ -40,10 +40,14 @@ OwnerIs id (f ∷ p) = f.module_name ≡ id
 abbrev pub Says : Type 1
 Says = Path → Valuation → Spot → Bit → Type 0
 
--- a bit of a port, of this role, of one of these instances in a module at this path
+-- the spot is one of the bits that a port has
+abbrev pub IsBitOf : PortLine → Spot → Type 0
+IsBitOf n spot = (at : ℕ) × (at < n.width) × (spot ≡ OfWire n.name at)
+
+-- a bit that a port has, of this role, of one of these instances in a module at this path
 abbrev pub PortOf : Role → Ports → List Frame → Path → Place → Type 0
 PortOf role ports frames p q =
-    (f : Frame) × (n : PortLine) × In f frames × In n (ports f.module_name) × (q.path ≡ f ∷ p) × IsOf n.name q.spot × (n.role ≡ role)
+    (f : Frame) × (n : PortLine) × In f frames × In n (ports f.module_name) × (q.path ≡ f ∷ p) × IsBitOf n q.spot × (n.role ≡ role)
 
 -- a bit of the module itself, or of a port of an instance
 abbrev pub Reach : Role → Ports → List Frame → Path → Place → Type 0
@@ -72,12 +76,12 @@ pub record RowsRelate (b c : Module) (ports : Ports) (says : Says) : Type 0 wher
   pub id : b.id ≡ c.id
   pub ports_same : ports_of b.wires ≡ ports_of c.wires
   pub children : instances b.cells ≡ instances c.cells
-  -- of a port it is said just that the bit before is below the bit after
+  -- of a bit that a port has it is said just that the bit before is below the bit after
   pub port_to :
-      (p : Path) (w : Valuation) (n : PortLine) → In n (ports_of b.wires) → (at : ℕ) (a : Bit) →
+      (p : Path) (w : Valuation) (n : PortLine) → In n (ports_of b.wires) → (at : ℕ) → at < n.width → (a : Bit) →
       Below a (w (wire_place p n.name at)) → says p w (OfWire n.name at) a
   pub port_from :
-      (p : Path) (w : Valuation) (n : PortLine) → In n (ports_of b.wires) → (at : ℕ) (a : Bit) →
+      (p : Path) (w : Valuation) (n : PortLine) → In n (ports_of b.wires) → (at : ℕ) → at < n.width → (a : Bit) →
       says p w (OfWire n.name at) a → Below a (w (wire_place p n.name at))
   -- x is allowed everywhere
   pub unknown : (p : Path) (w : Valuation) (s : Spot) → says p w s X

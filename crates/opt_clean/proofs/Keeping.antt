@@ -1,8 +1,8 @@
 -- The cells that are kept, with the connections to what the outside sees, do what the module does.
-use Rattle.std.proofs.Common.{◌≡◌, ℕ, zero, suc, ◌<◌, Bool, true, false, List, [], ◌∷◌, ◌++◌, length, Option, Some, None, ◌⊎◌, inl, inr, ⊎_elim, refl, sym, ◌∙◌, ap, subst, arith}
+use Rattle.std.proofs.Common.{◌≡◌, ℕ, zero, suc, ◌<◌, ◌≤◌, Bool, true, false, List, [], ◌∷◌, ◌++◌, length, Option, Some, None, ◌⊎◌, inl, inr, ⊎_elim, refl, sym, ◌∙◌, ap, subst, arith}
 use Rattle.std.specs.Prelude.{map, flat_map, slice_get, ◌||◌, is_some}
 use Rattle.std.specs.List.{list_any}
-use Rattle.std.proofs.lemmas.Bool.{or_parts}
+use Rattle.std.proofs.lemmas.Bool.{cases_lt, or_parts}
 use Rattle.rtl_bits.specs.declared.bit.Bit.{Bit}
 use Rattle.rtl_bits.specs.declared.bit.Bit.TheVariants.{S0, S1, X}
 use Rattle.rtl_bits.specs.Knowledge.{Below}
@@ -26,7 +26,7 @@ use Rattle.rtl_ir.specs.Faults.Wires.{is_inout}
 use Rattle.rtl_ir.specs.Flat.Cell.{Ports, cell_kind, cell_rows, cells_rows, instance_of, instances, listed}
 use Rattle.rtl_ir.specs.Flat.Driver.{Driven}
 use Rattle.rtl_ir.specs.Flat.Link.{link_rows}
-use Rattle.rtl_ir.specs.Flat.Place.{Frame, IsOf, OfWire, OfWord, Path, Place, Spot}
+use Rattle.rtl_ir.specs.Flat.Place.{Frame, OfWire, OfWord, Path, Place, Spot}
 use Rattle.rtl_ir.specs.Flat.Point.{At, bit_place, name_or_empty, pin_points, point}
 use Rattle.rtl_ir.specs.Flat.Reads.{read_points, reads}
 use Rattle.rtl_ir.specs.Flat.Rows.{plain_rows, rows_of}
@@ -51,7 +51,7 @@ use Rattle.rtl_ir.specs.declared.process.Process.{Process}
 use Rattle.std.specs.Prelude.{if◌then◌else◌}
 use Rattle.net_model.specs.Lists.{In, Distinct}
 use Rattle.net_model.specs.Refine.{AgreeOn, IsWellDriven, RefinesOver, Solved, places_of, with_body}
-use Rattle.net_model.specs.Relate.{KeepsTo, Reached, Related, RowsRelate, SameMoment, Says}
+use Rattle.net_model.specs.Relate.{IsBitOf, KeepsTo, Reached, Related, RowsRelate, SameMoment, Says}
 use Rattle.net_model.specs.Run.{Time}
 use Rattle.net_model.specs.Valuation.{Valuation, read, passed_of}
 use Rattle.net_model.specs.Value.{value_of}
@@ -78,11 +78,10 @@ use Rattle.opt_clean.proofs.Ways.{origin, origin_here, origin_on, origin_or, ori
 use Rattle.pass_laws.proofs.Finding.{in_place}
 use Rattle.pass_laws.proofs.Ports.{line_port, port_line, same_item}
 
--- the wire that has a bit
+-- the wire that a bit names
 pub record Home (wires : List Wire) (b : WireBit) : Type 0 where
   pub of : Wire
   pub there : slice_get wires b.wire ≡ Some of
-  pub inside : b.at < of.width
 
 -- the module with the marked cells and other connections
 abbrev pub with_marked : List Bool → List Link → Module → Module
@@ -231,9 +230,9 @@ module _ (tports : types.Ports) (m : Module) (marks : List Bool) (fine : MayRedu
   IsLive (Fixed c) = Unit {0}
   IsLive (OnWire b) = IsGone b → ⊥
 
-  -- the spot is a bit of a port
+  -- the spot is a bit that a port has
   abbrev pub OfPort : PortLine → Spot → Type 0
-  OfPort n s = In n (ports_of m.wires) × IsOf n.name s
+  OfPort n s = In n (ports_of m.wires) × IsBitOf n s
 
   -- the spot is that of a bit of a wire
   pub record IsAt (b : WireBit) (s : Spot) : Type 0 where
@@ -252,20 +251,25 @@ module _ (tports : types.Ports) (m : Module) (marks : List Bool) (fine : MayRedu
   abbrev pub kept_says : Says
   kept_says p w s a = KeptSays p w s a
 
-  -- a wire is a port, or no port has its name
-  port_or : (w : Wire) → In w m.wires → (at : ℕ) → ((n : PortLine) → OfPort n (OfWire w.name at) → ⊥) ⊎ (is_port w.role ≡ true)
-  port_or w i at = by (is_port w.role) refl
+  -- a bit is one that a port has, or is of no port
+  port_or : (w : Wire) → In w m.wires → (at : ℕ) → ((n : PortLine) → OfPort n (OfWire w.name at) → ⊥) ⊎ ((is_port w.role ≡ true) × (at < w.width))
+  port_or w i at = by (is_port w.role) refl (cases_lt at w.width)
     where
-      by : (t : Bool) → is_port w.role ≡ t → ((n : PortLine) → OfPort n (OfWire w.name at) → ⊥) ⊎ (is_port w.role ≡ true)
-      by true e = inr e
-      by false e = inl (λ n of.
+      its_wire : (n : PortLine) → OfPort n (OfWire w.name at) → (is_port w.role ≡ true) × (at < w.width)
+      its_wire n of =
           let k = line_port m.wires n of.0 in
-          let spot : OfWire w.name at ≡ OfWire n.name of.1.0 = of.1.1 in
+          let spot : OfWire w.name at ≡ OfWire n.name of.1.0 = of.1.2 in
           let name : w.name ≡ n.name = cc in
+          let place : at ≡ of.1.0 = cc in
           let names : w.name ≡ k.0.name = name ∙ ap (λ (z : PortLine). z.name) k.3 in
           let same : w ≡ k.0 = same_item (λ (z : Wire). z.name) m.wires fine.named w k.0 i k.1 names in
-          let no : true ≡ false = sym k.2 ∙ ap (λ (z : Wire). is_port z.role) (sym same) ∙ e in
-          absurd (cc))
+          let width : n.width ≡ w.width = ap (λ (z : PortLine). z.width) k.3 ∙ ap (λ (z : Wire). z.width) (sym same) in
+          (ap (λ (z : Wire). is_port z.role) same ∙ k.2, omega (arith, place, of.1.1, width))
+
+      by : (t : Bool) → is_port w.role ≡ t → (at < w.width) ⊎ (w.width ≤ at) → ((n : PortLine) → OfPort n (OfWire w.name at) → ⊥) ⊎ ((is_port w.role ≡ true) × (at < w.width))
+      by true e (inl l) = inr (e, l)
+      by true e (inr l) = inl (λ n of. let inside = (its_wire n of).1 in absurd (omega (arith, inside, l)))
+      by false e l = inl (λ n of. let no : true ≡ false = sym (its_wire n of).0 ∙ e in absurd (cc))
 
   -- a bit of a module has one spot
   pub one_spot : (p : Path) (b c : WireBit) → b.wire < length m.wires → c.wire < length m.wires → bit_place p m.wires b ≡ bit_place p m.wires c → b ≡ c
@@ -365,7 +369,7 @@ module _ (tports : types.Ports) (m : Module) (marks : List Bool) (fine : MayRedu
       (λ e. subst (λ r. Below a (read z (point p m.wires r))) e.0 (says.other (λ n of. none n (subst (OfPort n) spot of)) b (record { within = in_length b home; is = refl }) (subst IsLive (sym e.0) e.1)))
       (λ e. below_x a (z (bit_place p m.wires b)) (subst (λ r. Below a (read z (point p m.wires r))) e (says.other (λ n of. none n (subst (OfPort n) spot of)) b (record { within = in_length b home; is = refl }) (subst IsLive (sym e) tt))))
       (pin_from c i b j))
-      (λ e. says.port (line_of home.of) (port_line m.wires home.of (in_place m.wires b.wire home.of home.there) e, (b.at, spot)))
+      (λ e. says.port (line_of home.of) (port_line m.wires home.of (in_place m.wires b.wire home.of home.there) e.0, (b.at, e.1, spot)))
       (port_or home.of (in_place m.wires b.wire home.of home.there) b.at)
 
   pin_below : (p : Path) (z : Valuation) (c : Cell) → In c (marked marks m.cells) → (q : Place) → IsPinOf p m.wires c q → (a : Bit) → KeptSays p z q.spot a → Below a (z q)
@@ -377,8 +381,8 @@ module _ (tports : types.Ports) (m : Module) (marks : List Bool) (fine : MayRedu
   abbrev IsRead : Path → Place → Type 0
   IsRead p q = ((c : Cell) × In c (marked marks m.cells) × IsPinOf p m.wires c q) ⊎ IsWord p q
 
-  -- a bit of a spot of a port is one of a port
-  named_port : (b : WireBit) (home : Home m.wires b) (n : PortLine) → OfPort n (OfWire (name_or_empty (slice_get m.wires b.wire)) b.at) → is_port home.of.role ≡ true
+  -- a bit at a spot of a port is one that the port has
+  named_port : (b : WireBit) (home : Home m.wires b) (n : PortLine) → OfPort n (OfWire (name_or_empty (slice_get m.wires b.wire)) b.at) → (is_port home.of.role ≡ true) × (b.at < home.of.width)
   named_port b home n of =
       let spot : OfWire (name_or_empty (slice_get m.wires b.wire)) b.at ≡ OfWire home.of.name b.at = ap (λ o. OfWire (name_or_empty o) b.at) home.there in
       ⊎_elim
@@ -387,14 +391,14 @@ module _ (tports : types.Ports) (m : Module) (marks : List Bool) (fine : MayRedu
       (port_or home.of (in_place m.wires b.wire home.of home.there) b.at)
 
   -- what a connected bit comes from that the outside sees is live
-  shown_live : (b : WireBit) (r : SigBit) (home : Home m.wires b) → source_at js b ≡ Some r → is_shown home.of ≡ true → IsLive (from b)
+  shown_live : (b : WireBit) (r : SigBit) (home : Home m.wires b) → b.at < home.of.width → source_at js b ≡ Some r → is_shown home.of ≡ true → IsLive (from b)
   unfolding links_of
-  shown_live b r home e shown = by (from b) refl
+  shown_live b r home inside e shown = by (from b) refl
     where
       by : (z : SigBit) → from b ≡ z → IsLive z
       by (Fixed c) f = tt
       by (OnWire d) f =
-          let here : In b (shown_bits is_driven 0 m.wires) = shown_has is_driven 0 m.wires b (record { place = b.wire; of = home.of; there = home.there; is = omega arith; shown = shown; inside = home.inside; fit = ap is_some e }) in
+          let here : In b (shown_bits is_driven 0 m.wires) = shown_has is_driven 0 m.wires b (record { place = b.wire; of = home.of; there = home.there; is = omega arith; shown = shown; inside = inside; fit = ap is_some e }) in
           let follows : source_of m.links b ≡ OnWire d = origin_wire js (OnWire b) d f in
           let right : In d (right_bits (links_of m.wires m.links)) = subst (In d) (sym (shown_rights is_driven (source_of m.links) 0 m.wires)) (in_sources (source_of m.links) (shown_bits is_driven 0 m.wires) b d here follows) in
           read_live d (In-left d (right_bits (links_of m.wires m.links)) (flat_map (input_bits tports) (marked marks m.cells)) right)
@@ -464,9 +468,9 @@ module _ (tports : types.Ports) (m : Module) (marks : List Bool) (fine : MayRedu
         by Inout f g = let no : true ≡ false = sym (ap is_inout f) ∙ fine.single w (in_place m.wires b.wire w e) in absurd (cc)
 
     -- a connected bit that the outside sees has its row
-    x_row : (b : WireBit) (r : SigBit) (home : Home m.wires b) → source_at js b ≡ Some r → is_shown home.of ≡ true → In (row_from p m.wires from b) after
-    x_row b r home e shown =
-        let here : In b (shown_bits is_driven 0 m.wires) = shown_has is_driven 0 m.wires b (record { place = b.wire; of = home.of; there = home.there; is = omega arith; shown = shown; inside = home.inside; fit = ap is_some e }) in
+    x_row : (b : WireBit) (r : SigBit) (home : Home m.wires b) → b.at < home.of.width → source_at js b ≡ Some r → is_shown home.of ≡ true → In (row_from p m.wires from b) after
+    x_row b r home inside e shown =
+        let here : In b (shown_bits is_driven 0 m.wires) = shown_has is_driven 0 m.wires b (record { place = b.wire; of = home.of; there = home.there; is = omega arith; shown = shown; inside = inside; fit = ap is_some e }) in
         let link : In (row_from p m.wires from b) (link_rows p m.wires x_links) = subst (In (row_from p m.wires from b)) (sym (shown_rows p m.wires is_driven from 0 m.wires)) (In-map (row_from p m.wires from) b (shown_bits is_driven 0 m.wires) here) in
         In-right (row_from p m.wires from b) (cells_rows start ports p m.wires (marked marks m.cells)) (plain_rows p target) (subst (In (row_from p m.wires from b)) (sym plain_after) (In-left (row_from p m.wires from b) (link_rows p m.wires x_links) (stored p) link))
 
@@ -479,14 +483,14 @@ module _ (tports : types.Ports) (m : Module) (marks : List Bool) (fine : MayRedu
           let says : KeptSays p w (OfWire (name_or_empty (slice_get m.wires b.wire)) b.at) (v (bit_place p m.wires b)) = h.own (OfWire (name_or_empty (slice_get m.wires b.wire)) b.at) in
           ⊎_elim
           (λ none. says.other (λ n of. none n (subst (OfPort n) spot of)) b (record { within = in_length b home; is = refl }) live)
-          (λ port. by port (says.port (line_of home.of) (port_line m.wires home.of here port, (b.at, spot))) (source_at js b) refl)
+          (λ port. by port.0 port.1 (says.port (line_of home.of) (port_line m.wires home.of here port.0, (b.at, port.1, spot))) (source_at js b) refl)
           (port_or home.of here b.at)
         where
-          by : is_port home.of.role ≡ true → Below (v (bit_place p m.wires b)) (w (bit_place p m.wires b)) → (o : Option SigBit) → source_at js b ≡ o → Below (v (bit_place p m.wires b)) (read w (point p m.wires (from b)))
-          by port low None e = subst (λ r. Below (v (bit_place p m.wires b)) (read w (point p m.wires r))) (sym (own_from b e)) low
-          by port low (Some r) e =
+          by : is_port home.of.role ≡ true → b.at < home.of.width → Below (v (bit_place p m.wires b)) (w (bit_place p m.wires b)) → (o : Option SigBit) → source_at js b ≡ o → Below (v (bit_place p m.wires b)) (read w (point p m.wires (from b)))
+          by port inside low None e = subst (λ r. Below (v (bit_place p m.wires b)) (read w (point p m.wires r))) (sym (own_from b e)) low
+          by port inside low (Some r) e =
               let shown : is_shown home.of ≡ true = seen (join_row p m.wires (record { bit = b; source = r })) b home.of (row_in (record { bit = b; source = r }) (source_in js b r e)) refl home.there port in
-              let tight : Below (w (bit_place p m.wires b)) (passed_of (read w (point p m.wires (from b)))) = s.tight (row_from p m.wires from b) (x_row b r home e shown) in
+              let tight : Below (w (bit_place p m.wires b)) (passed_of (read w (point p m.wires (from b)))) = s.tight (row_from p m.wires from b) (x_row b r home inside e shown) in
               Below_trans (v (bit_place p m.wires b)) (w (bit_place p m.wires b)) (read w (point p m.wires (from b))) low (Below_trans (w (bit_place p m.wires b)) (passed_of (read w (point p m.wires (from b)))) (read w (point p m.wires (from b))) tight (passed_below (read w (point p m.wires (from b)))))
 
       source_below : (r : SigBit) → ((b : WireBit) → r ≡ OnWire b → Home m.wires b) → IsLive (origin js r) → Below (read v (point p m.wires r)) (read w (point p m.wires (origin js r)))
@@ -502,10 +506,10 @@ module _ (tports : types.Ports) (m : Module) (marks : List Bool) (fine : MayRedu
           let low : IsLive (from j.bit) → Below (read v (point p m.wires j.source)) (read w (point p m.wires (from j.bit))) = λ live. subst (λ r. Below (read v (point p m.wires j.source)) (read w (point p m.wires r))) (sym same) (source_below j.source (λ b e. fine.homes b (right_named b (rights_in m.links j i b e))) (subst IsLive same live)) in
           record {
             port = λ n of.
-                let port : is_port home.of.role ≡ true = named_port j.bit home n of in
-                let shown : is_shown home.of ≡ true = seen (join_row p m.wires j) j.bit home.of (row_in j i) refl home.there port in
-                let met : Below (passed_of (read w (point p m.wires (from j.bit)))) (w (bit_place p m.wires j.bit)) = s.met (row_from p m.wires from j.bit) (x_row j.bit j.source home is shown) in
-                Below_trans (passed_of (read v (point p m.wires j.source))) (passed_of (read w (point p m.wires (from j.bit)))) (w (bit_place p m.wires j.bit)) (passed_kept (read v (point p m.wires j.source)) (read w (point p m.wires (from j.bit))) (low (shown_live j.bit j.source home is shown))) met;
+                let port = named_port j.bit home n of in
+                let shown : is_shown home.of ≡ true = seen (join_row p m.wires j) j.bit home.of (row_in j i) refl home.there port.0 in
+                let met : Below (passed_of (read w (point p m.wires (from j.bit)))) (w (bit_place p m.wires j.bit)) = s.met (row_from p m.wires from j.bit) (x_row j.bit j.source home port.1 is shown) in
+                Below_trans (passed_of (read v (point p m.wires j.source))) (passed_of (read w (point p m.wires (from j.bit)))) (w (bit_place p m.wires j.bit)) (passed_kept (read v (point p m.wires j.source)) (read w (point p m.wires (from j.bit))) (low (shown_live j.bit j.source home port.1 is shown))) met;
             other = λ none b at live.
                 let b_is : b ≡ j.bit = one_spot p b j.bit at.within (in_length j.bit home) (λ k. record { path = p; spot = sym at.is k }) in
                 let low' = low (subst (λ z. IsLive (from z)) b_is live) in
@@ -550,7 +554,7 @@ module _ (tports : types.Ports) (m : Module) (marks : List Bool) (fine : MayRedu
           ap (λ (q : Place). q.path) k.3,
           record {
             port = λ n of.
-                let port : is_port home.of.role ≡ true = named_port k.0 home n (subst (OfPort n) spot of) in
+                let port : is_port home.of.role ≡ true = (named_port k.0 home n (subst (OfPort n) spot of)).0 in
                 absurd (unseen c i k.0 k.2 home.of home.there (seen x k.0 home.of (In-left x (cells_rows start ports p m.wires m.cells) (plain_rows p m) row) k.3 home.there port));
             other = λ none b at live.
                 let is : b ≡ k.0 = one_spot p b k.0 at.within (in_length k.0 home) (λ z. record { path = p; spot = (sym at.is ∙ spot) z }) in
@@ -655,12 +659,12 @@ module _ (tports : types.Ports) (m : Module) (marks : List Bool) (fine : MayRedu
     id = refl;
     ports_same = refl;
     children = children_stay;
-    port_to = λ p w n i at a low. record {
+    port_to = λ p w n i at lt a low. record {
       port = λ k of. low;
-      other = λ none b is live. absurd (none n (i, (at, refl)));
+      other = λ none b is live. absurd (none n (i, (at, lt, refl)));
       word = λ name address j is. low;
     };
-    port_from = λ p w n i at a says. says.port n (i, (at, refl));
+    port_from = λ p w n i at lt a says. says.port n (i, (at, lt, refl));
     unknown = λ p w s. record { port = λ n of. tt; other = λ none b at live. tt; word = λ name address at is. tt };
     rows = λ p t u st v w h n r x i. keeps ports p driven t u st v w h n r x i;
   }

@@ -11,6 +11,7 @@ pub mod Keeping
 pub mod Once
 pub mod Reducing
 pub mod Ends
+pub mod Named
 pub mod Moved
 pub mod MovedMemories
 pub mod Trimming

@@ -1,6 +1,6 @@
 -- In a module that a pass may be given, what drives a bit of a wire is the only thing that does.
 use Rattle.std.proofs.Common.{◌≡◌, ℕ, zero, suc, ◌+◌, ◌<◌, ◌≤◌, Bool, true, false, cond, if◌then◌else◌, List, [], ◌∷◌, ◌++◌, map, Option, Some, None, ◌⊎◌, inl, inr, ⊎_elim, refl, sym, ◌∙◌, ap, subst, arith}
-use Rattle.std.specs.Prelude.{find, flat_map, is_some, option_map, slice_get}
+use Rattle.std.specs.Prelude.{find, is_some, option_map, slice_get}
 use Rattle.rtl_sig.specs.declared.sig.SigBit.{SigBit}
 use Rattle.rtl_sig.specs.declared.sig.SigBit.TheVariants as sig
 use Rattle.rtl_sig.specs.declared.sig.WireBit.{WireBit}
@@ -23,20 +23,12 @@ use Rattle.pass_laws.specs.Bits.{pin_bits}
 use Rattle.pass_laws.specs.Ready.{IsReady}
 use Rattle.pass_laws.proofs.Counting.{bits_of, count, counted}
 use Rattle.pass_laws.proofs.Faultless.{IsPlain, plain}
-use Rattle.opt_clean.specs.Clean.{is_all_inside}
 use Rattle.opt_clean.specs.Keep.{is_shown, output_bits}
 use Rattle.opt_clean.specs.Linked.{Drives, IsOnce, cell_place, is_link, is_linked}
 use Rattle.opt_clean.specs.Runs.{ended, is_connected, run_link, runs, shown_links}
-use Rattle.opt_clean.specs.Wires.{cell_bits, link_bits, named_bits}
-use Rattle.opt_clean.proofs.Bits.{in_flat}
-use Rattle.opt_clean.proofs.Cleaning.{homes_of}
 use Rattle.opt_clean.proofs.Joins.{source_in}
-use Rattle.opt_clean.proofs.Keeping.{Home}
-use Rattle.opt_clean.proofs.Once.{driven_once}
 use Rattle.pass_laws.proofs.Once.{count_in, driver_found}
-use Rattle.opt_clean.proofs.Reducing.{pins_have}
 use Rattle.opt_clean.proofs.Showing.{wire_in}
-use Rattle.pass_laws.proofs.Finding.{in_place}
 
 -- the only drive of a bit is found
 find_only : (ds : List Drive) (d : Drive) → In d ds → count d.bit (bits_of ds) ≤ 1 → find (λ (e : Drive). same_bit e.bit d.bit) ds ≡ Some d
@@ -183,13 +175,13 @@ module _ (ports : Ports) (m : Module) (ready : IsReady ports m) where
   in_links : (d : Drive) → In d l → In d (drives_of ports m)
   in_links d i = In-left d (((p ++ c) ++ l) ++ t) r (In-left d ((p ++ c) ++ l) t (In-right d (p ++ c) l i))
 
-  only : (d : Drive) → Home m.wires d.bit → In d (drives_of ports m) → driver_in (drives_of ports m) d.bit ≡ Some d.source
-  only d home i =
-      ap (option_map (λ (e : Drive). e.source)) (find_only (drives_of ports m) d i (omega (arith, driven_once ports m ready d.bit home, counted d.bit (drives_of ports m))))
+  only : (d : Drive) → In d (drives_of ports m) → driver_in (drives_of ports m) d.bit ≡ Some d.source
+  only d i =
+      ap (option_map (λ (e : Drive). e.source)) (find_only (drives_of ports m) d i (omega (arith, ready.once d.bit, counted d.bit (drives_of ports m))))
 
   -- a connection drives the bit, and nothing else does
-  linked : (b : WireBit) → Home m.wires b → is_linked ports m b ≡ is_connected m.links b
-  linked b home = by (source_at (all_joins m.links) b) refl
+  linked : (b : WireBit) → is_linked ports m b ≡ is_connected m.links b
+  linked b = by (source_at (all_joins m.links) b) refl
     where
       from_link : (s : Source) → driver_in (drives_of ports m) b ≡ Some s → source_at (all_joins m.links) b ≡ None → is_link (Some s) ≡ false
       from_link FromPort e f = refl
@@ -228,7 +220,7 @@ module _ (ports : Ports) (m : Module) (ready : IsReady ports m) where
       by (Some s) e =
           let d : Drive = record { bit = b; source = FromLink s } in
           let i : In d l = In-map (λ (j : Join). record { bit = j.bit; source = FromLink j.source }) (record { bit = b; source = s }) (all_joins m.links) (source_in (all_joins m.links) b s e) in
-          ap is_link (only d home (in_links d i)) ∙ sym (ap is_some e)
+          ap is_link (only d (in_links d i)) ∙ sym (ap is_some e)
       by None e = none (driver_in (drives_of ports m) b) refl ∙ sym (ap is_some e)
         where
           none : (o : Option Source) → driver_in (drives_of ports m) b ≡ o → is_link (driver_in (drives_of ports m) b) ≡ false
@@ -246,62 +238,58 @@ module _ (ports : Ports) (m : Module) (ready : IsReady ports m) where
   map_slice f (y ∷ xs) (suc n) x e = map_slice f xs n x e
 
   -- what drives the bits of the cells, whose inputs may be followed
-  module _ (homes : (b : WireBit) → In b (named_bits m) → Home m.wires b) where
-    same_outputs : (d : Cell) → output_bits ports (followed_cell ports m.links d) ≡ output_bits ports d
-    same_outputs d = bits_stay (cell_type ports d.kind_name) m.links d.pins
+  same_outputs : (d : Cell) → output_bits ports (followed_cell ports m.links d) ≡ output_bits ports d
+  same_outputs d = bits_stay (cell_type ports d.kind_name) m.links d.pins
 
-    drives : Drives ports m (followed ports m).cells
-    drives = record {
-      forth = λ i d at b j.
-          let k = slice_map (followed_cell ports m.links) m.cells i d at in
-          let out : In b (output_bits ports k.0) = subst (In b) (ap (output_bits ports) k.2 ∙ same_outputs k.0) j in
-          let home : Home m.wires b = homes b (In-left b (flat_map cell_bits m.cells) (flat_map link_bits m.links) (in_flat cell_bits m.cells k.0 b (in_place m.cells i k.0 k.1) (pins_have (cell_type ports k.0.kind_name) k.0.pins b out))) in
-          let h = cell_has ports 0 m.cells i k.0 b k.1 out in
-          let z : 0 + i ≡ i = omega arith in
-          ap cell_place (only (record { bit = b; source = FromCell (0 + i) h.0 h.1 }) home (in_cells (record { bit = b; source = FromCell (0 + i) h.0 h.1 }) h.2)) ∙ ap (λ n. n ∷ []) z;
-      back = λ b i j. place b i (driver_in (drives_of ports m) b) refl j;
-    }
-      where
-        found : (b : WireBit) (i n at : ℕ) → driver_in (drives_of ports m) b ≡ Some (FromCell i n at) → (d : Cell) × (slice_get (followed ports m).cells i ≡ Some d) × In b (output_bits ports d)
-        found b i n at e =
-            let it : Drive = record { bit = b; source = FromCell i n at } in
-            ⊎_elim
-            (λ port. absurd (differ_port i n at port))
-            (λ other. ⊎_elim
-            (λ cell. let k = cell_from ports 0 m.cells it cell in
-            let sum : i ≡ 0 + k.0 = same_cell i n at (0 + k.0) k.4.0 k.4.1 k.4.2 in
-            let same : i ≡ k.0 = omega (arith, sum) in
-            (followed_cell ports m.links k.1, map_slice (followed_cell ports m.links) m.cells i k.1 (ap (slice_get m.cells) same ∙ k.2), subst (In b) (sym (same_outputs k.1)) k.3))
-            (λ link. let k = In-mapped (λ (j : Join). record { bit = j.bit; source = FromLink j.source }) it (all_joins m.links) link in absurd (differ_link i n at k.0.source (ap (λ (z : Drive). z.source) k.2)))
-            other)
-            (cases it (driver_found (drives_of ports m) b (FromCell i n at) e))
-          where
-            differ_port : (x y z : ℕ) → FromCell x y z ≡ FromPort → ⊥
-            differ_port x y z e = cc
+  drives : Drives ports m (followed ports m).cells
+  drives = record {
+    forth = λ i d at b j.
+        let k = slice_map (followed_cell ports m.links) m.cells i d at in
+        let out : In b (output_bits ports k.0) = subst (In b) (ap (output_bits ports) k.2 ∙ same_outputs k.0) j in
+        let h = cell_has ports 0 m.cells i k.0 b k.1 out in
+        let z : 0 + i ≡ i = omega arith in
+        ap cell_place (only (record { bit = b; source = FromCell (0 + i) h.0 h.1 }) (in_cells (record { bit = b; source = FromCell (0 + i) h.0 h.1 }) h.2)) ∙ ap (λ n. n ∷ []) z;
+    back = λ b i j. place b i (driver_in (drives_of ports m) b) refl j;
+  }
+    where
+      found : (b : WireBit) (i n at : ℕ) → driver_in (drives_of ports m) b ≡ Some (FromCell i n at) → (d : Cell) × (slice_get (followed ports m).cells i ≡ Some d) × In b (output_bits ports d)
+      found b i n at e =
+          let it : Drive = record { bit = b; source = FromCell i n at } in
+          ⊎_elim
+          (λ port. absurd (differ_port i n at port))
+          (λ other. ⊎_elim
+          (λ cell. let k = cell_from ports 0 m.cells it cell in
+          let sum : i ≡ 0 + k.0 = same_cell i n at (0 + k.0) k.4.0 k.4.1 k.4.2 in
+          let same : i ≡ k.0 = omega (arith, sum) in
+          (followed_cell ports m.links k.1, map_slice (followed_cell ports m.links) m.cells i k.1 (ap (slice_get m.cells) same ∙ k.2), subst (In b) (sym (same_outputs k.1)) k.3))
+          (λ link. let k = In-mapped (λ (j : Join). record { bit = j.bit; source = FromLink j.source }) it (all_joins m.links) link in absurd (differ_link i n at k.0.source (ap (λ (z : Drive). z.source) k.2)))
+          other)
+          (cases it (driver_found (drives_of ports m) b (FromCell i n at) e))
+        where
+          differ_port : (x y z : ℕ) → FromCell x y z ≡ FromPort → ⊥
+          differ_port x y z e = cc
 
-            differ_link : (x y z : ℕ) (s : SigBit) → FromCell x y z ≡ FromLink s → ⊥
-            differ_link x y z s e = cc
+          differ_link : (x y z : ℕ) (s : SigBit) → FromCell x y z ≡ FromLink s → ⊥
+          differ_link x y z s e = cc
 
-            same_cell : (x y z u v w : ℕ) → FromCell x y z ≡ FromCell u v w → x ≡ u
-            same_cell x y z u v w e = cc
+          same_cell : (x y z u v w : ℕ) → FromCell x y z ≡ FromCell u v w → x ≡ u
+          same_cell x y z u v w e = cc
 
-        place : (b : WireBit) (i : ℕ) (o : Option Source) → driver_in (drives_of ports m) b ≡ o → In i (cell_place (driver_in (drives_of ports m) b)) → (d : Cell) × (slice_get (followed ports m).cells i ≡ Some d) × In b (output_bits ports d)
-        place b i o e j = by o e (subst (λ z. In i (cell_place z)) e j)
-          where
-            by : (o : Option Source) → driver_in (drives_of ports m) b ≡ o → In i (cell_place o) → (d : Cell) × (slice_get (followed ports m).cells i ≡ Some d) × In b (output_bits ports d)
-            by None f k = absurd k
-            by (Some FromPort) f k = absurd k
-            by (Some (FromLink s)) f k = absurd k
-            by (Some (FromTree x)) f k = absurd k
-            by (Some (FromRules x)) f k = absurd k
-            by (Some (FromCell x y z)) f (inl same) = found b i y z (f ∙ ap (λ n. Some (FromCell n y z)) (sym same))
-            by (Some (FromCell x y z)) f (inr k) = absurd k
+      place : (b : WireBit) (i : ℕ) (o : Option Source) → driver_in (drives_of ports m) b ≡ o → In i (cell_place (driver_in (drives_of ports m) b)) → (d : Cell) × (slice_get (followed ports m).cells i ≡ Some d) × In b (output_bits ports d)
+      place b i o e j = by o e (subst (λ z. In i (cell_place z)) e j)
+        where
+          by : (o : Option Source) → driver_in (drives_of ports m) b ≡ o → In i (cell_place o) → (d : Cell) × (slice_get (followed ports m).cells i ≡ Some d) × In b (output_bits ports d)
+          by None f k = absurd k
+          by (Some FromPort) f k = absurd k
+          by (Some (FromLink s)) f k = absurd k
+          by (Some (FromTree x)) f k = absurd k
+          by (Some (FromRules x)) f k = absurd k
+          by (Some (FromCell x y z)) f (inl same) = found b i y z (f ∙ ap (λ n. Some (FromCell n y z)) (sym same))
+          by (Some (FromCell x y z)) f (inr k) = absurd k
 
--- what drives the bits of a module that a pass may be given, where each bit is one of the wires
-pub is_once : (ports : Ports) (m : Module) → IsReady ports m → is_all_inside m ≡ true → IsOnce ports m
-is_once ports m ready inside = record {
-  links = λ source. shown_same (is_linked ports m) (is_connected m.links) source 0 m.wires (λ k w e b f lt.
-      let z : 0 + k ≡ k = omega arith in
-      linked ports m ready b (record { of = w; there = ap (slice_get m.wires) (f ∙ z) ∙ e; inside = lt }));
-  drives = drives ports m ready (homes_of m inside);
+-- what drives the bits of a module that a pass may be given
+pub is_once : (ports : Ports) (m : Module) → IsReady ports m → IsOnce ports m
+is_once ports m ready = record {
+  links = λ source. shown_same (is_linked ports m) (is_connected m.links) source 0 m.wires (λ k w e b f lt. linked ports m ready b);
+  drives = drives ports m ready;
 }

@@ -1,8 +1,7 @@
 -- The kept cells with the connections to what the outside sees are a pass.
-use Rattle.std.proofs.Common.{◌≡◌, ℕ, zero, suc, ◌+◌, ◌<◌, ◌≤◌, Bool, true, false, if◌then◌else◌, List, [], ◌∷◌, ◌++◌, length, Option, Some, None, inl, inr, ⊎_elim, refl, sym, ◌∙◌, ap, subst, arith}
-use Rattle.std.specs.Prelude.{not, map, flat_map, slice_get, slice_index, is_some, ◌==◌}
-use Rattle.std.specs.List.{list_all}
-use Rattle.std.proofs.lemmas.Bool.{and_parts, eq-eqb, ltb-true}
+use Rattle.std.proofs.Common.{◌≡◌, ℕ, ◌+◌, ◌<◌, ◌≤◌, Bool, true, false, if◌then◌else◌, List, [], ◌∷◌, ◌++◌, length, Option, Some, None, inl, inr, ⊎_elim, refl, sym, ◌∙◌, ap, subst, arith}
+use Rattle.std.specs.Prelude.{not, map, flat_map, is_some, ◌==◌}
+use Rattle.std.proofs.lemmas.Bool.{eq-eqb}
 use Rattle.std.proofs.lemmas.List.{append-nil, length-map}
 use Rattle.rtl_bits.specs.declared.bit.Bit.{Bit}
 use Rattle.rtl_bits.specs.Knowledge.{Below}
@@ -31,7 +30,6 @@ use Rattle.rtl_ir.specs.Types as types
 use Rattle.rtl_ir.specs.Types.{CellType, cell_type}
 use Rattle.rtl_ir.specs.Outputs.{drives_pin}
 use Rattle.rtl_ir.specs.declared.cell.Pin.{Pin}
-use Rattle.net_index.specs.Numbering.{widths_of}
 use Rattle.net_model.specs.Lists.{Distinct, In}
 use Rattle.net_model.specs.Refine.{IsMet, IsWellDriven, RefinesOver, Solved, places_of}
 use Rattle.net_model.specs.Run.{Time}
@@ -49,36 +47,22 @@ use Rattle.pass_laws.proofs.Counting.{count, count_more}
 use Rattle.pass_laws.proofs.Faultless.{no_faults, plain}
 use Rattle.pass_laws.proofs.Forming.{own_accesses, own_cells, ready_with}
 use Rattle.pass_laws.proofs.Passes.{IsPass_trans}
-use Rattle.opt_clean.specs.Clean.{is_inside, reduced}
+use Rattle.opt_clean.specs.Clean.{reduced}
 use Rattle.opt_clean.specs.Keep.{is_shown, output_bits}
 use Rattle.opt_clean.specs.Kept.{input_bits, kept_marks, marked}
 use Rattle.opt_clean.specs.Runs.{is_connected, links_of, run_link, runs, shown_links, source_of, wire_links}
-use Rattle.opt_clean.specs.Wires.{cell_bits, link_bits, named_bits}
-use Rattle.opt_clean.proofs.Bits.{flat_in, in_flat}
+use Rattle.opt_clean.specs.Wires.{named_bits}
 use Rattle.opt_clean.proofs.Joins.{join_row, lefts_in, source_in}
 use Rattle.opt_clean.proofs.Keeping.{Home, MayReduce, cells_row, children_stay, from, gone_outside, in_length, join_in, kept_stored, left_named, left_part, one_spot, parts_apart, plain_links, reduced_x_refines, right_part, row_cells, row_in, stored, with_marked}
 use Rattle.opt_clean.proofs.Marks.{marked_in, others}
+use Rattle.opt_clean.proofs.Named.{named_within}
 use Rattle.opt_clean.proofs.Once.{body_once}
+use Rattle.opt_clean.proofs.Ports.{some_at}
 use Rattle.pass_laws.proofs.Once.{count_distinct, count_in, count_or, twice}
 use Rattle.opt_clean.proofs.Rounds.{closed}
 use Rattle.opt_clean.proofs.Showing.{row_from, runs_fit, shown_bits, shown_distinct, shown_in, shown_lefts, shown_rows}
 use Rattle.opt_clean.proofs.Ways.{origin_or}
 use Rattle.pass_laws.proofs.Ports.{single}
-
--- what all of a list pass, each does
-pub all_pass : {A : Type 0} (test : A → Bool) (xs : List A) → list_all test xs ≡ true → (x : A) → In x xs → test x ≡ true
-all_pass test [] e x i = absurd i
-all_pass test (y ∷ xs) e x (inl f) = ap test f ∙ (and_parts (test y) (list_all test xs) e).0
-all_pass test (y ∷ xs) e x (inr i) = all_pass test xs (and_parts (test y) (list_all test xs) e).1 x i
-
--- a bit that is inside has a wire
-pub home_of : (ws : List Wire) (b : WireBit) → is_inside ws b ≡ true → Home ws b
-home_of ws b e = let h = by ws b.wire (ltb-true b.at (slice_index (widths_of ws) b.wire) e) in record { of = h.0; there = h.1; inside = h.2 }
-  where
-    by : (ws : List Wire) (k : ℕ) → b.at < slice_index (widths_of ws) k → (w : Wire) × (slice_get ws k ≡ Some w) × (b.at < w.width)
-    by [] k h = absurd (omega arith)
-    by (w ∷ ws) zero h = (w, refl, h)
-    by (w ∷ ws) (suc k) h = by ws k h
 
 -- the cells that are kept and the others drive what all drive
 parts_count : (ports : types.Ports) (ts : List Bool) (cs : List Cell) (b : WireBit) → count b (cells_bits ports cs) ≡ count b (cells_bits ports (marked ts cs)) + count b (cells_bits ports (others ts cs))
@@ -413,31 +397,29 @@ module _ (table : PortTable) (m : Module) (ready : IsReady (types.table_ports ta
   reduces =
       IsPass_trans table m (with_x tports m marks fine ready) (with_loops tports m marks fine ready) x_pass loops_pass
 
--- a module that a pass may be given, of which each bit is one of the wires and each input is followed
-pub may_reduce : (ports : types.Ports) (m : Module) → IsReady ports m → ((b : WireBit) → In b (named_bits m) → Home m.wires b) → ((c : Cell) → In c m.cells → (b : WireBit) → In b (input_bits ports c) → source_of m.links b ≡ OnWire b) → MayReduce ports m (kept_marks ports m.wires (links_of m.wires m.links) m.cells)
-may_reduce ports m ready homes followed =
+-- the bits that a module names are of its wires
+homes_of : (ports : types.Ports) (m : Module) → IsReady ports m → (b : WireBit) → In b (named_bits m) → Home m.wires b
+homes_of ports m ready b i =
+    let k = some_at m.wires b.wire (named_within m ready.within b i) in record { of = k.0; there = k.1 }
+
+-- a module that a pass may be given, of which each input is followed
+pub may_reduce : (ports : types.Ports) (m : Module) → IsReady ports m → ((c : Cell) → In c m.cells → (b : WireBit) → In b (input_bits ports c) → source_of m.links b ≡ OnWire b) → MayReduce ports m (kept_marks ports m.wires (links_of m.wires m.links) m.cells)
+may_reduce ports m ready followed =
     let marks : List Bool = kept_marks ports m.wires (links_of m.wires m.links) m.cells in
     let none = plain ports m ready.faultless in
-    let cell_home : (b : WireBit) → In b (cells_bits ports m.cells) → Home m.wires b = λ b i.
-    let c = flat_in (output_bits ports) m.cells b i in
-    homes b (In-left b (flat_map cell_bits m.cells) (flat_map link_bits m.links) (in_flat cell_bits m.cells c.0 b c.1 (pins_have (cell_type ports c.0.kind_name) c.0.pins b c.2)))
-    in
     record {
       processes = none.processes;
       named = ready.named;
-      homes = homes;
+      homes = homes_of ports m ready;
       single = single m.id [] m.wires (no_faults without_processes ports m ready.faultless).wires;
-      linked = λ b i j. twice b (cells_bits ports m.cells) (links_bits m.links) (body_once ports m ready b (cell_home b i)) i j;
+      linked = λ b i j. twice b (cells_bits ports m.cells) (links_bits m.links) (body_once ports m ready b) i j;
       apart = λ b i j.
-          let c = flat_in (output_bits ports) (marked marks m.cells) b i in
-          let home : Home m.wires b = cell_home b (in_flat (output_bits ports) m.cells c.0 b (marked_in marks m.cells c.0 c.1) c.2) in
-          let few : count b (cells_bits ports m.cells ++ links_bits m.links) ≤ 1 = body_once ports m ready b home in
-          absurd (omega (arith, few, count_more b (cells_bits ports m.cells) (links_bits m.links), parts_count ports marks m.cells b, count_in b (cells_bits ports (marked marks m.cells)) i, count_in b (cells_bits ports (others marks m.cells)) j));
+          absurd (omega (arith, body_once ports m ready b, count_more b (cells_bits ports m.cells) (links_bits m.links), parts_count ports marks m.cells b, count_in b (cells_bits ports (marked marks m.cells)) i, count_in b (cells_bits ports (others marks m.cells)) j));
       followed = followed;
       closed = closed ports m.wires (links_of m.wires m.links) m.cells;
     }
 
-pub reduced_pass : (table : PortTable) (m : Module) → IsReady (types.table_ports table.modules) m → ((b : WireBit) → In b (named_bits m) → Home m.wires b) → ((c : Cell) → In c m.cells → (b : WireBit) → In b (input_bits (types.table_ports table.modules) c) → source_of m.links b ≡ OnWire b) → IsPass table m (reduced (types.table_ports table.modules) m)
+pub reduced_pass : (table : PortTable) (m : Module) → IsReady (types.table_ports table.modules) m → ((c : Cell) → In c m.cells → (b : WireBit) → In b (input_bits (types.table_ports table.modules) c) → source_of m.links b ≡ OnWire b) → IsPass table m (reduced (types.table_ports table.modules) m)
 unfolding links_of
-reduced_pass table m ready homes followed =
-    reduces table m ready (kept_marks (types.table_ports table.modules) m.wires (links_of m.wires m.links) m.cells) (may_reduce (types.table_ports table.modules) m ready homes followed)
+reduced_pass table m ready followed =
+    reduces table m ready (kept_marks (types.table_ports table.modules) m.wires (links_of m.wires m.links) m.cells) (may_reduce (types.table_ports table.modules) m ready followed)

@@ -1,9 +1,9 @@
 -- The wires that stay are a pass.
-use Rattle.std.proofs.Common.{◌≡◌, ℕ, zero, suc, ◌+◌, ◌<◌, ◌≤◌, Bool, true, false, if◌then◌else◌, List, [], ◌∷◌, ◌++◌, take, Some, inl, inr, ⊎_elim, refl, sym, ◌∙◌, ap, subst, arith}
-use Rattle.std.specs.Prelude.{ℤ, ◌||◌, filter, flat_map, slice_get}
+use Rattle.std.proofs.Common.{◌≡◌, ℕ, zero, suc, ◌+◌, ◌<◌, ◌≤◌, Bool, true, false, cond, if◌then◌else◌, List, [], ◌∷◌, ◌++◌, take, Some, inl, inr, ⊎_elim, refl, sym, ◌∙◌, ap, subst, arith}
+use Rattle.std.specs.Prelude.{ℤ, ◌&&◌, ◌||◌, ◌==◌, filter, flat_map, map, slice_get}
 use Rattle.std.specs.List.{range_with_len}
 use Rattle.std.proofs.Common.{map-id}
-use Rattle.std.proofs.lemmas.Bool.{le-ltb, or_parts}
+use Rattle.std.proofs.lemmas.Bool.{eq-eqb, le-ltb, or_parts}
 use Rattle.rtl_sig.specs.declared.sig.WireBit.{WireBit}
 use Rattle.rtl_ir.specs.declared.wire.Wire.{Wire}
 use Rattle.rtl_ir.specs.Drivers.{Drive, FromPort, all_by, drive_count, is_input, port_drives}
@@ -20,8 +20,8 @@ use Rattle.rtl_ir.specs.Attributes.{is_kept}
 use Rattle.opt_clean.specs.Kept.{marked}
 use Rattle.opt_clean.specs.Wires.{mark_count, names_wire, new_place, stays, wire_marks}
 use Rattle.opt_clean.proofs.Marks.{filter_marked, others}
-use Rattle.pass_laws.proofs.Once.{count_distinct, count_in, count_or}
-use Rattle.opt_clean.proofs.Showing.{in_wire, wire_distinct, wire_in}
+use Rattle.pass_laws.proofs.Once.{count_or}
+use Rattle.opt_clean.proofs.Showing.{wire_in}
 
 -- the place of an item among those that are marked
 module _ {A : Type 0} where
@@ -100,11 +100,13 @@ fewer_wires id numbers (false ∷ ts) (w ∷ ws) h e =
 
 -- how often the ports drive a bit of a wire
 module _ (at : ℕ) where
-  here_once : (wire width : ℕ) → at < width → count (record { wire = wire; at = at }) (bits_of_wire wire width) ≡ 1
-  here_once wire width h =
-      let few : count (record { wire = wire; at = at }) (bits_of_wire wire width) ≤ 1 = count_distinct (record { wire = wire; at = at }) (bits_of_wire wire width) (wire_distinct (λ b. true) wire 0 width) in
-      let has = count_in (record { wire = wire; at = at }) (bits_of_wire wire width) (in_wire wire width (record { wire = wire; at = at }) refl h) in
-      omega (arith, few, has)
+  -- the bits of a wire are told apart by their places alone
+  alike : (wire from width : ℕ) → count (record { wire = wire; at = at }) (map (λ k. record { wire = wire; at = k }) (range_with_len from width)) ≡ count (record { wire = 0; at = at }) (map (λ k. record { wire = 0; at = k }) (range_with_len from width))
+  alike wire from zero = refl
+  alike wire from (suc width) =
+      let same : (wire == wire) ≡ true = eq-eqb wire wire refl in
+      let later = alike wire (from + 1) width in
+      λ i. cond (same i && (from == at)) 1 0 + later i
 
   there_none : (wire other width : ℕ) → (wire ≡ other → ⊥) → count (record { wire = wire; at = at }) (bits_of_wire other width) ≡ 0
   there_none wire other width h =
@@ -135,29 +137,33 @@ module _ (at : ℕ) where
       by true = there_none wire first w.width (λ e. absurd (omega (arith, h, e)))
       by false = refl
 
-  pub port_count : (first : ℕ) (ws : List Wire) (k : ℕ) (w : Wire) → slice_get ws k ≡ Some w → at < w.width → count (record { wire = first + k; at = at }) (port_bits first ws) ≡ (if is_input w.role then 1 else 0)
-  port_count first [] k w e h = absurd (cc)
-  port_count first (v ∷ ws) zero w e h =
+  -- of a wire, wherever it stands
+  abbrev pub own_count : Wire → ℕ
+  own_count w = count (record { wire = 0; at = at }) (if is_input w.role then bits_of_wire 0 w.width else [])
+
+  pub port_count : (first : ℕ) (ws : List Wire) (k : ℕ) (w : Wire) → slice_get ws k ≡ Some w → count (record { wire = first + k; at = at }) (port_bits first ws) ≡ own_count w
+  port_count first [] k w e = absurd (cc)
+  port_count first (v ∷ ws) zero w e =
       let same : v ≡ w = cc in
       let z : first ≡ first + 0 = omega arith in
-      subst (λ (u : Wire). count (record { wire = first + 0; at = at }) (port_bits first (v ∷ ws)) ≡ (if is_input u.role then 1 else 0)) same (subst (λ n. count (record { wire = n; at = at }) (port_bits first (v ∷ ws)) ≡ (if is_input v.role then 1 else 0)) z (all (is_input v.role) (subst (λ (u : Wire). at < u.width) (sym same) h) refl))
+      subst (λ (u : Wire). count (record { wire = first + 0; at = at }) (port_bits first (v ∷ ws)) ≡ own_count u) same (subst (λ n. count (record { wire = n; at = at }) (port_bits first (v ∷ ws)) ≡ own_count v) z all)
     where
-      all : (t : Bool) → at < v.width → is_input v.role ≡ t → count (record { wire = first; at = at }) (port_bits first (v ∷ ws)) ≡ (if is_input v.role then 1 else 0)
-      all t lt is =
+      by : (t : Bool) → count (record { wire = first; at = at }) (if t then bits_of_wire first v.width else []) ≡ count (record { wire = 0; at = at }) (if t then bits_of_wire 0 v.width else [])
+      by true = alike first 0 v.width
+      by false = refl
+
+      all : count (record { wire = first; at = at }) (port_bits first (v ∷ ws)) ≡ own_count v
+      all =
           let b : WireBit = record { wire = first; at = at } in
           let e : count b (port_bits first (v ∷ ws)) ≡ count b ((if is_input v.role then bits_of_wire first v.width else []) ++ port_bits (first + 1) ws) = ap (count b) (first_bits first v ws) in
           let rest : count b (port_bits (first + 1) ws) ≡ 0 = later_none (first + 1) ws first (omega arith) in
-          let here : count b (if is_input v.role then bits_of_wire first v.width else []) ≡ (if is_input v.role then 1 else 0) = by (is_input v.role) lt in
+          let here : count b (if is_input v.role then bits_of_wire first v.width else []) ≡ own_count v = by (is_input v.role) in
           omega (arith, e, rest, here, count_more b (if is_input v.role then bits_of_wire first v.width else []) (port_bits (first + 1) ws))
-        where
-          by : (t : Bool) → at < v.width → count (record { wire = first; at = at }) (if t then bits_of_wire first v.width else []) ≡ (if t then 1 else 0)
-          by true lt = here_once first v.width lt
-          by false lt = refl
-  port_count first (v ∷ ws) (suc k) w e h =
+  port_count first (v ∷ ws) (suc k) w e =
       let z : first + 1 + k ≡ first + suc k = omega arith in
       let b : WireBit = record { wire = first + suc k; at = at } in
       let d : count b (port_bits first (v ∷ ws)) ≡ count b ((if is_input v.role then bits_of_wire first v.width else []) ++ port_bits (first + 1) ws) = ap (count b) (first_bits first v ws) in
-      let rest : count b (port_bits (first + 1) ws) ≡ (if is_input w.role then 1 else 0) = subst (λ n. count (record { wire = n; at = at }) (port_bits (first + 1) ws) ≡ (if is_input w.role then 1 else 0)) z (port_count (first + 1) ws k w e h) in
+      let rest : count b (port_bits (first + 1) ws) ≡ own_count w = subst (λ n. count (record { wire = n; at = at }) (port_bits (first + 1) ws) ≡ own_count w) z (port_count (first + 1) ws k w e) in
       let here : count b (if is_input v.role then bits_of_wire first v.width else []) ≡ 0 = by (is_input v.role) in
       omega (arith, d, rest, here, count_more b (if is_input v.role then bits_of_wire first v.width else []) (port_bits (first + 1) ws))
     where

@@ -1,5 +1,5 @@
 -- A module with the wires that stay alone is a pass.
-use Rattle.std.proofs.Common.{◌≡◌, ℕ, zero, suc, ◌+◌, ◌<◌, ◌≤◌, Bool, true, false, cond, if◌then◌else◌, List, [], ◌∷◌, ◌++◌, length, Some, inl, inr, ⊎_elim, refl, sym, ◌∙◌, ap, subst, arith}
+use Rattle.std.proofs.Common.{◌≡◌, ℕ, zero, suc, ◌+◌, ◌<◌, ◌≤◌, Bool, true, false, cond, List, [], ◌∷◌, ◌++◌, length, Option, Some, None, inl, inr, ⊎_elim, refl, sym, ◌∙◌, ap, subst, arith}
 use Rattle.std.specs.Prelude.{◌&&◌, ◌||◌, ◌==◌, flat_map, map, slice_get, slice_index_or}
 use Rattle.std.proofs.lemmas.Bool.{eq-eqb, eqb-true}
 use Rattle.rtl_bits.specs.declared.bit.Bit.TheVariants.{X}
@@ -16,7 +16,7 @@ use Rattle.rtl_ir.specs.declared.ports.PortTable.{PortTable}
 use Rattle.rtl_ir.specs.declared.process.Process.{Process}
 use Rattle.rtl_ir.specs.declared.wire.Role.TheVariants.{Input}
 use Rattle.rtl_ir.specs.declared.wire.Wire.{Wire}
-use Rattle.rtl_ir.specs.Drivers.{drive_count, drives_of, is_input, port_drives}
+use Rattle.rtl_ir.specs.Drivers.{drive_count, drives_of, port_drives}
 use Rattle.rtl_ir.specs.Faults.Processes.{process_faults}
 use Rattle.rtl_ir.specs.Flat.Cell as flat
 use Rattle.rtl_ir.specs.Flat.Cell.{instances}
@@ -33,7 +33,7 @@ use Rattle.rtl_ir.specs.Types as types
 use Rattle.rtl_ir.specs.Types.{cell_type}
 use Rattle.net_model.specs.Lists.{Distinct, In}
 use Rattle.net_model.specs.Refine.{IsWellDriven, RefinesOver, places_of}
-use Rattle.net_model.specs.Within.{BitIn, Each, LinkIn, SigIn}
+use Rattle.net_model.specs.Within.{BitIn, Each, IsWithin, LinkIn, SigIn}
 use Rattle.net_model.proofs.Lifted.{lifted}
 use Rattle.net_model.proofs.Members.{In-cases, In-left, In-mapped, In-right, map-append}
 use Rattle.pass_laws.specs.Bits.{cells_bits, links_bits, pin_bits}
@@ -42,21 +42,27 @@ use Rattle.pass_laws.specs.Ready.{IsReady}
 use Rattle.pass_laws.specs.Replaces.{IsEven}
 use Rattle.pass_laws.proofs.Accesses.{AreAccesses, none_there}
 use Rattle.pass_laws.proofs.Alone.{IsSound, no_link_faults}
-use Rattle.pass_laws.proofs.Counting.{bits_of, count, driven_count}
+use Rattle.pass_laws.proofs.Counting.{bits_of, count, count_more, driven_count}
 use Rattle.pass_laws.proofs.Faultless.{HasNoFaults, IsPlain, no_faults, plain}
 use Rattle.pass_laws.proofs.Forming.{all_none, own_accesses, own_cells, own_links}
+use Rattle.pass_laws.proofs.Widening.{cells_under, links_under, none_counted, ports_under}
 use Rattle.rtl_ir.specs.Attributes.{is_kept}
 use Rattle.opt_clean.specs.Wires.{cell_bits, link_bits, moved_bit, moved_cell, moved_link, moved_pin, named_bits, names_wire, new_place, stays, trimmed, wire_marks}
 use Rattle.opt_clean.proofs.Bits.{any_in, flat_in, in_flat}
-use Rattle.opt_clean.proofs.Ends.{has_signal, signal_has}
+use Rattle.opt_clean.proofs.Ends.{has_signal}
 use Rattle.opt_clean.proofs.Keeping.{plain_links}
 use Rattle.opt_clean.proofs.Marks.{marked_distinct, marked_map}
 use Rattle.opt_clean.proofs.Moved.{cells_move, cells_stay, kinds_stay, links_move, links_stay, move_wire, moved_even, moved_sound, signal_keeps}
 use Rattle.opt_clean.proofs.MovedMemories.{memories_move, moved_accesses}
-use Rattle.opt_clean.proofs.Once.{driven_once}
+use Rattle.opt_clean.proofs.Named.{named_within}
 use Rattle.opt_clean.proofs.Ports.{some_at}
 use Rattle.opt_clean.proofs.Reducing.{pins_have}
-use Rattle.opt_clean.proofs.Trimming.{fewer_wires, gone_inner, kept_ports, mark_at, marked_at, none_twice, place_at, place_one, port_count}
+use Rattle.opt_clean.proofs.Trimming.{fewer_wires, gone_inner, kept_ports, mark_at, marked_at, none_twice, own_count, place_at, place_one, port_count}
+
+none_past : (ws : List Wire) (k : ℕ) → slice_get ws k ≡ None → length ws ≤ k
+none_past [] k e = omega arith
+none_past (w ∷ ws) zero e = absurd (cc)
+none_past (w ∷ ws) (suc k) e = omega (arith, none_past ws k e)
 
 -- a start value, where no process gives one
 plain_start : (wires : List Wire) (processes : List Process) (b : WireBit) → processes ≡ [] → start_of wires processes (OnWire b) ≡ seen_of (init_bit wires b)
@@ -82,19 +88,6 @@ module _ (ports : types.Ports) (m : Module) (ready : IsReady ports m) where
     there : slice_get m.wires b.wire ≡ Some of
     mark : slice_get marks b.wire ≡ Some true
 
-  bit_length : (b : WireBit) → In b bits → b.wire < length m.wires
-  bit_length b i =
-      ⊎_elim
-      (λ l. let c = flat_in cell_bits m.cells b l in
-      let p = flat_in (λ (p : Pin). wire_bits p.sig) c.0.pins b c.2 in
-      ready.within.cells c.0 c.1 p.0 p.1 (OnWire b) (signal_has p.0.sig b p.2))
-      (λ r. let l = flat_in link_bits m.links b r in
-      ⊎_elim
-      (λ x. (ready.within.links l.0 l.1).0 (OnWire b) (signal_has l.0.left b x))
-      (λ x. (ready.within.links l.0 l.1).1 (OnWire b) (signal_has l.0.right b x))
-      (In-cases b (wire_bits l.0.left) (wire_bits l.0.right) l.2))
-      (In-cases b (flat_map cell_bits m.cells) (flat_map link_bits m.links) i)
-
   stays_at : (k : ℕ) (w : Wire) → slice_get m.wires k ≡ Some w → stays bits k w ≡ true → slice_get marks k ≡ Some true
   stays_at k w e h =
       let z : 0 + k ≡ k = omega arith in
@@ -102,7 +95,7 @@ module _ (ports : types.Ports) (m : Module) (ready : IsReady ports m) where
 
   named_stays : (b : WireBit) → In b bits → Stays b
   named_stays b i =
-      let w = some_at m.wires b.wire (bit_length b i) in
+      let w = some_at m.wires b.wire (named_within m ready.within b i) in
       let named : names_wire bits b.wire ≡ true = any_in (λ (c : WireBit). c.wire == b.wire) bits b i (eq-eqb b.wire b.wire refl) in
       record { of = w.0; there = w.1; mark = stays_at b.wire w.0 w.1 (or_third (is_port w.0.role) (is_kept w.0.attributes) (names_wire bits b.wire) named) }
     where
@@ -206,23 +199,6 @@ module _ (ports : types.Ports) (m : Module) (ready : IsReady ports m) where
       let k = In-mapped (moved_link marks) l m.links i in
       subst IsEven (sym k.2) (moved_even marks k.0 (own_links ports m ready k.0 k.1))
 
-  -- each bit of a wire that stays is driven as often as before
-  after_once : (j : ℕ) (w : Wire) → slice_get after.wires j ≡ Some w → (at : ℕ) → at < w.width → drive_count (drives_of ports after) (record { wire = 0 + j; at = at }) ≤ 1
-  after_once j w e at lt =
-      let k = marked_at marks m.wires j w e in
-      let old : WireBit = record { wire = k.0; at = at } in
-      let new : WireBit = record { wire = 0 + j; at = at } in
-      let is : move_wire marks old ≡ new = λ i. record { wire = (k.3 ∙ zero_plus j) i; at = at } in
-      let body : count new (cells_bits ports after.cells ++ links_bits after.links) ≡ count old (cells_bits ports m.cells ++ links_bits m.links) = ap (λ b. count b (cells_bits ports after.cells ++ links_bits after.links)) (sym is) ∙ ap (count (move_wire marks old)) ((λ i. cells_move marks ports m.cells i ++ links_move marks m.links i) ∙ sym (map-append (move_wire marks) (cells_bits ports m.cells) (links_bits m.links))) ∙ count_moves old (cells_bits ports m.cells ++ links_bits m.links) k.1 driven_named in
-      let ports_new : count new (bits_of (port_drives 0 after.wires)) ≡ (if is_input w.role then 1 else 0) = port_count at 0 after.wires j w e lt in
-      let ports_old : count (record { wire = 0 + k.0; at = at }) (bits_of (port_drives 0 m.wires)) ≡ (if is_input w.role then 1 else 0) = port_count at 0 m.wires k.0 w k.2 lt in
-      let ports_at : count old (bits_of (port_drives 0 m.wires)) ≡ (if is_input w.role then 1 else 0) = subst (λ n. count (record { wire = n; at = at }) (bits_of (port_drives 0 m.wires)) ≡ (if is_input w.role then 1 else 0)) (sym (zero_plus k.0)) ports_old in
-      let few : drive_count (drives_of ports m) old ≤ 1 = driven_once ports m ready old (record { of = w; there = k.2; inside = lt }) in
-      omega (arith, few, body, ports_new, ports_at, driven_count ports m fine.processes (own_links ports m ready) old, driven_count ports after fine.processes even new)
-    where
-      zero_plus : (n : ℕ) → n ≡ 0 + n
-      zero_plus n = omega arith
-
   moved_in : (signal : List SigBit) → ((b : WireBit) → In (OnWire b) signal → In b bits) → SigIn (length after.wires) (map (moved_bit marks) signal)
   moved_in signal h x i =
       let k = In-mapped (moved_bit marks) x signal i in
@@ -239,20 +215,51 @@ module _ (ports : types.Ports) (m : Module) (ready : IsReady ports m) where
           let h' = named_stays b (h b j) in
           short after.wires (new_place marks b.wire) h'.of (place_at marks m.wires b.wire h'.of h'.mark h'.there)
 
+  after_within : IsWithin after
+  after_within = record {
+    cells = λ c i pin j.
+        let k = In-mapped (moved_cell marks) c m.cells i in
+        let q = In-mapped (moved_pin marks) pin k.0.pins (subst (λ (z : Cell). In pin z.pins) k.2 j) in
+        subst (λ (z : Pin). SigIn (length after.wires) z.sig) (sym q.2) (moved_in q.0.sig (λ b l. cell_named k.0 k.1 b (in_flat (λ (p : Pin). wire_bits p.sig) k.0.pins q.0 b q.1 (has_signal q.0.sig b l))));
+    links = λ l i.
+        let k = In-mapped (moved_link marks) l m.links i in
+        subst (LinkIn (length after.wires)) (sym k.2) (moved_in k.0.left (left_named k.0 k.1), moved_in k.0.right (right_named k.0 k.1));
+    processes = λ p i. absurd (subst (In p) fine.processes i);
+  }
+
+  -- each bit of a wire that stays is driven as often as before, and no other one is driven
+  after_once : (b : WireBit) → drive_count (drives_of ports after) b ≤ 1
+  after_once b = by (slice_get after.wires b.wire) refl
+    where
+      all : drive_count (drives_of ports after) b ≡ count b (bits_of (port_drives 0 after.wires)) + count b (cells_bits ports after.cells ++ links_bits after.links)
+      all = driven_count ports after fine.processes even b
+
+      ports_at : (ws : List Wire) (k : ℕ) (w : Wire) → slice_get ws k ≡ Some w → count (record { wire = k; at = b.at }) (bits_of (port_drives 0 ws)) ≡ own_count b.at w
+      ports_at ws k w e =
+          let z : 0 + k ≡ k = omega arith in
+          subst (λ n. count (record { wire = n; at = b.at }) (bits_of (port_drives 0 ws)) ≡ own_count b.at w) z (port_count b.at 0 ws k w e)
+
+      by : (o : Option Wire) → slice_get after.wires b.wire ≡ o → drive_count (drives_of ports after) b ≤ 1
+      by None e =
+          let n : ℕ = length after.wires in
+          let past : n ≤ b.wire = none_past after.wires b.wire e in
+          let p : count b (bits_of (port_drives 0 after.wires)) ≡ 0 = none_counted n (bits_of (port_drives 0 after.wires)) (ports_under n 0 after.wires (omega arith)) b past in
+          let c : count b (cells_bits ports after.cells) ≡ 0 = none_counted n (cells_bits ports after.cells) (cells_under n ports after.cells after_within.cells) b past in
+          let l : count b (links_bits after.links) ≡ 0 = none_counted n (links_bits after.links) (links_under n after.links after_within.links) b past in
+          omega (arith, all, count_more b (cells_bits ports after.cells) (links_bits after.links), p, c, l)
+      by (Some w) e =
+          let k = marked_at marks m.wires b.wire w e in
+          let old : WireBit = record { wire = k.0; at = b.at } in
+          let is : move_wire marks old ≡ b = λ i. record { wire = k.3 i; at = b.at } in
+          let body : count b (cells_bits ports after.cells ++ links_bits after.links) ≡ count old (cells_bits ports m.cells ++ links_bits m.links) = ap (λ z. count z (cells_bits ports after.cells ++ links_bits after.links)) (sym is) ∙ ap (count (move_wire marks old)) ((λ i. cells_move marks ports m.cells i ++ links_move marks m.links i) ∙ sym (map-append (move_wire marks) (cells_bits ports m.cells) (links_bits m.links))) ∙ count_moves old (cells_bits ports m.cells ++ links_bits m.links) k.1 driven_named in
+          omega (arith, ready.once old, all, body, ports_at after.wires b.wire w e, ports_at m.wires k.0 w k.2, driven_count ports m fine.processes (own_links ports m ready) old)
+
   after_ready : IsReady ports after
   after_ready = record {
-    faultless = all_none (fewer_wires m.id [] marks m.wires (gone_inner bits 0 m.wires) none.wires) none.stores (none_there ports after [] after.cells sound accesses) processes (no_link_faults m.id 1 after.links even) (none_twice m.id (drives_of ports after) 0 after.wires after_once);
+    faultless = all_none (fewer_wires m.id [] marks m.wires (gone_inner bits 0 m.wires) none.wires) none.stores (none_there ports after [] after.cells sound accesses) processes (no_link_faults m.id 1 after.links even) (none_twice m.id (drives_of ports after) 0 after.wires (λ j w e at lt. after_once (record { wire = 0 + j; at = at })));
     named = subst Distinct (sym (marked_map (λ (w : Wire). w.name) marks m.wires)) (marked_distinct marks (map (λ (w : Wire). w.name) m.wires) ready.named);
-    within = record {
-      cells = λ c i pin j.
-          let k = In-mapped (moved_cell marks) c m.cells i in
-          let q = In-mapped (moved_pin marks) pin k.0.pins (subst (λ (z : Cell). In pin z.pins) k.2 j) in
-          subst (λ (z : Pin). SigIn (length after.wires) z.sig) (sym q.2) (moved_in q.0.sig (λ b l. cell_named k.0 k.1 b (in_flat (λ (p : Pin). wire_bits p.sig) k.0.pins q.0 b q.1 (has_signal q.0.sig b l))));
-      links = λ l i.
-          let k = In-mapped (moved_link marks) l m.links i in
-          subst (LinkIn (length after.wires)) (sym k.2) (moved_in k.0.left (left_named k.0 k.1), moved_in k.0.right (right_named k.0 k.1));
-      processes = λ p i. absurd (subst (In p) fine.processes i);
-    };
+    within = after_within;
+    once = after_once;
   }
     where
       none : HasNoFaults without_processes ports m

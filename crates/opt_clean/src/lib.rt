@@ -2,7 +2,6 @@
 #![tactic(auto)]
 
 mod followed;
-mod inside;
 mod keep;
 mod kept;
 pub mod laws;
@@ -23,11 +22,10 @@ ghost use Rattle.opt_clean.specs.Linked.{IsOnce};
 ghost use Rattle.opt_clean.specs.Wires.{trimmed};
 
 use crate::followed::followed_cells;
-pub use crate::inside::is_all_inside;
 use crate::keep::shown_wires;
 use crate::kept::kept_marks;
 use crate::links::links_of;
-use crate::wires::{Moves, marked_wires, wire_marks};
+use crate::wires::{Moves, wire_marks};
 use net_index::{Drivers, Types};
 use rtl_bits::{Copied, Memory, Seq};
 use rtl_ir::{Cell, Link, Module, PortTable};
@@ -44,30 +42,42 @@ pub fn apply(alloc: Global, module: &Module, ports: &PortTable) -> Result<Module
     cleaned(alloc, module, ports)
 }
 
-/// The module with what the outside needs, or as it is where it names a bit that no wire has.
+/// The module with what the outside needs.
 fn cleaned(alloc: Global, module: &Module, ports: &PortTable) -> Result<Module, Memory>
     requires ready { IsReady (table_ports ports.now.modules) «module».now }
     ensures exact { IfOk result (λ after. after ≡ clean_of (table_ports ports.now.modules) «module».now) }
 {
-    if !is_all_inside(module) {
-        return module.copy();
-    }
-    let types = Types::of_table(alloc, ports)?;
-    let index = Drivers::of(alloc, module, ports)?;
-    let after = with_kept(alloc, module, &types, &index)?;
+    let kept = kept_parts(alloc, module, ports)?;
+    let after = with_wires_left(alloc, module, kept.cells, kept.links.as_slice())?;
     Ok(after)
 }
 
-/// The module with what the outside needs, by the types of its cells and its index.
-fn with_kept(
-    alloc: Global,
-    module: &Module,
-    types: &Types,
-    index: &Drivers,
-) -> Result<Module, Memory>
-    ensures exact { IfOk result (λ after. (ports : rtl.Ports) → AreTypes types.now ports →
+/// The cells of a module that are kept, with followed inputs, and the connections to what the outside sees.
+#[derive(Drop)]
+struct Parts {
+    cells: Vec<Cell>,
+    links: Vec<Link>,
+}
+
+/// What is kept of the module. The tables by which it is found are freed at the end.
+fn kept_parts(alloc: Global, module: &Module, ports: &PortTable) -> Result<Parts, Memory>
+    requires ready { IsReady (table_ports ports.now.modules) «module».now }
+    ensures exact { IfOk result (λ kept.
+        reduced (table_ports ports.now.modules) (followed (table_ports ports.now.modules) «module».now) ≡
+        record «module».now { cells = kept.cells.items; links = kept.links.items }) }
+{
+    let types = Types::of_table(alloc, ports)?;
+    let index = Drivers::of(alloc, module, ports)?;
+    let kept = kept_by(alloc, module, &types, &index)?;
+    Ok(kept)
+}
+
+/// What is kept of the module, by the types of its cells and its index.
+fn kept_by(alloc: Global, module: &Module, types: &Types, index: &Drivers) -> Result<Parts, Memory>
+    ensures exact { IfOk result (λ kept. (ports : rtl.Ports) → AreTypes types.now ports →
         AreDrivers index.now ports «module».now → IsOnce ports «module».now →
-        after ≡ trimmed (reduced ports (followed ports «module».now))) }
+        reduced ports (followed ports «module».now) ≡
+        record «module».now { cells = kept.cells.items; links = kept.links.items }) }
 {
     let wires = module.wires.as_slice();
     let shown = shown_wires(alloc, wires)?;
@@ -82,8 +92,7 @@ fn with_kept(
         index,
     )?;
     let cells = marked_cells(alloc, cells, marks.as_slice())?;
-    let after = with_wires_left(alloc, module, cells, links.as_slice())?;
-    Ok(after)
+    Ok(Parts { cells, links })
 }
 
 /// The marked cells.
@@ -128,7 +137,7 @@ fn with_wires_left(
         id: module.id.copy()?,
         attributes: module.attributes.copy()?,
         parameters: module.parameters.copy()?,
-        wires: Seq::from_vec(marked_wires(alloc, wires, marks.as_slice())?),
+        wires: Seq::from_vec(moves.wires(alloc, wires, marks.as_slice())?),
         memories: module.memories.copy()?,
         cells: Seq::from_vec(moves.cells(alloc, cells)?),
         processes: module.processes.copy()?,

@@ -102,24 +102,6 @@ fn stays(alloc: Global, wire: &Wire, named: bool) -> Result<bool, Memory>
     is_kept(alloc, wire.attributes.as_slice())
 }
 
-/// The marked wires.
-pub(crate) fn marked_wires(
-    alloc: Global,
-    wires: &[Wire],
-    marks: &[bool],
-) -> Result<Vec<Wire>, Memory>
-    requires long { length marks.now ≡ length wires.now }
-    ensures value { IfOk result (λ kept. kept.items ≡ marked marks.now wires.now) }
-{
-    let mut kept = Vec::new(alloc);
-    for (place, wire) in wires.iter().enumerate() {
-        if marks[place] {
-            kept.push(wire.copy()?)?;
-        }
-    }
-    Ok(kept)
-}
-
 /// The new places of wires, and how many wires stay.
 #[derive(Drop)]
 pub(crate) struct Moves {
@@ -141,6 +123,25 @@ impl Moves {
             }
         }
         Ok(Moves { places, count })
+    }
+
+    /// The marked wires.
+    pub(crate) fn wires(
+        &self,
+        alloc: Global,
+        wires: &[Wire],
+        marks: &[bool],
+    ) -> Result<Vec<Wire>, Memory>
+        requires long { length marks.now ≡ length wires.now }
+        ensures value { IfOk result (λ kept. kept.items ≡ marked marks.now wires.now) }
+    {
+        let mut kept = Vec::with_capacity(alloc, self.count as usize)?;
+        for (place, wire) in wires.iter().enumerate() {
+            if marks[place] {
+                kept.push(wire.copy()?)?;
+            }
+        }
+        Ok(kept)
     }
 
     /// The new place of the wire at a place.

@@ -1,5 +1,5 @@
 -- Rounds of the three passes, one after another.
-use Rattle.std.proofs.Common.{◌≡◌, ℕ, zero, suc, ◌+◌, ◌-◌, ◌<◌, ◌≤◌, List, [], ◌∷◌, Bool, true, false, cond, refl, sym, ◌∙◌, ap, arith}
+use Rattle.std.proofs.Common.{◌≡◌, ℕ, zero, suc, ◌+◌, ◌-◌, ◌<◌, ◌≤◌, List, [], ◌∷◌, Bool, true, refl, sym, ◌∙◌, ap, arith}
 use Rattle.std.specs.Prelude.{◌&&◌}
 use Rattle.std.proofs.lemmas.Bool.{and_parts}
 use Rattle.rtl_ir.specs.Flat.Cell.{instances}
@@ -16,9 +16,7 @@ use Rattle.opt_expr.specs.Sweep.{expr_of}
 use Rattle.opt_expr.proofs.Sweeping.{expr_passes}
 use Rattle.opt_merge.specs.Merge.{merge_of}
 use Rattle.opt_merge.proofs.Refining.{merge_pass}
-use Rattle.opt_clean.specs.Clean.{clean_of, is_all_inside, reduced}
-use Rattle.opt_clean.specs.Wires.{trimmed}
-use Rattle.follow_laws.specs.Inputs.{followed}
+use Rattle.opt_clean.specs.Clean.{clean_of}
 use Rattle.opt_clean.proofs.Cleaning.{clean_pass}
 use Rattle.opt_rounds.specs.Rounds.{opt_of, round_of, rounds_of}
 
@@ -63,11 +61,7 @@ module _ (P : types.Ports) where
   frame m = record m { wires = []; cells = []; links = [] }
 
   cleaned_frame : (m : Module) → frame (clean_of P m) ≡ frame m
-  cleaned_frame m = by (is_all_inside m)
-    where
-      by : (t : Bool) → frame (cond t (trimmed (reduced P (followed P m))) m) ≡ frame m
-      by true = refl
-      by false = refl
+  cleaned_frame m = refl
 
   same_parts : (a b : Module) → frame a ≡ frame b → a.wires ≡ b.wires → a.cells ≡ b.cells → a.links ≡ b.links → a ≡ b
   same_parts a b f w c l = λ i. record (f i) { wires = w i; cells = c i; links = l i }

@@ -32,7 +32,7 @@ use Rattle.rtl_ir.specs.Signals.{wire_bits}
 use Rattle.net_model.specs.Lists.{In}
 use Rattle.net_model.specs.Relate.{PortOf}
 use Rattle.net_model.proofs.Members.{In-cases, In-left, In-right}
-use Rattle.net_model.proofs.Own.{wire_own}
+use Rattle.net_model.proofs.Own.{port_own}
 use Rattle.std.proofs.lemmas.Slice.Eq.{bytes_eq-Decides}
 use Rattle.rtl_ir.specs.Types.{CellType, Library}
 use Rattle.pass_laws.specs.Bits.{pin_bits}
@@ -211,7 +211,7 @@ module _ (ports : Ports) (p : Path) (wires : List Wire) (c : Cell) where
           inl (pins_of n.name q (subst (λ s. In s (points p wires (signal_at c.pins n.name))) (sym (from k.0 k.2)) k.3))
       by Output e l =
           let k = joins_are (points p wires (signal_at c.pins n.name)) (wire_points (f ∷ p) n.name 0 n.width) x l in
-          let o = wire_own (f ∷ p) n.name 0 n.width q (places_in (wire_points (f ∷ p) n.name 0 n.width) q (subst (λ s. In s (wire_points (f ∷ p) n.name 0 n.width)) (sym (from k.0 k.2)) k.3)) in
+          let o = port_own (f ∷ p) n q (places_in (wire_points (f ∷ p) n.name 0 n.width) q (subst (λ s. In s (wire_points (f ∷ p) n.name 0 n.width)) (sym (from k.0 k.2)) k.3)) in
           inr (f, n, g, h n (inl refl), o.0, o.1, e)
 
   pub cell_reads : (start : SigBit → Bit) (frames : List Frame) (kind : Option CellKind) → ((f : Frame) → In f (listed (instance_of c kind)) → In f frames) → (x : Driven) → In x (cell_rows start ports p wires c kind) → ReadsPins frames x

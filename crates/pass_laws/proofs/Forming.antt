@@ -51,6 +51,7 @@ ready_with ports m ready cells links body = record {
   faultless = all_none none.wires none.stores cells_none processes (no_link_faults m.id 1 links body.links) bits;
   named = ready.named;
   within = record { cells = body.cells_within; links = body.links_within; processes = ready.within.processes };
+  once = λ b. omega (arith, fewer b, ready.once b);
 }
   where
     none : HasNoFaults without_processes ports m

@@ -68,7 +68,7 @@ module _ (k : ℕ) where
   abbrev Under : List WireBit → Type 0
   Under bits = Each (λ (b : WireBit). b.wire < k) bits
 
-  none_counted : (bits : List WireBit) → Under bits → (b : WireBit) → k ≤ b.wire → count b bits ≡ 0
+  pub none_counted : (bits : List WireBit) → Under bits → (b : WireBit) → k ≤ b.wire → count b bits ≡ 0
   none_counted [] h b l = refl
   none_counted (x ∷ xs) h b l =
       let first : x.wire < k = h x (inl refl) in
@@ -97,17 +97,17 @@ module _ (k : ℕ) where
       by true j = signal_under p.sig (h p (inl refl)) b j
       by false j = absurd j
 
-  cells_under : (ports : types.Ports) (cs : List Cell) → Each (CellIn k) cs → Under (cells_bits ports cs)
+  pub cells_under : (ports : types.Ports) (cs : List Cell) → Each (CellIn k) cs → Under (cells_bits ports cs)
   cells_under ports [] h b i = absurd i
   cells_under ports (c ∷ cs) h b i =
       under_more (pin_bits (cell_type ports c.kind_name) c.pins) (cells_bits ports cs) (pins_under (cell_type ports c.kind_name) c.pins (h c (inl refl))) (cells_under ports cs (λ x j. h x (inr j))) b i
 
-  links_under : (ls : List Link) → Each (LinkIn k) ls → Under (links_bits ls)
+  pub links_under : (ls : List Link) → Each (LinkIn k) ls → Under (links_bits ls)
   links_under [] h b i = absurd i
   links_under (l ∷ ls) h b i =
       under_more (wire_bits l.left) (links_bits ls) (signal_under l.left (h l (inl refl)).0) (links_under ls (λ x j. h x (inr j))) b i
 
-  ports_under : (n : ℕ) (ws : List Wire) → n + length ws ≤ k → Under (bits_of (port_drives n ws))
+  pub ports_under : (n : ℕ) (ws : List Wire) → n + length ws ≤ k → Under (bits_of (port_drives n ws))
   ports_under n [] h b i = absurd i
   ports_under n (w ∷ ws) h b i =
       let d = In-mapped (λ (x : Drive). x.bit) b (port_drives n (w ∷ ws)) i in
@@ -195,6 +195,7 @@ module _ (m : Module) (fresh : List Wire) (inner : AreInner fresh) where
         links = λ l i. link_wider (length m.wires) (length (m.wires ++ fresh)) longer l (ready.within.links l i);
         processes = λ x i. absurd (subst (In x) fine.processes i);
       };
+      once = λ b. subst (λ ds. drive_count ds b ≤ 1) (sym same_drives) (ready.once b);
     }
 
   still_driven : IsWithin m → (ports : Ports) → IsWellDriven ports m → IsWellDriven ports (with_wires fresh m)

@@ -33,7 +33,7 @@ use Rattle.pass_laws.specs.Bits.{cells_bits, links_bits}
 use Rattle.pass_laws.specs.Replaces.{IsEven, IsFaultless}
 use Rattle.proc_laws.specs.Ready.{IsReady}
 use Rattle.build_laws.specs.Rebuilds.{Rebuilds, checked_bits, rebuilt}
-use Rattle.build_laws.proofs.CountingBits.{cells_below, count_beyond, fewer, fresh_below, fresh_once, links_below, no_two, ports_below}
+use Rattle.build_laws.proofs.CountingBits.{cells_below, count_beyond, fewer, fresh_below, fresh_once, links_below, no_two, once_more, ports_below}
 use Rattle.build_laws.proofs.RebuildBits.{checked_below}
 use Rattle.build_laws.proofs.RebuildMemories.{memory_alike}
 
@@ -192,6 +192,7 @@ module _ (ports : Ports) (m : Module) (fresh : List Wire) (new : List Cell) (mor
           links = each_both (LinkIn (length (m.wires ++ fresh))) m.links more (λ l i. link_wider (length m.wires) (length (m.wires ++ fresh)) longer l (ready.within.links l i)) r.links_within;
           processes = r.processes_within;
         };
+        once = once_more (length m.wires) (drives_of ports m) (drives_of ports after) old_only fresh_only ready.once;
       }
 
   -- with processes taken

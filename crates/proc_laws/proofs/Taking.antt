@@ -176,4 +176,5 @@ ready_without ports m none ready = record {
   faultless = faultless_taken with_processes without_processes (λ f. refl) (λ f. f) ports m (λ p i. absurd (subst (In p) none i)) ready.faultless;
   named = ready.named;
   within = ready.within;
+  once = ready.once;
 }

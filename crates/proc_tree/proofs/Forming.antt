@@ -164,7 +164,7 @@ module _ (scope : Scope) (ports : Ports) (m : Module) (takes : (p : Process) →
   rules_stay at [] = refl
   rules_stay at (p ∷ ps) = λ i. all_by (FromRules at) (updated_by (acting_left p.syncs i)) ++ rules_stay (at + 1) ps i
 
-  drives_stay : drives_of ports (proc_tree_of m) ≡ drives_of ports m
+  pub drives_stay : drives_of ports (proc_tree_of m) ≡ drives_of ports m
   drives_stay =
       λ i. (((same_port_drives 0 (begun_wires m 0 m.wires) m.wires (begun_lines m 0 m.wires) i ++ cell_drives ports 0 m.cells) ++ link_drives m.links) ++ trees_stay 0 m.processes i) ++ rules_stay 0 m.processes i
 

@@ -1,11 +1,12 @@
 -- What the two steps promise of a module that may be given.
-use Rattle.std.proofs.Common.{◌≡◌, ℕ, Bool, true, false, List, [], ◌∷◌, if◌then◌else◌, inl, inr, length, refl, sym, subst}
+use Rattle.std.proofs.Common.{◌≡◌, ◌≤◌, ℕ, Bool, true, false, List, [], ◌∷◌, if◌then◌else◌, inl, inr, length, refl, sym, subst}
 use Rattle.std.specs.Prelude.{map, not}
 use Rattle.rtl_ir.specs.declared.module.Module.{Module}
 use Rattle.rtl_ir.specs.declared.ports.PortTable.{PortTable}
 use Rattle.rtl_ir.specs.declared.process.Process.{Process}
 use Rattle.rtl_ir.specs.declared.process.SyncRule.{SyncRule}
 use Rattle.rtl_ir.specs.declared.wire.Role.TheVariants.{Input}
+use Rattle.rtl_ir.specs.Drivers.{drive_count}
 use Rattle.rtl_ir.specs.Flat.Cell as flat
 use Rattle.rtl_ir.specs.Flat.Tree as tree
 use Rattle.rtl_ir.specs.Ports.{ports_of}
@@ -23,7 +24,7 @@ use Rattle.net_model.proofs.Members.{In-mapped}
 use Rattle.proc_laws.specs.Ready.{AreRuled, HasItsBits, HaveNoLines, HaveNoStarts, IsReady, UpdatesHaveBits}
 use Rattle.proc_laws.specs.Step.{IsStep}
 use Rattle.proc_tree.proofs.Faultless.{all_write}
-use Rattle.proc_tree.proofs.Forming.{rules_among, tree_faultless}
+use Rattle.proc_tree.proofs.Forming.{drives_stay, rules_among, tree_faultless}
 use Rattle.proc_tree.proofs.Lines.{begun_lines, same_bits, same_length, same_names, same_ports}
 use Rattle.proc_tree.proofs.Ruled.{WritesNoStart, rules_left, syncs_of}
 use Rattle.proc_tree.proofs.Ruling.{root_again}
@@ -95,6 +96,7 @@ module _ (m : Module) where
       faultless = tree_faultless scope ports m takes h.faultless;
       named = subst Distinct (sym (same_names (begun_wires m 0 m.wires) m.wires (begun_lines m 0 m.wires))) h.named;
       within = within_stays h.within;
+      once = λ b. subst (λ ds. drive_count ds b ≤ 1) (sym (drives_stay scope ports m takes)) (h.once b);
     }
 
   -- no rule gives start values any more, and the others are as they were

@@ -1,5 +1,5 @@
 -- What a text can give, it can give without what nothing needs.
-use Rattle.std.proofs.Common.{◌≡◌, ℕ, zero, suc, ◌+◌, ◌<◌, ◌≤◌, Bool, true, false, cond, if◌then◌else◌, List, [], ◌∷◌, ◌++◌, length, Option, Some, None, inl, inr, refl, sym, ◌∙◌, ap, subst, arith, length-append}
+use Rattle.std.proofs.Common.{◌≡◌, ℕ, zero, suc, ◌+◌, ◌<◌, ◌≤◌, Bool, true, false, if◌then◌else◌, List, [], ◌∷◌, ◌++◌, length, Option, Some, None, inl, inr, refl, sym, ◌∙◌, ap, subst, arith, length-append}
 use Rattle.std.specs.Prelude.{◌==◌, ◌||◌, IsSomeAnd, flat_map, map, slice_get}
 use Rattle.std.specs.List.{All, range_with_len, sum_by}
 use Rattle.std.proofs.lemmas.Bool.{eq-eqb}
@@ -27,7 +27,7 @@ use Rattle.rtl_readable.specs.Readable.{IsBitOf, IsCell, IsLink, IsPin, IsProces
 use Rattle.rtl_readable.proofs.Changing.{recelled_reads}
 use Rattle.rtl_readable.proofs.Counting.{item_times, still_distinct}
 use Rattle.rtl_readable.proofs.Signals.{followed_is, rights_are}
-use Rattle.opt_clean.specs.Clean.{clean_of, is_all_inside, reduced}
+use Rattle.opt_clean.specs.Clean.{clean_of, reduced}
 use Rattle.opt_clean.specs.Keep.{is_shown}
 use Rattle.opt_clean.specs.Kept.{kept_marks, marked}
 use Rattle.opt_clean.specs.Runs.{ended, is_connected, links_of, run_link, runs, shown_links, source_of, wire_links}
@@ -260,8 +260,5 @@ trimmed_reads m free is =
     }
 
 pub clean_reads : (ports : Ports) (m : Module) → m.processes ≡ [] → IsReadableModule m → IsReadableModule (clean_of ports m)
-clean_reads ports m free is = by (is_all_inside m)
-  where
-    by : (t : Bool) → IsReadableModule (cond t (trimmed (reduced ports (followed ports m))) m)
-    by true = trimmed_reads (reduced ports (followed ports m)) free (reduced_reads ports (followed ports m) (followed_reads ports m is))
-    by false = is
+clean_reads ports m free is =
+    trimmed_reads (reduced ports (followed ports m)) free (reduced_reads ports (followed ports m) (followed_reads ports m is))

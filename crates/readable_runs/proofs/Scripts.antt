@@ -10,7 +10,7 @@ use Rattle.net_model.specs.Fsm.Code.{fsm_of}
 use Rattle.net_model.specs.Mem.Expand.{memory_of}
 use Rattle.net_model.specs.Within.{Each}
 use Rattle.pass_laws.proofs.Faultless.{plain}
-use Rattle.opt_clean.specs.Clean.{clean_of, is_all_inside}
+use Rattle.opt_clean.specs.Clean.{clean_of}
 use Rattle.opt_expr.specs.Sweep.{expr_of}
 use Rattle.opt_merge.specs.Merge.{merge_of}
 use Rattle.opt_rounds.specs.Rounds.{opt_of}
@@ -78,12 +78,11 @@ module _ (table : PortTable) (m : Module) (is : IsReadableModule m) where
         (codes_fit P m e (readable_fits m is))
 
     fsm_word : (n : Module) → machines.fsm_within P m ≡ Some n → IsReadableModule n
-    fsm_word n e = by (is_all_inside m) (machines.are_within P 0 (length m.wires) m) refl e
+    fsm_word n e = by (machines.are_within P 0 (length m.wires) m) refl e
       where
-        by : (t s : Bool) → machines.are_within P 0 (length m.wires) m ≡ s → cond t (cond s (Some (fsm_of P m)) None) (Some m) ≡ Some n → IsReadableModule n
-        by true true f g = reads_same (fsm_of P m) n (codes_word f) g
-        by true false f g = absurd cc
-        by false s f g = reads_same m n is g
+        by : (s : Bool) → machines.are_within P 0 (length m.wires) m ≡ s → cond s (Some (fsm_of P m)) None ≡ Some n → IsReadableModule n
+        by true f g = reads_same (fsm_of P m) n (codes_word f) g
+        by false f g = absurd cc
 
     words_word : memories.are_within (length m.memories) m ≡ true → IsReadableModule (memory_of m)
     words_word e =

@@ -157,8 +157,8 @@ module _ (ports : Ports) (over : flat.Ports) (m : Module) (pre post : List Proce
         id = refl;
         ports_same = refl;
         children = refl;
-        port_to = λ p w n i at a h _. h;
-        port_from = λ p w n i at a h. h (may.ports_apart n i at);
+        port_to = λ p w n i at lt a h _. h;
+        port_from = λ p w n i at lt a h. h (may.ports_apart n i at);
         unknown = λ p w s _. tt;
         rows = λ p t u st v w rel n s x i. ⊎_elim (λ k. process_keeps p t u st v w rel n s x i k) (λ k. other_keeps p t u st v w rel n s x i k) (part_of over m pre post q next p starts accesses x i);
       }

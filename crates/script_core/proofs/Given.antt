@@ -29,9 +29,11 @@ use Rattle.proc_laws.specs.Ready as laws
 use Rattle.proc_laws.specs.Ready.{HasItsBits, PinsHaveBits, UpdatesHaveBits}
 use Rattle.check_laws.proofs.Accepted.{module_well_driven}
 use Rattle.check_laws.proofs.Named.{same_ports}
+use Rattle.check_laws.proofs.Once.{driven_once}
 use Rattle.check_laws.proofs.Readable.{sound}
 use Rattle.check_laws.specs.Sound.{IsSoundModule}
 use Rattle.pass_laws.proofs.Agreeing.{agree_sym, driven_agree}
+use Rattle.pass_laws.proofs.Faultless.{no_faults}
 use Rattle.script_core.specs.Cold.{table_of}
 use Rattle.proc_laws.proofs.Taking.{accepted_faultless}
 use Rattle.script_core.specs.Fold.{MayStart}
@@ -174,15 +176,17 @@ readable_writes m h p i r j l k =
     let line = each_of (IsWrite m.wires) r.writes rule.writes l k in
     record { address = line.address.some; word = line.value.some }
 
+-- a module stays sound under another name
+under : (m : Module) (name : List ℕ) → IsSoundModule m → IsSoundModule (record m { id = name })
+under m name own = record { wires = own.wires; memories = own.memories; cells = own.cells; pins = own.pins; links = own.links; processes = own.processes }
+
 -- no bit of a module of an accepted design has two drivers, over its table of ports and under any name
 given_driven : (d : Design) → IsReadable d → check_faults d.modules ≡ [] → (m : Module) → In m d.modules → (name : List ℕ) → IsWellDriven (flat.table_ports (table_of d.modules m)) (record m { id = name })
 given_driven d readable none m i name =
     let all = sound d readable in
-    let own = all.modules m i in
-    let alike : IsSoundModule (record m { id = name }) = record { wires = own.wires; memories = own.memories; cells = own.cells; pins = own.pins; links = own.links; processes = own.processes } in
     driven_agree (flat.design_ports d) (flat.table_ports (table_of d.modules m)) (record m { id = name })
     (agree_sym (flat.table_ports (table_of d.modules m)) (flat.design_ports d) (instances m.cells) (agree d.modules m))
-    (module_well_driven (design_ports d.modules) (flat.design_ports d) (same_ports d all) (record m { id = name }) alike (bits_under d readable none m i name))
+    (module_well_driven (design_ports d.modules) (flat.design_ports d) (same_ports d all) (record m { id = name }) (under m name (all.modules m i)) (bits_under d readable none m i name))
 
 pub given_first : (d : Design) → IsReadable d → check_faults d.modules ≡ [] → (m : Module) → In m d.modules → (name : List ℕ) → MayStart (table_of d.modules m) (record m { id = name })
 given_first d readable none m i name =
@@ -190,12 +194,14 @@ given_first d readable none m i name =
     let within = readable_within m good in
     let bits = readable_bits m good in
     let own = (sound d readable).modules m i in
+    let faultless = faultless_under everything d readable none m i name in
     record {
       begins = record {
         ready = record {
-          faultless = accepted_faultless (table_ports (table_of d.modules m).modules) (record m { id = name }) (faultless_under everything d readable none m i name);
+          faultless = accepted_faultless (table_ports (table_of d.modules m).modules) (record m { id = name }) faultless;
           named = own.wires;
           within = record { cells = within.cells; links = within.links; processes = within.processes };
+          once = driven_once (table_ports (table_of d.modules m).modules) (record m { id = name }) (under m name own) (no_faults everything (table_ports (table_of d.modules m).modules) (record m { id = name }) faultless).bits;
         };
         placed = record { pins = bits.pins; updates = bits.updates };
         trees = readable_trees m good;

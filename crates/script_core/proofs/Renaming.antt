@@ -7,11 +7,9 @@ use Rattle.rtl_ir.specs.declared.module.Module.{Module}
 use Rattle.rtl_ir.specs.declared.ports.PortTable.{PortTable}
 use Rattle.rtl_ir.specs.Build.{Building, building_of}
 use Rattle.rtl_ir.specs.Types.{Ports, table_ports}
-use Rattle.follow_laws.specs.Inputs.{followed}
 use Rattle.opt_expr.specs.Sweep.{expr_of}
 use Rattle.opt_merge.specs.Merge.{merge_of}
-use Rattle.opt_clean.specs.Clean.{clean_of, is_all_inside, reduced}
-use Rattle.opt_clean.specs.Wires.{trimmed}
+use Rattle.opt_clean.specs.Clean.{clean_of}
 use Rattle.opt_rounds.specs.Rounds.{opt_of, round_of, rounds_of}
 use Rattle.map_laws.specs.Expansion.{cells_added}
 use Rattle.tech_map.proofs.Renaming.{expand_renamed}
@@ -71,11 +69,7 @@ module _ (id : List ℕ) where
       by false = refl
 
   clean_renamed : (P : Ports) (m : Module) → clean_of P (under m) ≡ under (clean_of P m)
-  clean_renamed P m = by (is_all_inside m)
-    where
-      by : (t : Bool) → cond t (under (trimmed (reduced P (followed P m)))) (under m) ≡ under (cond t (trimmed (reduced P (followed P m))) m)
-      by true = refl
-      by false = refl
+  clean_renamed P m = refl
 
   round_renamed : (P : Ports) (m : Module) → round_of P (under m) ≡ under (round_of P m)
   unfolding round_of

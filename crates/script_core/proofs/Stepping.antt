@@ -20,9 +20,7 @@ use Rattle.pass_laws.proofs.Faultless.{plain}
 use Rattle.pass_laws.proofs.Passes.{IsPass_refl, IsPass_trans}
 use Rattle.opt_expr.specs.Sweep.{expr_of}
 use Rattle.opt_merge.specs.Merge.{merge_of}
-use Rattle.opt_clean.specs.Clean.{clean_of, is_all_inside, reduced}
-use Rattle.opt_clean.specs.Wires.{trimmed}
-use Rattle.follow_laws.specs.Inputs.{followed}
+use Rattle.opt_clean.specs.Clean.{clean_of}
 use Rattle.opt_rounds.specs.Rounds.{opt_of, round_of, rounds_of}
 use Rattle.opt_expr.proofs.Sweeping.{expr_passes}
 use Rattle.opt_merge.proofs.Refining.{merge_pass}
@@ -77,11 +75,7 @@ goes_to table m k n g e = let same : k ≡ n = cc in subst (GoesOn table m) same
 -- ---- the memories stay
 
 clean_stores : (ports : Ports) (m : Module) → (clean_of ports m).memories ≡ m.memories
-clean_stores ports m = by (is_all_inside m)
-  where
-    by : (t : Bool) → (cond t (trimmed (reduced ports (followed ports m))) m).memories ≡ m.memories
-    by true = refl
-    by false = refl
+clean_stores ports m = refl
 
 round_stores : (ports : Ports) (m : Module) → (round_of ports m).memories ≡ m.memories
 unfolding round_of

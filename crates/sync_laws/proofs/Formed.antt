@@ -156,6 +156,7 @@ module _ (ports : Ports) (m : Module) (ready : IsReady with_processes ports m) (
     faultless = all_none none.wires none.stores cells processes none.links (fewer_faults m.id (drives_of ports (bare m)) (drives_of ports (whole m)) fewer 0 m.wires none.bits);
     named = bare_ready.named;
     within = record { cells = cells_in; links = bare_ready.within.links; processes = bare_ready.within.processes };
+    once = λ b. omega (arith, fewer b, bare_ready.once b);
   }
 
   pub sync_ready : IsReady with_processes ports (proc_sync_of m)

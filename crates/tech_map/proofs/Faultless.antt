@@ -1,5 +1,5 @@
 -- A module without faults stays one with gates in the places of cells, whatever part of designs is taken.
-use Rattle.std.proofs.Common.{◌≡◌, ◌≤◌, Bool, true, false, List, [], ◌∷◌, ◌++◌, Option, Some, None, inl, inr, refl, sym, ◌∙◌, ap, subst}
+use Rattle.std.proofs.Common.{◌≡◌, Bool, true, false, List, [], ◌∷◌, ◌++◌, Option, Some, None, inl, inr, refl, sym, ◌∙◌, ap, subst}
 use Rattle.std.specs.Prelude.{flat_map, not, ◌&&◌}
 use Rattle.std.specs.Option.{option_and_then, option_map_or}
 use Rattle.cell_types.specs.declared.kind.CellKind.TheVariants as Cells
@@ -28,8 +28,8 @@ use Rattle.pass_laws.proofs.Forming.{all_none}
 use Rattle.pass_laws.specs.Ready.{IsReady}
 use Rattle.pass_laws.specs.Replaces.{IsOutside}
 use Rattle.pass_laws.specs.Stays.{StaysFaultless}
-use Rattle.tech_map.specs.Techmap.{beside, techmap_of}
-use Rattle.tech_map.proofs.Forming.{takable, techmap_ready}
+use Rattle.tech_map.specs.Techmap.{techmap_of}
+use Rattle.tech_map.proofs.Forming.{swap_faultless, takable}
 use Rattle.tech_map.proofs.Remembering.{all_replaced}
 use Rattle.tech_map.proofs.Standing.{IsTakable, swapped, swapped_is}
 
@@ -123,7 +123,7 @@ outside_replaced : (pre : List Cell) (c : Cell) (post here : List Cell) → IsOu
 outside_replaced pre c post here o os h =
     each_both IsOutside pre (here ++ post) (λ d i. h d (In-left d pre (c ∷ post) i)) (each_both IsOutside here post os (λ d i. h d (In-right d pre (c ∷ post) (inr i))))
 
-module _ (known : Ports) (m : Module) (ready : IsReady known m) (names : (beside m).next ≤ 1000000000) where
+module _ (known : Ports) (m : Module) (ready : IsReady known m) where
   fine : IsTakable m
   fine = takable known m ready
 
@@ -137,9 +137,7 @@ module _ (known : Ports) (m : Module) (ready : IsReady known m) (names : (beside
     -- with the ports of whatever modules the module may be given to a pass, and so it may after it
     new_none : module_faults without_processes ports m ≡ [] → HasNoFaults without_processes ports new
     new_none f =
-        no_faults without_processes ports new
-        (subst (λ n. module_faults without_processes ports n ≡ []) (swapped_is m fine)
-        (techmap_ready ports m (record { faultless = f; named = ready.named; within = ready.within }) names).faultless)
+        no_faults without_processes ports new (swap_faultless ports m fine (no_faults without_processes ports m f))
 
     with_memories : scope.memories ≡ true → scope.clocks ≡ false → module_faults scope ports new ≡ []
     with_memories taken clocks =

@@ -5,6 +5,7 @@ use Rattle.cell_types.specs.declared.kind.CellKind.{CellKind}
 use Rattle.rtl_sig.specs.declared.sig.WireBit.{WireBit}
 use Rattle.rtl_ir.specs.Build.{Building, building_of}
 use Rattle.rtl_ir.specs.Drivers.{drive_count, drives_of, port_drives}
+use Rattle.rtl_ir.specs.Faults.{module_faults}
 use Rattle.rtl_ir.specs.Faults.Bits.{bits_faults}
 use Rattle.rtl_ir.specs.Faults.Cells.{cell_faults, is_memory_kind}
 use Rattle.rtl_ir.specs.Faults.Processes.{process_faults}
@@ -20,16 +21,16 @@ use Rattle.net_model.specs.Within.{CellIn, Each, LinkIn}
 use Rattle.map_laws.specs.Expansion.{IsWhole, IsWholeCell, IsWholeGate, IsWholeLink, bits_from, cell_bits, link_bits, links_added, wires_added}
 use Rattle.map_laws.proofs.FreshWires.{names_of}
 use Rattle.map_laws.proofs.Wholes.{cell_more, gate_more, line_more, link_more}
-use Rattle.pass_laws.proofs.Accesses.{accesses_stay, none_there}
-use Rattle.pass_laws.proofs.Alone.{IsSound, faultless_sound, library_faultless, no_link_faults, shape_of}
+use Rattle.pass_laws.proofs.Accesses.{accesses_stay, cells_access, cells_sound, none_there}
+use Rattle.pass_laws.proofs.Alone.{IsSound, faultless_sound, library_faultless, links_even, no_link_faults, shape_of}
 use Rattle.pass_laws.proofs.Counting.{bits_of, count, count_more, driven_count, links_more}
 use Rattle.pass_laws.proofs.Faultless.{HasNoFaults, IsPlain, no_faults, plain, type_is}
-use Rattle.pass_laws.proofs.Forming.{all_none, own_accesses, own_cells, own_links}
+use Rattle.pass_laws.proofs.Forming.{all_none, own_cells as ready_cells}
 use Rattle.pass_laws.specs.Bits.{cells_bits, links_bits, pin_bits}
 use Rattle.pass_laws.specs.Ready.{IsReady}
 use Rattle.pass_laws.specs.Replaces.{IsEven}
 use Rattle.tech_map.specs.Techmap.{beside, stand_in, stand_ins, taken_kind, techmap_of, with_all_gates, with_gates}
-use Rattle.build_laws.proofs.CountingBits.{cells_below, count_beyond, fresh_below, fresh_once, links_below, no_two, ports_below}
+use Rattle.build_laws.proofs.CountingBits.{cells_below, count_beyond, fresh_below, fresh_once, links_below, no_two, once_more, ports_below}
 use Rattle.pass_laws.proofs.Widening.{more_drives, more_faults}
 use Rattle.tech_map.proofs.Counts.{count-permutation}
 use Rattle.tech_map.proofs.Drives.{all_drive, gate_plain}
@@ -46,7 +47,7 @@ takable ports m ready =
     record {
       processes = fine.processes;
       whole = λ c i kind own.
-          let fits = shape_of ports c kind own (own_cells ports m ready c i) in
+          let fits = shape_of ports c kind own (ready_cells ports m ready c i) in
           record { own = own; shape = fits.fit; output = fits.output; within = ready.within.cells c i };
       within = ready.within;
     }
@@ -100,9 +101,13 @@ all_lines n (c ∷ cs) b whole few =
     (one_line n c b (whole c (inl refl)) (taken_kind c) refl (omega (arith, wires_later (λ name. None) cs next later, few)))
     (all_lines n cs next later few)
 
-module _ (ports : Ports) (m : Module) (ready : IsReady ports m) where
-  abbrev pub fine : IsTakable m
-  fine = takable ports m ready
+-- a module that can be taken, and has no faults over these ports
+module _ (ports : Ports) (m : Module) (fine : IsTakable m) (none : HasNoFaults without_processes ports m) where
+  own_cells : Each (IsSound ports) m.cells
+  own_cells = cells_sound ports m [] m.cells none.cells
+
+  own_links : Each IsEven m.links
+  own_links = links_even m.id 1 m.links none.links
 
   abbrev new : Module
   new = swapped m fine
@@ -119,20 +124,20 @@ module _ (ports : Ports) (m : Module) (ready : IsReady ports m) where
   cells_go : Each (GoesOn ports (length new.wires)) new.cells
   cells_go =
       all_go ports (length new.wires) m.cells (building_of m) fine.whole
-      (λ c i. (own_cells ports m ready c i, cell_more (length m.wires) (length new.wires) c (omega (arith, count_new)) (ready.within.cells c i))) few
+      (λ c i. (own_cells c i, cell_more (length m.wires) (length new.wires) c (omega (arith, count_new)) (fine.within.cells c i))) few
 
   whole_lines : Each (IsWholeLink (length new.wires)) (lines_more m fine)
   whole_lines = all_lines (length new.wires) m.cells (building_of m) fine.whole few
 
-  links_even : Each IsEven new.links
-  links_even =
-      each_of_two IsEven m.links (lines_more m fine) (own_links ports m ready)
+  even : Each IsEven new.links
+  even =
+      each_of_two IsEven m.links (lines_more m fine) own_links
       (λ l i. record { width = (whole_lines l i).even; wires = (whole_lines l i).left })
 
   links_within : Each (LinkIn (length new.wires)) new.links
   links_within =
       each_of_two (LinkIn (length new.wires)) m.links (lines_more m fine)
-      (λ l i. link_more (length m.wires) (length new.wires) l (omega (arith, count_new)) (ready.within.links l i))
+      (λ l i. link_more (length m.wires) (length new.wires) l (omega (arith, count_new)) (fine.within.links l i))
       (λ l i. (whole_lines l i).within)
 
   -- how often a bit is driven: as often as before, and once more where it is of a fresh wire
@@ -157,8 +162,8 @@ module _ (ports : Ports) (m : Module) (ready : IsReady ports m) where
 
   driven : (b : WireBit) → drive_count (drives_of ports new) b ≡ of_fresh b + drive_count (drives_of ports m) b
   driven b =
-      let before = driven_count ports m fine.processes (own_links ports m ready) b in
-      let after = driven_count ports new fine.processes links_even b in
+      let before = driven_count ports m fine.processes own_links b in
+      let after = driven_count ports new fine.processes even b in
       let p : count b (bits_of (port_drives 0 new.wires)) ≡ count b (bits_of (port_drives 0 m.wires)) = ap (λ z. count b (bits_of z)) (more_drives 0 m.wires (fresh m fine) (inner m fine)) in
       let cells : List WireBit = cells_bits ports new.cells in
       let more : List WireBit = links_bits (lines_more m fine) in
@@ -172,38 +177,42 @@ module _ (ports : Ports) (m : Module) (ready : IsReady ports m) where
   -- no bit of a fresh wire was driven
   not_before : (b : WireBit) → length m.wires ≤ b.wire → drive_count (drives_of ports m) b ≡ 0
   not_before b h =
-      let before = driven_count ports m fine.processes (own_links ports m ready) b in
+      let before = driven_count ports m fine.processes own_links b in
       let p : count b (bits_of (port_drives 0 m.wires)) ≡ 0 = count_beyond (length m.wires) b _ (ports_below (length m.wires) 0 m.wires (omega arith)) h in
-      let c : count b (cells_bits ports m.cells) ≡ 0 = count_beyond (length m.wires) b _ (cells_below (length m.wires) ports m.cells ready.within.cells) h in
-      let l : count b (links_bits m.links) ≡ 0 = count_beyond (length m.wires) b _ (links_below (length m.wires) m.links ready.within.links) h in
+      let c : count b (cells_bits ports m.cells) ≡ 0 = count_beyond (length m.wires) b _ (cells_below (length m.wires) ports m.cells fine.within.cells) h in
+      let l : count b (links_bits m.links) ≡ 0 = count_beyond (length m.wires) b _ (links_below (length m.wires) m.links fine.within.links) h in
       omega (arith, before, p, c, l, count_more b (cells_bits ports m.cells) (links_bits m.links))
 
   fresh_only : (b : WireBit) → length m.wires ≤ b.wire → drive_count (drives_of ports new) b ≤ 1
   fresh_only b h = omega (arith, driven b, not_before b h, fresh_once b (length m.wires) (fresh m fine))
 
-  none : HasNoFaults without_processes ports m
-  none = no_faults without_processes ports m ready.faultless
-
   no_cells : cell_faults without_processes ports new [] new.cells ≡ []
   no_cells =
       none_there ports new [] new.cells (λ c i. (cells_go c i).0)
-      (accesses_stay ports m new refl [] [] (λ name. refl) new.cells (accesses_kept m.cells (building_of m) fine.whole ports m (own_accesses ports m ready)))
+      (accesses_stay ports m new refl [] [] (λ name. refl) new.cells (accesses_kept m.cells (building_of m) fine.whole ports m (cells_access ports m [] m.cells none.cells)))
 
   no_bits : bits_faults m.id (drives_of ports new) 0 new.wires ≡ []
   no_bits =
       no_two m.id (drives_of ports new) (drives_of ports m) (length m.wires) old_only m.wires (fresh m fine) refl fresh_only none.bits
 
-  swap_ready : (beside m).next ≤ 1000000000 → IsReady ports new
-  swap_ready names = record {
-    faultless =
-        all_none (more_faults m.id [] m.wires (fresh m fine) (inner m fine) ∙ none.wires) none.stores no_cells
-        (ap (process_faults without_processes ports new []) fine.processes)
-        (no_link_faults m.id 1 new.links links_even) no_bits;
+  -- so it has none after the pass
+  pub swap_faultless : module_faults without_processes ports (swapped m fine) ≡ []
+  swap_faultless =
+      all_none (more_faults m.id [] m.wires (fresh m fine) (inner m fine) ∙ none.wires) none.stores no_cells
+      (ap (process_faults without_processes ports new []) fine.processes)
+      (no_link_faults m.id 1 new.links even) no_bits
+
+  pub swap_ready : IsReady ports m → (beside m).next ≤ 1000000000 → IsReady ports (swapped m fine)
+  swap_ready ready names = record {
+    faultless = swap_faultless;
     named =
         subst Distinct (sym (map-append (λ (w : Wire). w.name) m.wires (fresh m fine)))
         (Distinct-append (names_of m.wires) (names_of (fresh m fine)) ready.named (fresh_distinct m fine names) (λ name i j. names_apart m fine names name j i));
     within = record { cells = λ c i. (cells_go c i).1; links = links_within; processes = λ q i. absurd (subst (In q) fine.processes i) };
+    once = once_more (length m.wires) (drives_of ports m) (drives_of ports new) old_only fresh_only ready.once;
   }
 
-  pub techmap_ready : (beside m).next ≤ 1000000000 → IsReady ports (techmap_of m)
-  techmap_ready names = subst (IsReady ports) (sym (swapped_is m fine)) (swap_ready names)
+pub techmap_ready : (ports : Ports) (m : Module) → IsReady ports m → (beside m).next ≤ 1000000000 → IsReady ports (techmap_of m)
+techmap_ready ports m ready names =
+    let fine : IsTakable m = takable ports m ready in
+    subst (IsReady ports) (sym (swapped_is m fine)) (swap_ready ports m fine (no_faults without_processes ports m ready.faultless) ready names)

@@ -4,14 +4,13 @@ use Rattle.rtl_ir.specs.Ports.{ports_of}
 use Rattle.rtl_ir.specs.Types.{table_ports}
 use Rattle.net_model.specs.Refine.{IsWellDriven, RefinesIn}
 use Rattle.pass_laws.specs.Ready.{IsReady}
-use Rattle.fsm_laws.specs.Inside.{DrivesInside}
 use Rattle.fsm_code.specs.Machines.{IsMachineOf}
 use Rattle.fsm_code.proofs.Giving.{answer_gives}
 use Rattle.fsm_code.proofs.recode.Goals as goal
 
 pub returns-clause-refines : goal.returns-clause-refines
 returns-clause-refines c =
-    answer_gives c.args.ports.now c.args.module c.args.machine.now (λ after. IsMachineOf c.args.ports.now c.args.module c.args.machine.now → DrivesInside (table_ports c.args.ports.now.modules) c.args.module → RefinesIn c.args.module after c.args.ports.now) (λ n g. g.refines)
+    answer_gives c.args.ports.now c.args.module c.args.machine.now (λ after. IsMachineOf c.args.ports.now c.args.module c.args.machine.now → RefinesIn c.args.module after c.args.ports.now) (λ n g. g.refines)
     c.recoded_module.result c.recoded_module.ensures.exact c.recoded_module.ensures.within
 
 pub returns-clause-well_driven : goal.returns-clause-well_driven
@@ -22,11 +21,6 @@ returns-clause-well_driven c =
 pub returns-clause-well_formed : goal.returns-clause-well_formed
 returns-clause-well_formed c =
     answer_gives c.args.ports.now c.args.module c.args.machine.now (λ after. IsMachineOf c.args.ports.now c.args.module c.args.machine.now → IsReady (table_ports c.args.ports.now.modules) after) (λ n g of. (g.formed of).ready)
-    c.recoded_module.result c.recoded_module.ensures.exact c.recoded_module.ensures.within
-
-pub returns-clause-inside : goal.returns-clause-inside
-returns-clause-inside c =
-    answer_gives c.args.ports.now c.args.module c.args.machine.now (λ after. IsMachineOf c.args.ports.now c.args.module c.args.machine.now → DrivesInside (table_ports c.args.ports.now.modules) c.args.module → DrivesInside (table_ports c.args.ports.now.modules) after) (λ n g. g.inside)
     c.recoded_module.result c.recoded_module.ensures.exact c.recoded_module.ensures.within
 
 pub returns-clause-same_id : goal.returns-clause-same_id

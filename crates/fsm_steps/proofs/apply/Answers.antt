@@ -4,21 +4,23 @@ use Rattle.rtl_ir.specs.Types.{table_ports}
 use Rattle.rtl_ir.specs.declared.module.Module.{Module}
 use Rattle.pass_laws.specs.Pass.{IsPass, StaysDriven}
 use Rattle.pass_laws.proofs.Faultless.{plain}
-use Rattle.fsm_steps.proofs.Giving.{Gives, answer_gives}
+use Rattle.fsm_steps.proofs.Giving.{Gives, answer_gives, answered, passed}
 use Rattle.fsm_steps.proofs.apply.Goals as goal
 
-pub coded-requires : goal.coded-requires
-coded-requires c = record { process_free = (plain (table_ports c.args.ports.now.modules) c.args.module c.requires.ready.faultless).processes }
+pub each_machine-requires : goal.each_machine-requires
+each_machine-requires c = record { process_free = (plain (table_ports c.args.ports.now.modules) c.args.module c.requires.ready.faultless).processes }
 
 pub returns : goal.returns
 returns c =
     let m = c.args.module in
     let table = c.args.ports.now in
-    let r = c.coded.result in
-    let gives = answer_gives table m c.requires.ready r c.coded.ensures.exact in
+    let ports = table_ports table.modules in
+    let r = c.each_machine.result in
+    let within = answered ports m r c.each_machine.ensures.exact c.each_machine.ensures.within in
+    let gives = answer_gives table m c.requires.ready r within in
     record {
-      exact = c.coded.ensures.exact;
-      over = c.coded.ensures.over;
+      exact = within;
+      over = λ e. passed ports m (c.each_machine.ensures.over e);
       pass = IfOk-weaker r (Gives table m) (IsPass table m) (λ n g. g.pass) gives;
       driven = IfOk-weaker r (Gives table m) (StaysDriven m) (λ n g. g.driven) gives;
       same_memories = IfOk-weaker r (Gives table m) (λ (n : Module). n.memories ≡ m.memories) (λ n g. g.memories) gives;

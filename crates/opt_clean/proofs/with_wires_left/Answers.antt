@@ -6,8 +6,8 @@ use Rattle.opt_clean.specs.Wires.{cell_bits, link_bits, wire_marks}
 use Rattle.opt_clean.proofs.Wholes.{marks_length}
 use Rattle.opt_clean.proofs.with_wires_left.Goals as goal
 
-pub marked_wires-requires : goal.marked_wires-requires
-marked_wires-requires c =
+pub wires-requires : goal.wires-requires
+wires-requires c =
     let wires = c.as_slice-wires.result.now in
     let bits = flat_map cell_bits c.as_slice.result.now ++ flat_map link_bits c.args.links.now in
     record { long = ap length (c.as_slice-3.ensures.value ∙ c.in_ok-marks.ensures.value) ∙ marks_length bits 0 wires }
@@ -18,7 +18,7 @@ returns c =
     let marks : List Bool = wire_marks (flat_map cell_bits c.args.cells.items ++ flat_map link_bits c.args.links.now) 0 m.wires in
     let is : c.in_ok-marks.marks.items ≡ marks = c.in_ok-marks.ensures.value ∙ (λ i. wire_marks (flat_map cell_bits (c.as_slice.ensures.value i) ++ flat_map link_bits c.args.links.now) 0 (c.as_slice-wires.ensures.value i)) in
     let moves : AreMoves c.in_ok-moves.moves marks = subst (AreMoves c.in_ok-moves.moves) (c.as_slice-2.ensures.value ∙ is) c.in_ok-moves.ensures.value in
-    let wires = c.from_vec.ensures.value ∙ c.in_ok-marked_wires.ensures.value ∙ (λ i. marked ((c.as_slice-3.ensures.value ∙ is) i) (c.as_slice-wires.ensures.value i)) in
+    let wires = c.from_vec.ensures.value ∙ c.in_ok-wires.ensures.value ∙ (λ i. marked ((c.as_slice-3.ensures.value ∙ is) i) (c.as_slice-wires.ensures.value i)) in
     let cells = c.from_vec-2.ensures.value ∙ c.in_ok-cells.ensures.value marks moves in
     let links = c.from_vec-3.ensures.value ∙ c.in_ok-links.ensures.value marks moves in
     record {

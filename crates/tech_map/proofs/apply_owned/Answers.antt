@@ -33,7 +33,7 @@ pub returns-clause-faultless : goal.returns-clause-faultless
 returns-clause-faultless c =
     let m = c.args.module in
     answered_within c.mapped.result (techmap_of m) c.mapped.ensures.exact (IsInLimits (beside m)) c.mapped.ensures.within
-    (StaysFaultless m) (λ limits. techmap_faultless (table_ports c.args.ports.now.modules) m c.requires.ready limits.names)
+    (StaysFaultless m) (λ _. techmap_faultless (table_ports c.args.ports.now.modules) m c.requires.ready)
 
 pub returns-clause-gates : goal.returns-clause-gates
 returns-clause-gates c =

@@ -3,5 +3,5 @@ use Rattle.fsm_laws.proofs.refining.recoded_refines.Goals as goal
 
 pub returns : goal.returns
 returns c = record {
-  refines = λ table m at machine ready inside is. recoded_refines table m ready inside at machine is;
+  refines = λ table m at machine ready is. recoded_refines table m ready at machine is;
 }

@@ -1,7 +1,7 @@
 -- The wires so far and the marked ones that are left are all.
 use Rattle.std.proofs.Common.{◌≡◌, ◌++◌, drop}
 use Rattle.opt_clean.specs.Kept.{marked}
-use Rattle.opt_clean.proofs.wires.marked_wires.Given as goal
+use Rattle.opt_clean.proofs.wires.Moves.wires.Given as goal
 
 abbrev pub invariant-loop-place : goal.invariant-loop-place
 invariant-loop-place l =
