@@ -107,8 +107,12 @@ pub fn find<R: Wait, O: Order, L>(
         (meter.new ≡ risen meter.old n) × HasFailed seat.old seat.new n) }
     ensures ticks { RisesUpTo 1 meter.old meter.new }
 {
-    let text = order.text()?;
-    match ask(rt, cache, seat, &text)? {
+    // The text is freed before the value is built.
+    let asked = {
+        let text = order.text()?;
+        ask(rt, cache, seat, &text)?
+    };
+    match asked {
         Asked::Hit(value) => Ok(Found {
             value,
             is_new: false,

@@ -86,7 +86,7 @@ pub(crate) fn copied_pins(alloc: Global, pins: &[Pin]) -> Result<Seq<Pin>, Memor
     Ok(Seq::from_vec(Pin::copy_all(pins, alloc)?))
 }
 
-/// The pins, and a last one of this name with the whole signal of a wire.
+/// The pins, and a last one of this name with the whole signal of a wire. The list has room for no more.
 pub(crate) fn with_output(
     alloc: Global,
     pins: &[Pin],
@@ -96,13 +96,14 @@ pub(crate) fn with_output(
 ) -> Result<Seq<Pin>, Memory>
     ensures value { IfOk result (λ all. all ≡ pins.now ++ pin_of output.now (whole wire width) ∷ []) }
 {
-    let mut all = copied_pins(alloc, pins)?;
+    let mut all = copied_pins(alloc, pins)?.into_vec();
     let pin = Pin {
         name: Text::from_slice(alloc, output)?,
         sig: whole(alloc, wire, width)?,
     };
+    all.reserve_exact(1)?;
     all.push(pin)?;
-    Ok(all)
+    Ok(Seq::from_vec(all))
 }
 
 /// Puts a cell and a wire last. After an error the module is as before.

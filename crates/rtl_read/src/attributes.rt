@@ -4,6 +4,7 @@ ghost use Rattle.std.specs.Prelude.{◌≡◌, OnOk, IfOk};
 ghost use Rattle.rtl_read.specs.Meaning.Attribute.{no_attributes, put_at, with_attribute};
 
 use crate::few_names::FewNames;
+use crate::fitted::fitted;
 use rtl_bits::{Memory, Seq, Text};
 use rtl_ir::{Attribute, Value};
 use std::alloc::Global;
@@ -55,7 +56,7 @@ impl Attributes {
         ensures items { result ≡ self.old.items }
         ensures none { self.new ≡ no_attributes }
     {
-        self.names = FewNames::make(alloc);
-        mem::replace(&mut self.items, Seq::make(alloc))
+        self.names.clear(alloc);
+        fitted(mem::replace(&mut self.items, Seq::make(alloc)))
     }
 }

@@ -4,7 +4,7 @@ ghost use Rattle.std.specs.Prelude.{◌≡◌};
 ghost use Rattle.rtl_read.specs.Draft.{nothing};
 
 use crate::attributes::{Attributes, no_attributes};
-use crate::open_cell::{OpenCell, plain_cell};
+use crate::open_cell::{OpenCell, no_open_cell};
 use crate::open_module::{OpenModule, fresh_module};
 use crate::open_process::{OpenProcess, plain_process};
 use crate::options::{plain_store, plain_wire};
@@ -54,7 +54,7 @@ pub(crate) fn nothing(alloc: Global) -> Draft
         current: fresh_module(alloc, Text::make(alloc), Seq::make(alloc)),
         wire: plain_wire(alloc, Seq::make(alloc)),
         store: plain_store(alloc, Seq::make(alloc)),
-        cell: plain_cell(alloc, Seq::make(alloc)),
+        cell: no_open_cell(alloc),
         process: plain_process(alloc, Seq::make(alloc)),
         pair: PairKind::Connect,
         left: SigSpec::make(alloc),

@@ -40,6 +40,14 @@ impl FewNames {
         }
     }
 
+    /// Takes all names away. The room of the first of them stays.
+    pub(crate) fn clear(&mut self, alloc: Global)
+        ensures value { self.new ≡ [] }
+    {
+        self.first.clear();
+        self.others = Names::make(alloc);
+    }
+
     /// Whether the name is one of these.
     pub(crate) fn has(&self, name: &[u8]) -> bool
         ensures value { result ≡ is_some (number_of self.now name.now) }

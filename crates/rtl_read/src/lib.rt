@@ -6,6 +6,7 @@ mod attributes;
 mod constant;
 mod draft;
 mod few_names;
+mod fitted;
 mod laws;
 mod open_cell;
 mod open_module;

@@ -1,6 +1,6 @@
 //! The cell that is open.
 
-ghost use Rattle.std.specs.Prelude.{◌≡◌, OnOk};
+ghost use Rattle.std.specs.Prelude.{◌≡◌, [], OnOk};
 ghost use Rattle.rtl_lex.specs.Items.{as_seen};
 ghost use Rattle.rtl_read.specs.Gives.{Sets};
 ghost use Rattle.rtl_read.specs.Meaning.Cell.{
@@ -14,6 +14,7 @@ ghost use Rattle.rtl_read.specs.Meaning.Cell.{
 };
 
 use crate::few_names::FewNames;
+use crate::fitted::fitted;
 use crate::read_fault::ReadFault;
 use rtl_bits::{Memory, Seq, Text};
 use rtl_ir::{Attribute, Cell, CellParam, Pin, Value};
@@ -34,18 +35,25 @@ pub struct OpenCell {
     pub signed: bool,
 }
 
-/// A cell with these attributes, in which there is nothing yet.
-pub(crate) fn plain_cell(alloc: Global, attributes: Seq<Attribute>) -> OpenCell
-    ensures { result ≡ plain_cell attributes }
+/// A cell without a name, in which there is nothing.
+fn no_cell(alloc: Global) -> Cell
+    ensures { result ≡ (plain_cell []).cell }
+{
+    Cell {
+        kind_name: Text::make(alloc),
+        name: Text::make(alloc),
+        params: Seq::make(alloc),
+        pins: Seq::make(alloc),
+        attributes: Seq::make(alloc),
+    }
+}
+
+/// No cell yet.
+pub(crate) fn no_open_cell(alloc: Global) -> OpenCell
+    ensures { result ≡ plain_cell [] }
 {
     OpenCell {
-        cell: Cell {
-            kind_name: Text::make(alloc),
-            name: Text::make(alloc),
-            params: Seq::make(alloc),
-            pins: Seq::make(alloc),
-            attributes,
-        },
+        cell: no_cell(alloc),
         params: FewNames::make(alloc),
         pins: FewNames::make(alloc),
         name: Text::make(alloc),
@@ -54,6 +62,31 @@ pub(crate) fn plain_cell(alloc: Global, attributes: Seq<Attribute>) -> OpenCell
 }
 
 impl OpenCell {
+    /// A cell with these attributes begins, in which there is nothing yet.
+    pub(crate) fn begin(&mut self, alloc: Global, attributes: Seq<Attribute>)
+        ensures { self.new ≡ plain_cell attributes }
+    {
+        self.take(alloc);
+        self.cell.attributes = attributes;
+    }
+
+    /// The cell, which is whole. What is open has nothing in it after that.
+    pub(crate) fn take(&mut self, alloc: Global) -> Cell
+        ensures cell { result ≡ self.old.cell }
+        ensures none { self.new ≡ plain_cell [] }
+    {
+        self.params.clear(alloc);
+        self.pins.clear(alloc);
+        self.name = Text::make(alloc);
+        self.signed = false;
+        let cell = mem::replace(&mut self.cell, no_cell(alloc));
+        Cell {
+            params: fitted(cell.params),
+            pins: fitted(cell.pins),
+            ..cell
+        }
+    }
+
     /// Its type.
     pub(crate) fn set_kind(&mut self, alloc: Global, item: &Item<'_>) -> Result<(), Memory>
         ensures { OnOk result (self.new ≡ with_kind (as_seen item.now) self.old) }

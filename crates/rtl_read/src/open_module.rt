@@ -1,11 +1,11 @@
 //! The module that is open.
 
-ghost use Rattle.std.specs.Prelude.{◌≡◌, OnOk, Ok};
+ghost use Rattle.std.specs.Prelude.{◌≡◌, IfOk, OnOk, Ok, is_some, not};
+ghost use Rattle.rtl_sig.specs.Names.{number_of, with_name};
 ghost use Rattle.rtl_lex.specs.Items.{as_seen};
 ghost use Rattle.rtl_read.specs.Gives.{Sets};
 ghost use Rattle.rtl_read.specs.Meaning.Module.{
   fresh_module,
-  is_taken,
   with_item_name,
   with_wire,
   with_store,
@@ -57,22 +57,26 @@ pub(crate) fn fresh_module(alloc: Global, id: Text, attributes: Seq<Attribute>) 
     }
 }
 
-impl OpenModule {
-    /// Whether a wire, a memory, a cell or a process has this name.
-    fn is_taken(&self, name: &[u8]) -> bool
-        ensures { result ≡ is_taken name.now self.now }
-    {
-        find(&self.wire_names, name).is_some() || find(&self.other_names, name).is_some()
-    }
+/// Puts the name last where it is new, and tells whether it was.
+fn put_new(names: &mut Names, name: &[u8]) -> Result<bool, Memory>
+    ensures new { IfOk result (λ new. new ≡ not (is_some (number_of names.old name.now))) }
+    ensures names { OnOk result (names.new ≡ with_name names.old name.now) }
+{
+    let known = names.count();
+    let id = names.intern(name)?;
+    Ok(id.index >= known)
+}
 
+impl OpenModule {
     /// Takes the name of a memory, a cell or a process.
     pub(crate) fn take_name(&mut self, item: &Item<'_>) -> Result<(), ReadFault>
         ensures { Sets result self.new (with_item_name (as_seen item.now) self.old) }
     {
-        if self.is_taken(item.text) {
+        if find(&self.wire_names, item.text).is_some()
+            || !put_new(&mut self.other_names, item.text)?
+        {
             return Err(ReadFault::Duplicate(item.place));
         }
-        self.other_names.intern(item.text)?;
         Ok(())
     }
 
@@ -85,7 +89,9 @@ impl OpenModule {
     ) -> Result<(), ReadFault>
         ensures { Sets result self.new (with_wire (as_seen item.now) wire self.old) }
     {
-        if self.is_taken(item.text) {
+        if !put_new(&mut self.wire_names, item.text)?
+            || find(&self.other_names, item.text).is_some()
+        {
             return Err(ReadFault::Duplicate(item.place));
         }
         let width = wire.width as usize;
@@ -95,7 +101,6 @@ impl OpenModule {
         let mut wire = wire;
         wire.name = Text::from_slice(alloc, item.text)?;
         self.body.wires.push(wire)?;
-        self.wire_names.intern(item.text)?;
         self.bits += width;
         Ok(())
     }

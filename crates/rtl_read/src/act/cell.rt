@@ -16,12 +16,9 @@ ghost use Rattle.rtl_read.specs.Act.Cell.{
 
 use crate::constant::constant;
 use crate::draft::Draft;
-use crate::open_cell::plain_cell;
 use crate::read_fault::ReadFault;
-use rtl_bits::Seq;
 use rtl_lex::{Item, Sort};
 use std::alloc::Global;
-use std::mem;
 
 impl Draft {
     /// The type of a cell.
@@ -49,8 +46,8 @@ impl Draft {
         ensures { Sets result self.new (Ok (act_cell_body item.now.sort self.old)) }
     {
         if item.sort == Sort::End {
-            let cell = mem::replace(&mut self.cell, plain_cell(alloc, Seq::make(alloc)));
-            self.current.add_cell(cell.cell)?;
+            let cell = self.cell.take(alloc);
+            self.current.add_cell(cell)?;
         }
         Ok(())
     }

@@ -18,13 +18,14 @@ ghost use Rattle.rtl_read.specs.Act.Module.{
 
 use crate::constant::constant;
 use crate::draft::{Draft, PairKind};
-use crate::open_cell::plain_cell;
+use crate::fitted::fitted;
 use crate::open_module::fresh_module;
 use crate::open_process::plain_process;
 use crate::options::{plain_store, plain_wire};
 use crate::read_fault::ReadFault;
 use crate::signal::find;
 use rtl_bits::{Memory, Seq, Text};
+use rtl_ir::Module;
 use rtl_ir::limits::MAX_CELLS;
 use rtl_lex::{Item, Sort};
 use std::alloc::Global;
@@ -54,8 +55,13 @@ impl Draft {
         ensures { OnOk result (self.new ≡ close_module self.old) }
     {
         let fresh = fresh_module(alloc, Text::make(alloc), Seq::make(alloc));
-        let whole = mem::replace(&mut self.current, fresh);
-        self.modules.push(whole.body)
+        let body = mem::replace(&mut self.current, fresh).body;
+        self.modules.push(Module {
+            wires: fitted(body.wires),
+            cells: fitted(body.cells),
+            links: fitted(body.links),
+            ..body
+        })
     }
 
     /// A wire begins.
@@ -82,7 +88,7 @@ impl Draft {
             return Err(ReadFault::Limit(item.place));
         }
         let attributes = self.attributes.take(alloc);
-        self.cell = plain_cell(alloc, attributes);
+        self.cell.begin(alloc, attributes);
         Ok(())
     }
 
