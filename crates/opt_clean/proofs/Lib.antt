@@ -20,6 +20,7 @@ pub mod Cleaning
 pub mod Linking
 pub mod Wholes
 pub mod Steps
+pub mod Staying
 pub mod Running
 pub mod Tables
 pub mod MarkSteps

@@ -36,3 +36,11 @@ map_rest f rest more x y done after all r e m inv =
     ∙ ap (λ z. done ++ (z ∷ map f more)) e
     ∙ ap (λ z. done ++ map f z) (sym r)
     ∙ inv
+
+pub rest_kept : {A : Type 0} (rest more : List A) (x y : A) (done after all : List A) → rest ≡ x ∷ more → y ≡ x → after ≡ done ++ y ∷ [] → done ++ rest ≡ all → after ++ more ≡ all
+rest_kept rest more x y done after all r e m inv =
+    ap (λ z. z ++ more) m
+    ∙ append_assoc done (y ∷ []) more
+    ∙ ap (λ z. done ++ (z ∷ more)) e
+    ∙ ap (λ z. done ++ z) (sym r)
+    ∙ inv

@@ -6,9 +6,10 @@ mod keep;
 mod kept;
 pub mod laws;
 mod links;
+mod turned;
 mod wires;
 
-ghost use Rattle.std.specs.Prelude.{◌≡◌, [], ◌∷◌, ◌++◌, IfOk, OnOk, if◌then◌else◌};
+ghost use Rattle.std.specs.Prelude.{◌≡◌, [], ◌∷◌, ◌++◌, true, IfOk, OnOk, if◌then◌else◌};
 ghost use Rattle.rtl_ir.specs.Types as rtl;
 ghost use Rattle.rtl_ir.specs.Types.{table_ports};
 ghost use Rattle.net_index.specs.Drivers.{AreDrivers};
@@ -25,10 +26,11 @@ use crate::followed::followed_cells;
 use crate::keep::shown_wires;
 use crate::kept::kept_marks;
 use crate::links::links_of;
+use crate::turned::{Turned, are_all, both, count_of, has_count};
 use crate::wires::{Moves, wire_marks};
 use net_index::{Drivers, Types};
 use rtl_bits::{Copied, Memory, Seq};
-use rtl_ir::{Cell, Link, Module, PortTable};
+use rtl_ir::{Cell, Module, PortTable, Same};
 use std::alloc::Global;
 
 /// The module with what the outside needs: the cells that are kept, with followed inputs, one connection for each run
@@ -39,60 +41,87 @@ pub fn apply(alloc: Global, module: &Module, ports: &PortTable) -> Result<Module
     ensures exact { IfOk result (λ after. after ≡ clean_of (table_ports ports.now.modules) «module».now) }
     ensures pass { IfOk result (IsPass ports.now «module».now) }
 {
-    cleaned(alloc, module, ports)
+    let cleaned = apply_owned(alloc, module.copy()?, ports)?;
+    Ok(cleaned.after)
 }
 
-/// The module with what the outside needs.
-fn cleaned(alloc: Global, module: &Module, ports: &PortTable) -> Result<Module, Memory>
-    requires ready { IsReady (table_ports ports.now.modules) «module».now }
-    ensures exact { IfOk result (λ after. after ≡ clean_of (table_ports ports.now.modules) «module».now) }
-{
-    let kept = kept_parts(alloc, module, ports)?;
-    let after = with_wires_left(alloc, module, kept.cells, kept.links.as_slice())?;
-    Ok(after)
-}
-
-/// The cells of a module that are kept, with followed inputs, and the connections to what the outside sees.
+/// What the pass makes of a module, and whether that is the module itself.
 #[derive(Drop)]
-struct Parts {
-    cells: Vec<Cell>,
-    links: Vec<Link>,
+pub struct Cleaned {
+    pub after: Module,
+    pub is_same: bool,
 }
 
-/// What is kept of the module. The tables by which it is found are freed at the end.
-fn kept_parts(alloc: Global, module: &Module, ports: &PortTable) -> Result<Parts, Memory>
-    requires ready { IsReady (table_ports ports.now.modules) «module».now }
-    ensures exact { IfOk result (λ kept.
-        reduced (table_ports ports.now.modules) (followed (table_ports ports.now.modules) «module».now) ≡
-        record «module».now { cells = kept.cells.items; links = kept.links.items }) }
+/// As `apply`, of a module that is given away: each of its cells is freed when its turn comes, so that the cells before
+/// the pass and after it do not stand beside each other.
+pub fn apply_owned(alloc: Global, module: Module, ports: &PortTable) -> Result<Cleaned, Memory>
+    requires ready { IsReady (table_ports ports.now.modules) «module» }
+    ensures exact { IfOk result (λ cleaned. cleaned.after ≡ clean_of (table_ports ports.now.modules) «module») }
+    ensures pass { IfOk result (λ cleaned. IsPass ports.now «module» cleaned.after) }
+    ensures same { IfOk result (λ cleaned. cleaned.is_same ≡ true → cleaned.after ≡ «module») }
+{
+    let count = count_of(&module.wires);
+    let kept = kept_parts(alloc, module, ports)?;
+    let after = with_wires_left(alloc, kept.value)?;
+    let has_all = has_count(&after.wires, count);
+    Ok(Cleaned {
+        after,
+        is_same: both(kept.is_same, has_all),
+    })
+}
+
+/// The module with what is kept of its cells and connections, and whether that is the module itself. The tables by which
+/// it is found are freed at the end.
+fn kept_parts(alloc: Global, module: Module, ports: &PortTable) -> Result<Turned<Module>, Memory>
+    requires ready { IsReady (table_ports ports.now.modules) «module» }
+    ensures exact { IfOk result (λ kept. kept.value ≡
+        reduced (table_ports ports.now.modules) (followed (table_ports ports.now.modules) «module»)) }
+    ensures same { IfOk result (λ kept. kept.is_same ≡ true → kept.value ≡ «module») }
 {
     let types = Types::of_table(alloc, ports)?;
-    let index = Drivers::of(alloc, module, ports)?;
+    let index = Drivers::of(alloc, &module, ports)?;
     let kept = kept_by(alloc, module, &types, &index)?;
     Ok(kept)
 }
 
-/// What is kept of the module, by the types of its cells and its index.
-fn kept_by(alloc: Global, module: &Module, types: &Types, index: &Drivers) -> Result<Parts, Memory>
+/// As `kept_parts`, by the types of the module's cells and its index.
+fn kept_by(
+    alloc: Global,
+    module: Module,
+    types: &Types,
+    index: &Drivers,
+) -> Result<Turned<Module>, Memory>
     ensures exact { IfOk result (λ kept. (ports : rtl.Ports) → AreTypes types.now ports →
-        AreDrivers index.now ports «module».now → IsOnce ports «module».now →
-        reduced ports (followed ports «module».now) ≡
-        record «module».now { cells = kept.cells.items; links = kept.links.items }) }
+        AreDrivers index.now ports «module» → IsOnce ports «module» →
+        kept.value ≡ reduced ports (followed ports «module»)) }
+    ensures same { IfOk result (λ kept. kept.is_same ≡ true → kept.value ≡ «module») }
 {
     let wires = module.wires.as_slice();
     let shown = shown_wires(alloc, wires)?;
     let links = links_of(alloc, wires, shown.as_slice(), index)?;
-    let cells = followed_cells(alloc, module.cells.as_slice(), types, index)?;
+    let count = count_of(&module.cells);
+    let all = followed_cells(alloc, module.cells.into_vec(), types, index)?;
     let marks = kept_marks(
         alloc,
         shown.as_slice(),
-        cells.as_slice(),
+        all.value.as_slice(),
         links.as_slice(),
         types,
         index,
     )?;
-    let cells = marked_cells(alloc, cells, marks.as_slice())?;
-    Ok(Parts { cells, links })
+    let left = marked_cells(alloc, all.value, marks.as_slice())?;
+    let cells = Seq::from_vec(left);
+    let links = Seq::from_vec(links);
+    let has_all = has_count(&cells, count);
+    let has_same = links.same(&module.links);
+    Ok(Turned {
+        value: Module {
+            cells,
+            links,
+            ..module
+        },
+        is_same: are_all(all.is_same, has_all, has_same),
+    })
 }
 
 /// The marked cells.
@@ -120,27 +149,25 @@ fn add_if_marked(kept: &mut Vec<Cell>, cell: Cell, mark: bool) -> Result<(), Mem
     Ok(())
 }
 
-/// The module with these cells and connections, and the wires that are left.
-fn with_wires_left(
-    alloc: Global,
-    module: &Module,
-    cells: Vec<Cell>,
-    links: &[Link],
-) -> Result<Module, Memory>
-    ensures exact { IfOk result (λ after.
-        after ≡ trimmed (record «module».now { cells = cells.items; links = links.now })) }
+/// The module with the wires that are left.
+fn with_wires_left(alloc: Global, module: Module) -> Result<Module, Memory>
+    ensures exact { IfOk result (λ after. after ≡ trimmed «module») }
 {
     let wires = module.wires.as_slice();
-    let marks = wire_marks(alloc, wires, cells.as_slice(), links)?;
+    let marks = wire_marks(
+        alloc,
+        wires,
+        module.cells.as_slice(),
+        module.links.as_slice(),
+    )?;
     let moves = Moves::of(alloc, marks.as_slice())?;
+    let wires = moves.wires(alloc, wires, marks.as_slice())?;
+    let links = moves.links(alloc, module.links.as_slice())?;
+    let cells = moves.cells(alloc, module.cells.into_vec())?;
     Ok(Module {
-        id: module.id.copy()?,
-        attributes: module.attributes.copy()?,
-        parameters: module.parameters.copy()?,
-        wires: Seq::from_vec(moves.wires(alloc, wires, marks.as_slice())?),
-        memories: module.memories.copy()?,
-        cells: Seq::from_vec(moves.cells(alloc, cells)?),
-        processes: module.processes.copy()?,
-        links: Seq::from_vec(moves.links(alloc, links)?),
+        wires: Seq::from_vec(wires),
+        cells: Seq::from_vec(cells),
+        links: Seq::from_vec(links),
+        ..module
     })
 }

@@ -56,20 +56,6 @@ module _ (P : types.Ports) where
       let all : 32 ≡ n + (32 - n) = omega (arith, h) in
       ap (λ k. rounds_of P k m) all ∙ rounds_more n (32 - n) m ∙ rounds_stay (32 - n) (rounds_of P n m) e
 
-  -- a round changes the wires, the cells and the connections alone
-  abbrev frame : Module → Module
-  frame m = record m { wires = []; cells = []; links = [] }
-
-  cleaned_frame : (m : Module) → frame (clean_of P m) ≡ frame m
-  cleaned_frame m = refl
-
-  same_parts : (a b : Module) → frame a ≡ frame b → a.wires ≡ b.wires → a.cells ≡ b.cells → a.links ≡ b.links → a ≡ b
-  same_parts a b f w c l = λ i. record (f i) { wires = w i; cells = c i; links = l i }
-
-  -- where these stay, the module does
-  pub cleaned_same : (m after : Module) → after ≡ clean_of P m → after.wires ≡ m.wires → after.cells ≡ m.cells → after.links ≡ m.links → after ≡ m
-  cleaned_same m after e w c l = same_parts after m (ap frame e ∙ cleaned_frame m) w c l
-
   -- a round, of what the three passes give
   pub one_round : (m folded merged cleaned : Module) → folded ≡ expr_of P m → merged ≡ merge_of folded → cleaned ≡ clean_of P merged → cleaned ≡ round_of P m
   unfolding round_of

@@ -15,7 +15,7 @@ ghost use Rattle.opt_rounds.specs.Rounds.{opt_of, round_of};
 
 use opt_expr::Turn;
 use rtl_bits::Memory;
-use rtl_ir::{Module, PortTable, Same};
+use rtl_ir::{Module, PortTable};
 use std::alloc::Global;
 
 /// The most rounds.
@@ -50,7 +50,7 @@ fn rounds(alloc: Global, module: Module, ports: &PortTable) -> Result<Module, Me
     Ok(module)
 }
 
-/// One round. Each pass takes the module over, so no more than two stand beside each other at a time.
+/// One round. Each pass takes the module over and frees what goes of it.
 fn round(alloc: Global, module: Module, ports: &PortTable) -> Result<Turn, Memory>
     requires ready { IsReady (table_ports ports.now.modules) «module» }
     requires driven { IsWellDriven (flat.table_ports ports.now) «module» }
@@ -93,18 +93,9 @@ fn cleaned(alloc: Global, module: Module, ports: &PortTable) -> Result<Turn, Mem
     ensures exact { IfOk result (λ turn. turn.after ≡ clean_of (table_ports ports.now.modules) «module») }
     ensures same { IfOk result (λ turn. turn.is_same ≡ true → turn.after ≡ «module») }
 {
-    let after = opt_clean::apply(alloc, &module, ports)?;
-    let is_same = is_same(&after, &module);
-    Ok(Turn { after, is_same })
-}
-
-/// Whether `opt_clean` gave the wires, cells and connections of the module, and so the module: it changes nothing else.
-fn is_same(after: &Module, module: &Module) -> bool
-    ensures wires { result ≡ true → after.now.wires ≡ «module».now.wires }
-    ensures cells { result ≡ true → after.now.cells ≡ «module».now.cells }
-    ensures links { result ≡ true → after.now.links ≡ «module».now.links }
-{
-    after.links.same(&module.links)
-        && after.cells.same(&module.cells)
-        && after.wires.same(&module.wires)
+    let cleaned = opt_clean::apply_owned(alloc, module, ports)?;
+    Ok(Turn {
+        after: cleaned.after,
+        is_same: cleaned.is_same,
+    })
 }

@@ -42,7 +42,7 @@ fn pass(alloc: Global, word: Word, module: Module, ports: &PortTable) -> Result<
         Word::Proc => without_processes(alloc, module, ports),
         Word::OptExpr => Ok(opt_expr::apply_owned(alloc, module, ports)?.after),
         Word::OptMerge => Ok(opt_merge::apply_owned(alloc, module, ports)?),
-        Word::OptClean => Ok(opt_clean::apply(alloc, &module, ports)?),
+        Word::OptClean => Ok(opt_clean::apply_owned(alloc, module, ports)?.after),
         Word::Opt => Ok(opt_rounds::apply(alloc, module, ports)?),
         Word::Techmap => mapped(alloc, module, ports),
         Word::Memory => mem_steps::apply(alloc, module, ports),
