@@ -14,6 +14,12 @@ pub mod Staying
 pub mod Naming
 pub mod Shaping
 pub mod Sending
+pub mod OwnCalls
+pub mod OwnShard
+pub mod OwnResults
+pub mod EndedAges
+pub mod SoloRuns
+pub mod SoloPresent
 pub mod CrewPlaces
 pub mod CrewSteps
 pub mod CrewEnds

@@ -11,6 +11,7 @@ use Rattle.std.specs.Option.{is_some, option_or}
 use Rattle.std.proofs.Math.ListN.{drop_of_length-le}
 use Rattle.rtl_ir.specs.declared.module.Design.{Design}
 use Rattle.rtl_ir.specs.declared.module.Module.{Module}
+use Rattle.build_crew.specs.Kept.{kept_by}
 use Rattle.script_core.specs.declared.built.Built.{Built}
 use Rattle.script_core.specs.declared.key.Key.{Key}
 use Rattle.script_core.specs.declared.outcome.Outcome.{Outcome}
@@ -22,7 +23,7 @@ use Rattle.script_core.proofs.Refining.{value_named}
 use Rattle.desk_core.specs.declared.results.Results.{Results}
 use Rattle.desk_core.specs.Netlist.{done_modules, over_line, over_words}
 use Rattle.desk_core.specs.Shaped.{IsShaped}
-use Rattle.desk_core.specs.Results.{AreFound, AreSound, outcome_beside, outcomes_of, over_beside, over_of}
+use Rattle.desk_core.specs.Results.{AreBeside, AreFound, AreSound, outcome_beside, outcomes_of, over_beside, over_of}
 
 -- the results beside the modules from a place on begin with that one
 pub front : {X : Type 0} (xs : List X) (at : ℕ) (x : X) → at < length xs → x ≡ get_or xs at x → drop at xs ≡ x ∷ drop (at + 1) xs
@@ -150,14 +151,19 @@ outcomes_are f (m ∷ ms) (Some b ∷ found) h e all =
     ∙ ap (λ (os : List Outcome). f m ∷ os) (outcomes_are f ms found (λ i k c at there. h (suc i) k c at there) (omega arith) all)
 
 -- where beside each module stands its result, the outcomes are those of the cold run
-pub outcomes_cold : (design : Design) (script : List Word) (results : Results) → AreSound design script results → AreFound results.found.items
-    → outcomes_of design.modules results.found.items ≡ cold script design
-outcomes_cold design script results h all =
-    outcomes_are (outcome_of script design.modules) design.modules results.found.items
+pub outcomes_beside : (keys : List (List ℕ)) (design : Design) (script : List Word) (found : List (Option Built)) → AreBeside keys design script found → AreFound found
+    → outcomes_of design.modules found ≡ cold script design
+outcomes_beside keys design script found h all =
+    outcomes_are (outcome_of script design.modules) design.modules found
     (λ i m b at there.
     let own = h.own i b there in
     value_named design h.readable i m at script b.outcome (subst (λ (k : Key). IsValueOf k b.outcome) own.key own.value))
     h.beside all
+
+pub outcomes_cold : (design : Design) (script : List Word) (results : Results) → AreSound design script results → AreFound results.found.items
+    → outcomes_of design.modules results.found.items ≡ cold script design
+outcomes_cold design script results h all =
+    outcomes_beside (kept_by results.seats.items) design script results.found.items (record { readable = h.readable; beside = h.beside; own = h.own }) all
 
 -- the error by the results beside modules is that by their outcomes
 pub over_outcomes : (ms : List Module) (found : List (Option Built)) → length found ≡ length ms → list_all is_some found ≡ true → over_of ms found ≡ over_words ms (outcomes_of ms found)
@@ -172,10 +178,15 @@ over_outcomes (m ∷ ms) (Some b ∷ found) e all =
     by (Done n) = refl
     by (Over word) = refl
 
+pub over_found : (keys : List (List ℕ)) (design : Design) (script : List Word) (found : List (Option Built)) → AreBeside keys design script found → AreFound found
+    → over_of design.modules found ≡ over_words design.modules (cold script design)
+over_found keys design script found h all =
+    over_outcomes design.modules found h.beside all ∙ ap (over_words design.modules) (outcomes_beside keys design script found h all)
+
 pub over_cold : (design : Design) (script : List Word) (results : Results) → AreSound design script results → AreFound results.found.items
     → over_of design.modules results.found.items ≡ over_words design.modules (cold script design)
 over_cold design script results h all =
-    over_outcomes design.modules results.found.items h.beside all ∙ ap (over_words design.modules) (outcomes_cold design script results h all)
+    over_found (kept_by results.seats.items) design script results.found.items (record { readable = h.readable; beside = h.beside; own = h.own }) all
 
 -- where no outcome is over a limit, they are those of a netlist
 pub none_over : (f : Module → Outcome) (ms : List Module) → over_words ms (map f ms) ≡ None → map f ms ≡ map Done (done_modules (map f ms))

@@ -8,6 +8,7 @@ use Rattle.std.proofs.MapsCrossing as maps
 use Rattle.build_crew.proofs.finding.Found.TheSendSync as founds
 use Rattle.build_crew.specs.contracts.finding.Found as finding
 use Rattle.result_cache.proofs.cache.SharedCache.TheSendSync as caches
+use Rattle.result_cache.proofs.shard.Shard.TheSendSync as shards
 use Rattle.rtl_check.specs.contracts.checked.Checked as checked
 use Rattle.rtl_ir.specs.contracts.module.Design as designs
 use Rattle.rtl_ir.specs.contracts.table.DesignPorts as tables
@@ -33,6 +34,11 @@ use Rattle.script_core.specs.contracts.outcome.Outcome as outcomes
 use Rattle.desk_core.specs.contracts.crew_jobs.CrewJobs as jobs
 use Rattle.desk_core.specs.contracts.keys.Keys as tellers
 use Rattle.desk_core.specs.contracts.kept.Kept as kept
+use Rattle.desk_core.specs.contracts.own_results.OwnResults as own_results
+use Rattle.desk_core.specs.contracts.present.Present as presents
+use Rattle.desk_core.specs.contracts.solo.SoloDesk as desks
+use Rattle.desk_core.specs.contracts.solo.SoloDesk.TheInside as inside
+use Rattle.desk_core.proofs.ages.Ages.TheSendSync as ages
 
 -- what a module is made of
 ruleset parts = (
@@ -125,3 +131,26 @@ jobs_sync a R y =
         ),
       ),
     )
+
+-- a desk of one thread
+design_send : IsSend designs.the_row
+design_send = search (sendable, crosses, seqs.the_send, module_send) depth 40
+
+checked_send : IsSend checked.the_row
+checked_send = declared_send checked.the_type (design_send, tt)
+
+present_send : IsSend presents.the_row
+present_send = declared_send presents.the_type (search (sendable, crosses) depth 20, (checked_send, (scripts.the_send, tt)))
+
+own_send : IsSend own_results.the_row
+own_send =
+    declared_send own_results.the_type (
+      search (sendable, shards.the_send, kept_send) depth 30,
+      (ages.the_send, (search (sendable, crosses, kept_send) depth 40, tt)),
+    )
+
+inside_send : IsSend inside.the_row
+inside_send = declared_send inside.the_type (present_send, (own_send, tt))
+
+pub solo_send : IsSend desks.the_row
+solo_send = search (sendable, inside_send) depth 20

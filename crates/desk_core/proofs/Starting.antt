@@ -13,6 +13,8 @@ use Rattle.result_cache.proofs.Sharing.{share_new}
 use Rattle.build_crew.specs.Kept.{AreAllSeats, filled_by, is_kept_by, kept_by}
 use Rattle.script_core.specs.declared.built.Built.{Built}
 use Rattle.script_core.specs.declared.word.Word.{Word}
+use Rattle.desk_core.specs.declared.ages.Ages.{Ages}
+use Rattle.desk_core.specs.Results.{AreAged, AreBeside}
 use Rattle.desk_core.specs.declared.results.Results.{Results}
 use Rattle.rtl_sig.specs.Names.{has_name}
 use Rattle.desk_core.specs.Ages.{kept_in, texts_of}
@@ -56,20 +58,34 @@ readable_none : IsReadable (record { modules = [] })
 unfolding IsDistinct
 readable_none = record { modules = All-nil IsReadableModule; distinct = tt; count = omega arith }
 
+-- a table without keys
+pub aged_first : (ages : Ages) (kept : List (List ℕ)) → ages.keys ≡ [] → ages.ages.items ≡ [] → AreAged ages kept
+aged_first ages kept no_keys no_ages = record {
+  beside = ap length no_ages ∙ sym (ap length no_keys);
+  kept = λ q is. absurd (true≢false (sym (ap (λ (keys : List (List ℕ)). has_name (texts_of (kept_in keys ages.ages.items)) q) (sym no_keys) ∙ is)));
+  young = λ at age is. absurd (let no : None ≡ Some (Some age) = ap (λ (l : List (Option ℕ)). slice_get l at) (sym no_ages) ∙ is in cc);
+}
+
+-- results beside no module
+pub beside_first : (keys : List (List ℕ)) (design : Design) (script : List Word) (found : List (Option Built)) → design.modules ≡ [] → found ≡ [] → AreBeside keys design script found
+beside_first keys design script found none no_found = record {
+  readable = subst (λ (l : List Module). IsReadable (record { modules = l })) (sym none) readable_none;
+  beside = ap length no_found ∙ sym (ap length none);
+  own = λ at built is. absurd (let no : None ≡ Some (Some built) = ap (λ (l : List (Option Built)). slice_get l at) (sym no_found) ∙ is in cc);
+}
+
 -- results beside the modules of the empty design are sound
 pub sound_first : (design : Design) (script : List Word) (results : Results) → design.modules ≡ []
     → AreSeated results.cache.table.shared.table_id results.cache.shards results.seats.items → results.found.items ≡ [] → results.ages.keys ≡ [] → results.ages.ages.items ≡ [] → AreSound design script results
-sound_first design script results none idle found no_keys no_ages = record {
-  readable = subst (λ (l : List Module). IsReadable (record { modules = l })) (sym none) readable_none;
-  idle = idle;
-  aged = record {
-    beside = ap length no_ages ∙ sym (ap length no_keys);
-    kept = λ q is. absurd (true≢false (sym (ap (λ (keys : List (List ℕ)). has_name (texts_of (kept_in keys results.ages.ages.items)) q) (sym no_keys) ∙ is)));
-    young = λ at age is. absurd (let no : None ≡ Some (Some age) = ap (λ (l : List (Option ℕ)). slice_get l at) (sym no_ages) ∙ is in cc);
-  };
-  beside = ap length found ∙ sym (ap length none);
-  own = λ at built is. absurd (let no : None ≡ Some (Some built) = ap (λ (l : List (Option Built)). slice_get l at) (sym found) ∙ is in cc);
-}
+sound_first design script results none idle found no_keys no_ages =
+    let stand = beside_first (kept_by results.seats.items) design script results.found.items none found in
+    record {
+      readable = stand.readable;
+      idle = idle;
+      aged = aged_first results.ages (kept_by results.seats.items) no_keys no_ages;
+      beside = stand.beside;
+      own = stand.own;
+    }
 
 -- the state of a desk with them is the first one
 pub state_first : (design : Design) (now script : List Word) (results : Results) → design.modules ≡ [] → now ≡ script → results.ages.keys ≡ [] → state_of design now results ≡ first_state script

@@ -18,3 +18,4 @@ pub mod CrewBuilds
 pub mod Traces
 pub mod Shaped
 pub mod Present
+pub mod Solo

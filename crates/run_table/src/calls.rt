@@ -34,6 +34,13 @@ pub struct Ended {
     pub sink: MemSink,
 }
 
+impl Ended {
+    /// Whether it is done, with so many builds, and wrote these bytes.
+    pub fn ends_with(&self, builds: u64, bytes: &[u8]) -> bool {
+        self.status == Status::Done && self.builds == builds && self.sink.bytes() == bytes
+    }
+}
+
 /// The list of the number in a field, or of none.
 pub fn numbers_of(alloc: Global, field: &[u8]) -> Result<Vec<u64>, Memory> {
     let mut numbers = Vec::new(alloc);

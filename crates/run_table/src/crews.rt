@@ -1,6 +1,6 @@
 //! Sessions whose modules are built by crews of several sizes.
 
-use crate::calls::{Builds, ROOM, count_builds, words_of};
+use crate::calls::{Builds, Ended, ROOM, count_builds, words_of};
 use rtl_bits::{Memory, Steps, Text};
 use std::alloc::{AllocError, Global};
 use std::marker::Sync;
@@ -50,7 +50,7 @@ impl Gate for LastFirst {
 }
 
 /// The text of so many different modules, whose netlist they are.
-fn plain_modules(alloc: Global, count: u32) -> Result<String, AllocError> {
+pub fn plain_modules(alloc: Global, count: u32) -> Result<String, AllocError> {
     let mut text = String::new(alloc);
     for number in 0..count {
         let width = number.saturating_add(2);
@@ -62,24 +62,41 @@ fn plain_modules(alloc: Global, count: u32) -> Result<String, AllocError> {
     Ok(text)
 }
 
+/// How a call with these words over these bytes ends where job 0 waits until so many others have left; nothing where it
+/// gave up.
+pub fn held_first<R: Threads + Wait + Sync>(
+    rt: &R,
+    alloc: Global,
+    words: &[u8],
+    bytes: &[u8],
+    others: u32,
+) -> Result<Option<Ended>, Memory> {
+    let words = words_of(alloc, words)?;
+    let mut source = MemSource::make(Text::from_slice(alloc, bytes)?, Vec::new(alloc));
+    let mut sink = MemSink::make(alloc, ROOM, Vec::new(alloc))?;
+    let gate = LastFirst::make(others);
+    let mut meter = Steps::make(&Builds);
+    let words = words.as_slice();
+    let status = run(rt, alloc, words, &mut source, &mut sink, &gate, &mut meter);
+    let builds = meter.end(&Builds);
+    let ended = Ended {
+        status,
+        builds,
+        sink,
+    };
+    Ok((!gate.gave_up.load(Ordering::SeqCst)).then_some(ended))
+}
+
 /// Whether two workers build so many different modules where the first waits for all others.
 pub fn are_at_once<R: Threads + Wait + Sync>(
     rt: &R,
     alloc: Global,
     count: u32,
 ) -> Result<bool, Memory> {
-    let words = words_of(alloc, b"--workers 2")?;
     let text = plain_modules(alloc, count)?;
     let text = text.as_bytes();
-    let mut source = MemSource::make(Text::from_slice(alloc, text)?, Vec::new(alloc));
-    let mut sink = MemSink::make(alloc, ROOM, Vec::new(alloc))?;
-    let gate = LastFirst::make(count.saturating_sub(1));
-    let mut meter = Steps::make(&Builds);
-    let words = words.as_slice();
-    let status = run(rt, alloc, words, &mut source, &mut sink, &gate, &mut meter);
-    let builds = meter.end(&Builds);
-    let is_done = status == Status::Done && builds == u64::from(count) && sink.bytes() == text;
-    Ok(is_done && !gate.gave_up.load(Ordering::SeqCst))
+    let ended = held_first(rt, alloc, b"--workers 2", text, count.saturating_sub(1))?;
+    Ok(ended.is_some_and(|ended| ended.ends_with(u64::from(count), text)))
 }
 
 /// How many modules a design has here.

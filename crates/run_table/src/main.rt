@@ -5,6 +5,7 @@ mod calls;
 mod crews;
 mod cut;
 mod designs;
+mod desks;
 mod devices;
 mod keys;
 mod outside;
@@ -127,6 +128,19 @@ fn count_crews<R: Threads + Wait + Sync + AllocGlobal>(
     )
 }
 
+/// Counts what several desks answer.
+fn count_desks<R: Threads + Wait + Sync + AllocGlobal>(
+    rt: &R,
+    tally: &mut Tally,
+) -> Result<(), Memory> {
+    let alloc = rt.alloc();
+    let table = "desks";
+    tally.count(table, b"16 desks", desks::are_as_sessions(rt, alloc)?)?;
+    tally.count(table, b"two desks at once", desks::are_at_once(rt, alloc)?)?;
+    tally.count(table, b"a longer input", desks::is_too_long(rt, alloc)?)?;
+    tally.count(table, b"an ended input", desks::is_ended(rt, alloc)?)
+}
+
 /// Counts all rows.
 fn tally_of<R: Files + Threads + Wait + Sync + AllocGlobal>(rt: &R) -> Result<Tally, Memory> {
     let mut tally = Tally::make(rt.alloc());
@@ -134,6 +148,7 @@ fn tally_of<R: Files + Threads + Wait + Sync + AllocGlobal>(rt: &R) -> Result<Ta
     count_devices(rt, &mut tally)?;
     count_outside(rt, &mut tally)?;
     count_crews(rt, &mut tally)?;
+    count_desks(rt, &mut tally)?;
     Ok(tally)
 }
 

@@ -21,10 +21,10 @@ use Rattle.synth_run.proofs.Speaking.{any_both}
 read_both : (a b : List (List ℕ)) → read_lines (a ++ b) ≡ read_lines a ++ read_lines b
 read_both a b = map-append (strip_last 13) a b
 
-ended_by : (input : List ℕ) (lines : List (List ℕ)) (others : Lines) → lines_of input ≡ lines_before lines others → ended_lines input ≡ read_lines lines ++ read_lines others.ended
+pub ended_by : (input : List ℕ) (lines : List (List ℕ)) (others : Lines) → lines_of input ≡ lines_before lines others → ended_lines input ≡ read_lines lines ++ read_lines others.ended
 ended_by input lines others is = ap (λ (l : Lines). read_lines l.ended) is ∙ read_both lines others.ended
 
-all_by : (input : List ℕ) (lines : List (List ℕ)) (others : Lines) → lines_of input ≡ lines_before lines others
+pub all_by : (input : List ℕ) (lines : List (List ℕ)) (others : Lines) → lines_of input ≡ lines_before lines others
     → all_lines input ≡ read_lines lines ++ (read_lines others.ended ++ last_line others.rest)
 all_by input lines others is =
     ap (λ (ls : List (List ℕ)). ls ++ last_line (lines_of input).rest) (ended_by input lines others is)
@@ -33,17 +33,17 @@ all_by input lines others is =
 
 -- ---- whole commands
 
-filter_all : (a : List Command) → list_all is_whole a ≡ true → filter is_whole a ≡ a
-filter_all [] h = refl
-filter_all (command ∷ a) h = by (is_whole command) refl h (filter_all a)
+filter_all : {X : Type 0} (p : X → Bool) (a : List X) → list_all p a ≡ true → filter p a ≡ a
+filter_all p [] h = refl
+filter_all {X = X} p (x ∷ a) h = by (p x) refl h (filter_all p a)
   where
-    by : (t : Bool) → is_whole command ≡ t → (t && list_all is_whole a) ≡ true → (list_all is_whole a ≡ true → filter is_whole a ≡ a)
-        → filter is_whole (command ∷ a) ≡ command ∷ a
-    by true e h rest = rw e (ap (λ (cs : List Command). command ∷ cs) (rest h))
+    by : (t : Bool) → p x ≡ t → (t && list_all p a) ≡ true → (list_all p a ≡ true → filter p a ≡ a)
+        → filter p (x ∷ a) ≡ x ∷ a
+    by true e h rest = rw e (ap (λ (xs : List X). x ∷ xs) (rest h))
     by false e h rest = absurd (true≢false (sym h))
 
-filter_front : (a b : List Command) → list_all is_whole a ≡ true → filter is_whole (a ++ b) ≡ a ++ filter is_whole b
-filter_front a b h = filter-append is_whole a b ∙ ap (λ (cs : List Command). cs ++ filter is_whole b) (filter_all a h)
+pub filter_front : {X : Type 0} (p : X → Bool) (a b : List X) → list_all p a ≡ true → filter p (a ++ b) ≡ a ++ filter p b
+filter_front {X = X} p a b h = filter-append p a b ∙ ap (λ (xs : List X). xs ++ filter p b) (filter_all p a h)
 
 -- no command is whole that only the end of the input makes
 none_open : (reader : Option OpenBlock) → filter is_whole (commands_from reader []) ≡ []
@@ -58,7 +58,7 @@ ended_begins : (input : List ℕ) (lines : List (List ℕ)) (others : Lines) (tu
 ended_begins input lines others turns is begins =
     let next = begins.begins (read_lines others.ended) in (
       filter is_whole next.0,
-      ap (λ (ls : List (List ℕ)). filter is_whole (commands_of ls)) (ended_by input lines others is) ∙ ap (filter is_whole) next.1 ∙ filter_front (commands_in turns) next.0 begins.whole,
+      ap (λ (ls : List (List ℕ)). filter is_whole (commands_of ls)) (ended_by input lines others is) ∙ ap (filter is_whole) next.1 ∙ filter_front is_whole (commands_in turns) next.0 begins.whole,
     )
 
 all_begins : (input : List ℕ) (lines : List (List ℕ)) (others : Lines) (turns : List Turn) → lines_of input ≡ lines_before lines others → BeginsLines None (read_lines lines) turns
@@ -74,7 +74,7 @@ quit_all : (commands : List Command) (turns : List Turn) → Stops true (command
 quit_all commands turns stops begins = ap up_to_quit begins.1 ∙ stops.up_to begins.0 ∙ append-nil (commands_in turns)
 
 -- bytes that are within the limit stand in the front of an input up to its limit
-take_limit : (bytes more : List ℕ) (limit : ℕ) → length bytes ≤ limit → take limit (bytes ++ more) ≡ bytes ++ take (limit - length bytes) more
+pub take_limit : (bytes more : List ℕ) (limit : ℕ) → length bytes ≤ limit → take limit (bytes ++ more) ≡ bytes ++ take (limit - length bytes) more
 take_limit [] more limit h = let all : limit - 0 ≡ limit = omega arith in rw all refl
 take_limit (b ∷ bytes) more zero h = absurd (omega (arith, h))
 take_limit (b ∷ bytes) more (suc n) h =
@@ -123,13 +123,13 @@ module _ (bytes : List ℕ) (lines : List (List ℕ)) (turns : List Turn) (ended
       let first = ended_first in
       ap (list_any is_quit) first.1 ∙ any_both is_quit (commands_in turns) first.0 ∙ ap (λ (t : Bool). t || list_any is_quit first.0) (stops.has ∙ quit)
 
-not_over : (t : Bool) (commands : List Command) → list_any is_quit commands ≡ true → (t && not (list_any is_quit commands)) ≡ false
-not_over true commands h = rw h refl
-not_over false commands h = refl
+pub not_over : {X : Type 0} (p : X → Bool) (t : Bool) (all : List X) → list_any p all ≡ true → (t && not (list_any p all)) ≡ false
+not_over p true all h = rw h refl
+not_over p false all h = refl
 
 -- then the input does not pass its limit before a `quit`
 pub never_over : (input : List ℕ) (turns : List Turn) → input_commands input ≡ commands_in turns → list_any is_quit (commands_in turns) ≡ true → is_overlong input ≡ false
-never_over input turns is quit = not_over (is_long input) (input_commands input) (ap (list_any is_quit) is ∙ quit)
+never_over input turns is quit = not_over is_quit (is_long input) (input_commands input) (ap (list_any is_quit) is ∙ quit)
 
 -- ---- where all bytes of an input were taken
 
@@ -154,7 +154,7 @@ module _ (bytes : List ℕ) (lines : List (List ℕ)) (turns : List Turn) (reade
   ended_are =
       ap (λ (ls : List (List ℕ)). filter is_whole (commands_of ls)) (ended_by bytes lines (record { ended = []; rest = line }) whole_lines)
       ∙ ap (filter is_whole) (lines_are.commands [])
-      ∙ filter_front (commands_in turns) (commands_from reader []) lines_are.whole
+      ∙ filter_front is_whole (commands_in turns) (commands_from reader []) lines_are.whole
       ∙ ap (λ (cs : List Command). commands_in turns ++ cs) (none_open reader)
       ∙ append-nil (commands_in turns)
 

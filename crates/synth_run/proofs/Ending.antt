@@ -8,13 +8,13 @@ use Rattle.desk_core.specs.State.{first_state}
 use Rattle.synth_run.specs.declared.program.Status.{Status}
 use Rattle.synth_run.specs.declared.program.Status.TheVariants as statuses
 use Rattle.synth_run.specs.declared.words.Mode.{Mode}
-use Rattle.synth_run.specs.declared.words.Mode.TheVariants.{Synth, Session, Generate}
+use Rattle.synth_run.specs.declared.words.Mode.TheVariants.{Synth, Session, Generate, Desks}
 use Rattle.synth_run.specs.declared.words.Plan.{Plan}
 use Rattle.synth_run.specs.declared.session.Stop.{Stop}
 use Rattle.synth_run.specs.declared.session.Stop.TheVariants as halts
 use Rattle.synth_run.specs.Builds.{CountsTurns}
 use Rattle.synth_run.specs.Refined.{IsRefinedBy}
-use Rattle.synth_run.specs.Replies.{AnswersTaken, HasAnswered, HasBegun, HasRefined, IsCompleted, IsPrintedSession, IsReadThrough, status_of}
+use Rattle.synth_run.specs.Replies.{AnswersTaken, HasAnswered, HasBegun, HasRefined, IsCompleted, IsPrintedDesks, IsPrintedSession, IsReadThrough, status_of}
 use Rattle.synth_run.specs.Taking.{Broken, Held}
 use Rattle.synth_run.proofs.Replying.{begun_none, broken_answers, broken_begun, broken_counted, held_answered, held_begins, held_counted, held_prints, held_through}
 
@@ -62,8 +62,10 @@ pub begins : (mode : Mode) (script : List Word) (left had has : Option (List ℕ
 begins mode script left had has (Err stop) ok err = err
 begins Synth script None had has (Ok error) ok err = tt
 begins Session script None had has (Ok error) ok err = tt
+begins (Desks count) script None had has (Ok error) ok err = tt
 begins Synth script (Some input) had has (Ok error) ok err = (ok.0, ok.1, held_begins ok.0 had has ok.2)
 begins Session script (Some input) had has (Ok error) ok err = (ok.0, ok.1, held_begins ok.0 had has ok.2)
+begins (Desks count) script (Some input) had has (Ok error) ok err = (ok.0, ok.1, held_begins ok.0 had has ok.2)
 begins (Generate count) script left had has (Ok error) ok err = (ok.0, ok.1, held_begins ok.0 had has ok.2)
 
 -- of a plan that words have
@@ -75,14 +77,24 @@ not_done : (status other : Status) → status ≡ other → (other ≡ statuses.
 not_done status other is done refused (inl e) = done (sym is ∙ e)
 not_done status other is done refused (inr e) = refused (sym is ∙ e)
 
+-- what holds where the whole reply was written
+pub when_answered : (P : Type 0) (r : Result Bool Stop) (status : Status) → status ≡ status_of r → OnOk r P → (status ≡ statuses.Done) ⊎ (status ≡ statuses.Refused) → P
+when_answered P (Ok error) status is p e = p
+when_answered P (Err halts.Source) status is p e = absurd (not_done status statuses.ReadFault is (λ d. cc) (λ d. cc) e)
+when_answered P (Err halts.Sink) status is p e = absurd (not_done status statuses.WriteFault is (λ d. cc) (λ d. cc) e)
+when_answered P (Err halts.Memory) status is p e = absurd (not_done status statuses.Memory is (λ d. cc) (λ d. cc) e)
+
 -- the netlists of a session
 pub refined : (script : List Word) (left had has : Option (List ℕ)) (r : Result Bool Stop) (status : Status) → status ≡ status_of r
     → OnOk r (IfSome left (λ input. IsPrintedSession script input had has)) → IfSome left (λ input. HasRefined Session status script input had has)
 refined script None had has r status is prints = tt
-refined script (Some input) had has (Ok error) status is prints = λ _. prints
-refined script (Some input) had has (Err halts.Source) status is prints = λ e. absurd (not_done status statuses.ReadFault is (λ d. cc) (λ d. cc) e)
-refined script (Some input) had has (Err halts.Sink) status is prints = λ e. absurd (not_done status statuses.WriteFault is (λ d. cc) (λ d. cc) e)
-refined script (Some input) had has (Err halts.Memory) status is prints = λ e. absurd (not_done status statuses.Memory is (λ d. cc) (λ d. cc) e)
+refined script (Some input) had has r status is prints = when_answered (IsPrintedSession script input had has) r status is prints
+
+-- those of a session of several desks
+pub refined_desks : (count : ℕ) (script : List Word) (left had has : Option (List ℕ)) (r : Result Bool Stop) (status : Status) → status ≡ status_of r
+    → OnOk r (IfSome left (λ input. IsPrintedDesks count script input had has)) → IfSome left (λ input. HasRefined (Desks count) status script input had has)
+refined_desks count script None had has r status is prints = tt
+refined_desks count script (Some input) had has r status is prints = when_answered (IsPrintedDesks count script input had has) r status is prints
 
 -- the netlist of one text
 pub refined_text : (script : List Word) (left had has : Option (List ℕ)) (r : Result Bool Stop) (status : Status) → status ≡ status_of r

@@ -6,7 +6,7 @@ use Rattle.std.proofs.lemmas.List.{map-append, take_at}
 use Rattle.std.specs.Io.KnownBytes.{Appends, Consumes, IsAtEnd, Keeps}
 use Rattle.std.proofs.KnownBytes.{Appends-trans, Consumes-trans}
 use Rattle.synth_io.specs.declared.input.TheConstants.{LIMIT}
-use Rattle.synth_io.specs.Taking.{TakesAtMost, TakesJust}
+use Rattle.synth_io.specs.Taking.{TakesJust}
 use Rattle.desk_read.specs.declared.command.Command.{Command}
 use Rattle.desk_read.specs.Taking.{commands_from}
 use Rattle.desk_core.specs.State.{State}
@@ -19,6 +19,7 @@ use Rattle.synth_run.specs.declared.session.Session.{Session}
 use Rattle.synth_run.specs.declared.session.Stop.{Stop}
 use Rattle.synth_run.specs.declared.session.Stop.TheVariants as halts
 use Rattle.synth_run.proofs.Commanding.{all_are, all_first, at_end, bytes_begin, ended_are, input_begins, input_ends, lines_begin, never_over, past_limit, quit_taken}
+use Rattle.synth_run.proofs.Limits.{consumes_kept, consumes_none}
 use Rattle.synth_run.proofs.LineLemmas.{begins_bytes, bytes_both}
 use Rattle.synth_run.proofs.Speaking.{take_both, begins_both, breaks_both, builds_both, commands_both, errors_both, lines_both, lines_none, speaks_both, speaks_none, text_both, turns_both}
 
@@ -35,16 +36,7 @@ pub record Stands (start now : Session) (left rest had has : Option (List ℕ)) 
   pub told : Speaks start.speaker now.speaker false turns had has m n
   pub unended : is_unended now.line ≡ true
 
-consumes_none : (left : Option (List ℕ)) → Consumes left left []
-consumes_none None = tt
-consumes_none (Some bytes) = refl
-
-consumes_kept : (left rest : Option (List ℕ)) → Keeps left rest → Consumes left rest []
-consumes_kept None rest h = tt
-consumes_kept (Some bytes) None h = absurd h
-consumes_kept (Some bytes) (Some more) h = sym h
-
-at_end_none : (rest : Option (List ℕ)) (more : List ℕ) → IsAtEnd rest → rest ≡ Some more → more ≡ []
+pub at_end_none : (rest : Option (List ℕ)) (more : List ℕ) → IsAtEnd rest → rest ≡ Some more → more ≡ []
 at_end_none None more h e = absurd cc
 at_end_none (Some bytes) more h e =
     let same : bytes ≡ more = cc in
@@ -333,31 +325,3 @@ module _ (start now : Session) (left rest behind had has hold : Option (List ℕ
         → IfErr r (λ stop. Broken start.speaker.desk.state stop left behind had hold m n)
     past_cut (Ok error) source front = tt
     past_cut (Err stop) source front = stands_past_cut stop (λ e. source (ap Err e)) front
-
--- ---- how much was taken
-
--- so many bytes, and no more
-pub took_kept : (start now : Session) (left rest behind had has : Option (List ℕ)) (count m n : ℕ) → Stands start now left rest had has count m n → Keeps rest behind → TakesAtMost (LIMIT + 1) left behind
-took_kept start now left rest behind had has count m n stands kept = (
-  stands.bytes,
-  subst (Consumes left behind) (append-nil stands.bytes) (Consumes-trans left rest behind stands.bytes [] stands.taken (consumes_kept rest behind kept)),
-  omega (arith, stands.size, stands.within),
-)
-
--- bytes within the limit more
-pub took_more : (start now : Session) (piece : List ℕ) (left rest behind had has : Option (List ℕ)) (count more m n : ℕ) → Stands start now left rest had has count m n → Consumes rest behind piece
-    → length piece ≡ more → count + more ≤ LIMIT → TakesAtMost (LIMIT + 1) left behind
-took_more start now piece left rest behind had has count more m n stands read size within = (
-  stands.bytes ++ piece,
-  Consumes-trans left rest behind stands.bytes piece stands.taken read,
-  omega (arith, length-append stands.bytes piece, stands.size, size, within),
-)
-
--- one byte past it
-pub took_past : (start now : Session) (left rest behind had has : Option (List ℕ)) (count m n : ℕ) → Stands start now left rest had has count m n → count ≡ LIMIT → TakesJust 1 rest behind
-    → TakesAtMost (LIMIT + 1) left behind
-took_past start now left rest behind had has count m n stands full past = (
-  stands.bytes ++ past.0,
-  Consumes-trans left rest behind stands.bytes past.0 stands.taken past.1,
-  omega (arith, length-append stands.bytes past.0, stands.size, full, past.2),
-)

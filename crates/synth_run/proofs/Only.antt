@@ -18,13 +18,10 @@ use Rattle.reply_lines.specs.Lines.{error_reply, read_words}
 use Rattle.design_edit.specs.Modules.{PassesAt, with_module, with_modules}
 use Rattle.design_edit.specs.Places.{module_place}
 use Rattle.desk_core.specs.Answers.{IsEdited, IsTextAnswer, design_answer, refusal}
-use Rattle.desk_core.specs.State.{Answer, State, answer, first_state}
+use Rattle.desk_core.specs.State.{Answer, State, answer}
 use Rattle.desk_core.specs.Step.{IsAnswer, IsStep}
-use Rattle.synth_run.specs.declared.words.Mode.{Mode}
-use Rattle.synth_run.specs.declared.words.Mode.TheVariants.{Synth, Session, Generate}
-use Rattle.synth_run.specs.Replies.{IsReply}
 use Rattle.synth_run.specs.Said.{Said, said_of}
-use Rattle.synth_run.specs.Session.{AreTurns, Turn, commands_in, is_long, is_overlong, session_said}
+use Rattle.synth_run.specs.Session.{AreTurns, Turn, commands_in}
 use Rattle.synth_run.specs.Synth.{IsInputReply, IsTextReply, design_said}
 
 -- ---- one text
@@ -36,7 +33,7 @@ same_text script text said other (inr (fault, first, is)) (inl (design, reads, i
 same_text script text said other (inr (fault, first, is)) (inr (fault', first', is')) =
     is ∙ ap (λ (f : ReadFault). said_of (error_reply (read_words f))) (one_fault text fault fault' first first') ∙ sym is'
 
-same_input : (long : Bool) (script : List Word) (input : List ℕ) (said other : Said) → IsInputReply long script input said → IsInputReply long script input other → said ≡ other
+pub same_input : (long : Bool) (script : List Word) (input : List ℕ) (said other : Said) → IsInputReply long script input said → IsInputReply long script input other → said ≡ other
 same_input true script input said other is is' = is ∙ sym is'
 same_input false script input said other is is' = same_text script input said other is is'
 
@@ -137,7 +134,7 @@ turn_is t u command before reply after =
     ap (λ (c : Command). turn_of c t.before t.reply t.after) command ∙ ap (λ (s : State). turn_of u.command s t.reply t.after) before
     ∙ ap (λ (r : Reply). turn_of u.command u.before r t.after) reply ∙ ap (λ (s : State). turn_of u.command u.before u.reply s) after
 
-same_turns : (s : State) (ts us : List Turn) → AreTurns s ts → AreTurns s us → commands_in ts ≡ commands_in us → ts ≡ us
+pub same_turns : (s : State) (ts us : List Turn) → AreTurns s ts → AreTurns s us → commands_in ts ≡ commands_in us → ts ≡ us
 same_turns s [] [] f g e = refl
 same_turns s [] (u ∷ us) f g e = absurd cc
 same_turns s (t ∷ ts) [] f g e = absurd cc
@@ -152,9 +149,3 @@ same_turns s (t ∷ ts) (u ∷ us) f g e =
     let turn : t ≡ u = turn_is t u command before reply after in
     let others : ts ≡ us = same_turns u.after ts us (subst (λ (x : State). AreTurns x ts) after f.2) g.2 rest in
     cc
-
-pub same_reply : (mode : Mode) (script : List Word) (input : List ℕ) (said other : Said) → IsReply mode script input said → IsReply mode script input other → said ≡ other
-same_reply Synth script input said other f g = same_input (is_long input) script input said other f g
-same_reply Session script input said other (ts, f, is) (us, g, is') =
-    is ∙ ap (session_said (is_overlong input)) (same_turns (first_state script) ts us f.steps g.steps (f.commands ∙ sym g.commands)) ∙ sym is'
-same_reply (Generate count) script input said other f g = f ∙ sym g

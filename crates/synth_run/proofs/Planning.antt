@@ -5,12 +5,13 @@ use Rattle.std.specs.Result.{result_ok}
 use Rattle.script_core.specs.declared.word.Word.{Word}
 use Rattle.script_core.specs.Words.{IsScript, default_script, script_of}
 use Rattle.synth_run.specs.declared.words.Mode.{Mode}
-use Rattle.synth_run.specs.declared.words.Mode.TheVariants.{Synth, Session, Generate}
+use Rattle.synth_run.specs.declared.words.Mode.TheVariants.{Synth, Session, Generate, Desks}
 use Rattle.synth_run.specs.declared.words.Plan.{Plan}
 use Rattle.synth_run.specs.declared.program.Status.TheVariants as statuses
 use Rattle.synth_run.specs.Options.{Given, given_from, nothing_given}
 use Rattle.synth_run.specs.Builds.{HasCounted}
-use Rattle.synth_run.specs.Replies.{HasBegun, HasKept, HasRefined, IsPrintedSession, OfInput}
+use Rattle.synth_run.specs.Desks.{CountsDesks}
+use Rattle.synth_run.specs.Replies.{HasBegun, HasKept, HasRefined, IsPrintedDesks, IsPrintedSession, OfInput}
 use Rattle.synth_run.specs.Words.{given_script, given_workers, mode_of, plan_by, plan_of, plan_with}
 use Rattle.synth_run.proofs.Replying.{begun_none}
 use Rattle.synth_run.proofs.Speaking.{keeps_same}
@@ -43,7 +44,7 @@ with_sound (Some mode) text (Some script) (Some workers) plan given e =
 given_sound : (given : Option Given) (plan : Plan) → option_and_then plan_by given ≡ Some plan → IsSound plan
 given_sound None plan e = absurd cc
 given_sound (Some given) plan e =
-    with_sound (mode_of given.session given.generate) given.script (given_script given.script) (given_workers given.workers) plan refl e
+    with_sound (mode_of given.session given.generate given.desks given.workers) given.script (given_script given.script) (given_workers given.workers) plan refl e
 
 pub plan_sound : (words : List (List ℕ)) (plan : Plan) → plan_of words ≡ Some plan → IsSound plan
 plan_sound words plan e = given_sound (given_from nothing_given words) plan e
@@ -65,12 +66,19 @@ memory_refined Session script input had = no
     no (inl e) = absurd cc
     no (inr e) = absurd cc
 memory_refined (Generate count) script input had = λ e. absurd cc
+memory_refined (Desks count) script input had = no
+  where
+    no : (statuses.Memory ≡ statuses.Done) ⊎ (statuses.Memory ≡ statuses.Refused) → IsPrintedDesks count script input had had
+    no (inl e) = absurd cc
+    no (inr e) = absurd cc
 
 mode_refined : (mode : Mode) (script : List Word) (left had : Option (List ℕ)) → OfInput mode left (λ input. HasRefined mode statuses.Memory script input had had)
 mode_refined Synth script None had = tt
 mode_refined Session script None had = tt
+mode_refined (Desks count) script None had = tt
 mode_refined Synth script (Some input) had = memory_refined Synth script input had
 mode_refined Session script (Some input) had = memory_refined Session script input had
+mode_refined (Desks count) script (Some input) had = memory_refined (Desks count) script input had
 mode_refined (Generate count) script left had = memory_refined (Generate count) script [] had
 
 -- of each plan that words have
@@ -88,6 +96,7 @@ mode_kept : (mode : Mode) (had : Option (List ℕ)) → HasKept mode had had
 mode_kept Synth had = keeps_same had
 mode_kept Session had = tt
 mode_kept (Generate count) had = keeps_same had
+mode_kept (Desks count) had = tt
 
 pub nothing_written : (words : List (List ℕ)) (had : Option (List ℕ)) → IfSome (plan_of words) (λ plan. HasKept plan.mode had had)
 nothing_written words had = each_plan (plan_of words) (λ (plan : Plan). HasKept plan.mode had had) (λ plan. mode_kept plan.mode had)
@@ -96,6 +105,11 @@ mode_counted : (mode : Mode) (script : List Word) (left : Option (List ℕ)) (m 
 mode_counted Synth script left m = λ other. absurd (other refl)
 mode_counted Session script left m = λ other. absurd (other refl)
 mode_counted (Generate count) script left m = λ other. absurd (other refl)
+mode_counted (Desks count) script left m = no
+  where
+    no : (statuses.Memory ≡ statuses.Done) ⊎ (statuses.Memory ≡ statuses.Refused) → IfSome left (λ input. CountsDesks count script input m m)
+    no (inl e) = absurd cc
+    no (inr e) = absurd cc
 
 pub nothing_counted : (words : List (List ℕ)) (left : Option (List ℕ)) (m : ℕ) → IfSome (plan_of words) (λ plan. HasCounted plan.mode statuses.Memory plan.script left left m m)
 nothing_counted words left m =
@@ -111,3 +125,6 @@ not_session mode is count e = let no : Session ≡ Generate count = sym is ∙ e
 pub never_made : (o : Option Plan) (plan : Plan) (P : Type 0) → o ≡ Some plan → ((count : ℕ) → plan.mode ≡ Generate count → ⊥)
     → IfSome o (λ p. (count : ℕ) → p.mode ≡ Generate count → P)
 never_made o plan P e never = subst (λ (x : Option Plan). IfSome x (λ p. (count : ℕ) → p.mode ≡ Generate count → P)) (sym e) (λ count made. absurd (never count made))
+
+pub not_desks : (mode : Mode) (desks : ℕ) → mode ≡ Desks desks → (count : ℕ) → mode ≡ Generate count → ⊥
+not_desks mode desks is count e = let no : Desks desks ≡ Generate count = sym is ∙ e in cc

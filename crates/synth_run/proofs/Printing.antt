@@ -58,7 +58,7 @@ printed s t reply g is fine = by (over_words s.design.modules (cold s.script s.d
         let wrong : reply.error ≡ true = ap (λ (r : Reply). r.error) (reply_is ∙ ap (unless_over s (printed_reply (built_words s) (text_of (netlist_of s)))) e) in
         absurd (true≢false (sym wrong ∙ fine))
 
-turn_prints : (command : Command) (s t : State) (reply : Reply) → IsGood s → IsStep command s reply t → PrintsNetlist command s reply
+pub turn_prints : (command : Command) (s t : State) (reply : Reply) → IsGood s → IsStep command s reply t → PrintsNetlist command s reply
 turn_prints (Load text) s t reply g is = tt
 turn_prints (Edit text) s t reply g is = tt
 turn_prints (Remove name) s t reply g is = tt

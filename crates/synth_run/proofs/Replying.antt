@@ -14,7 +14,7 @@ use Rattle.desk_read.specs.declared.command.Command.{Command}
 use Rattle.desk_core.specs.State.{State, first_state}
 use Rattle.reply_lines.specs.Lines.{error_reply, read_words}
 use Rattle.synth_run.specs.declared.words.Mode.{Mode}
-use Rattle.synth_run.specs.declared.words.Mode.TheVariants.{Synth, Session, Generate}
+use Rattle.synth_run.specs.declared.words.Mode.TheVariants.{Synth, Session, Generate, Desks}
 use Rattle.synth_run.specs.declared.session.Stop.{Stop}
 use Rattle.synth_run.specs.declared.session.Stop.TheVariants as halts
 use Rattle.synth_run.specs.Builds.{CountsTurns}
@@ -24,6 +24,7 @@ use Rattle.synth_run.specs.Said.{Said, said_of, too_long}
 use Rattle.synth_run.specs.Session.{AreTurns, IsSession, Turn, commands_in, input_commands, is_long, is_overlong, session_said, state_after, text_in}
 use Rattle.synth_run.specs.Synth.{IsInputReply, IsSynthReply, IsTextReply, design_said}
 use Rattle.synth_run.specs.Taking.{Broken, Held, IsCut, SpeaksFor}
+use Rattle.synth_run.proofs.Desking.{some_desks}
 use Rattle.synth_run.proofs.Printing.{turns_print}
 use Rattle.synth_run.proofs.Speaking.{appends_nothing, commands_both, text_both, turns_both}
 use Rattle.synth_run.proofs.Stepping.{first_good, some_turns, turns_good}
@@ -52,6 +53,7 @@ some_reply Session script input is =
     let found = session_turns script input is in
     (session_said (is_overlong input) found.0, (found.0, found.1, refl))
 some_reply (Generate count) script input is = (generated_said script count, refl)
+some_reply (Desks count) script input is = some_desks count script input is
 
 -- nothing is a front of the reply
 front_of : (mode : Mode) (script : List Word) (input : List ℕ) (had : Option (List ℕ)) → IsScript script
@@ -63,13 +65,15 @@ front_of mode script input had is =
 pub begun_none : (mode : Mode) (script : List Word) (before had : Option (List ℕ)) → IsScript script → HasBegun mode script before had had
 begun_none Synth script None had is = tt
 begun_none Session script None had is = tt
+begun_none (Desks count) script None had is = tt
 begun_none Synth script (Some input) had is = front_of Synth script input had is
 begun_none Session script (Some input) had is = front_of Session script input had is
+begun_none (Desks count) script (Some input) had is = front_of (Desks count) script input had is
 begun_none (Generate count) script before had is = front_of (Generate count) script [] had is
 
 -- ---- a session to its end
 
-left_of : (input bytes : List ℕ) (rest : Option (List ℕ)) → Consumes (Some input) rest bytes → (more : List ℕ) × (rest ≡ Some more) × (input ≡ bytes ++ more)
+pub left_of : (input bytes : List ℕ) (rest : Option (List ℕ)) → Consumes (Some input) rest bytes → (more : List ℕ) × (rest ≡ Some more) × (input ≡ bytes ++ more)
 left_of input bytes None taken = absurd taken
 left_of input bytes (Some more) taken = (more, refl, taken)
 

@@ -184,7 +184,7 @@ breaks_both a b stop ts us had has hold m n o f g = record {
 
 -- ---- lines
 
-all_both : {X : Type 0} (p : X → Bool) (a b : List X) → list_all p a ≡ true → list_all p b ≡ true → list_all p (a ++ b) ≡ true
+pub all_both : {X : Type 0} (p : X → Bool) (a b : List X) → list_all p a ≡ true → list_all p b ≡ true → list_all p (a ++ b) ≡ true
 all_both p [] b h k = k
 all_both p (x ∷ a) b h k = by (p x) h (λ g. all_both p a b g k)
   where

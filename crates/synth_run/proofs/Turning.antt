@@ -140,7 +140,7 @@ fed_whole (Some block) line command after takes = inside_whole (is_end line) blo
 
 -- ---- lines
 
-any_whole : (before : Option OpenBlock) (line : List ℕ) (answer : Option Command) (after : Option OpenBlock) → Takes before line answer after → list_all is_whole (option_to_list answer) ≡ true
+pub any_whole : (before : Option OpenBlock) (line : List ℕ) (answer : Option Command) (after : Option OpenBlock) → Takes before line answer after → list_all is_whole (option_to_list answer) ≡ true
 any_whole before line None after takes = refl
 any_whole before line (Some command) after takes = rw (fed_whole before line command after takes) refl
 

@@ -20,7 +20,7 @@ use Rattle.clap.specs.Matches.{first_value, one_text}
 use Rattle.clap.specs.declared.parser.matches.Found.{Found}
 use Rattle.synth_run.specs.Options.{Form, Given, before, form_of, given_by, given_from, holds, holds_by, is_equals, is_value, nothing, nothing_given, one_word, session, value_from, with_session, with_value}
 use Rattle.synth_run.specs.declared.options.Name.{Name}
-use Rattle.synth_run.specs.declared.options.Name.TheVariants.{Script, Workers, Generate}
+use Rattle.synth_run.specs.declared.options.Name.TheVariants.{Script, Workers, Generate, Desks}
 use Rattle.synth_run.specs.Values.{options_app, switch_rule, value_rule}
 
 -- ---- tests
@@ -94,6 +94,7 @@ abbrev text_of : Name → Text
 text_of Script = codes "script"
 text_of Workers = codes "workers"
 text_of Generate = codes "gen"
+text_of Desks = codes "desks"
 
 abbrev session_id : Text
 session_id = codes "session"
@@ -102,11 +103,13 @@ abbrev value_of : Name → Given → Option Text
 value_of Script given = given.script
 value_of Workers given = given.workers
 value_of Generate given = given.generate
+value_of Desks given = given.desks
 
 abbrev with_text : Name → Text → Given → Given
 with_text Script value given = record given { script = Some value }
 with_text Workers value given = record given { workers = Some value }
 with_text Generate value given = record given { generate = Some value }
+with_text Desks value given = record given { desks = Some value }
 
 abbrev session_row : Bool → Option Row
 session_row b = if b then Some (row_by CommandLine session_id (codes "true")) else None
@@ -116,11 +119,13 @@ record Holds (given : Given) (rows : List Row) : Type 0 where
   script : row_at (codes "script") rows ≡ option_map (row_by CommandLine (codes "script")) given.script
   workers : row_at (codes "workers") rows ≡ option_map (row_by CommandLine (codes "workers")) given.workers
   generate : row_at (codes "gen") rows ≡ option_map (row_by CommandLine (codes "gen")) given.generate
+  desks : row_at (codes "desks") rows ≡ option_map (row_by CommandLine (codes "desks")) given.desks
 
 holds_value : (name : Name) (given : Given) (rows : List Row) → Holds given rows → row_at (text_of name) rows ≡ option_map (row_by CommandLine (text_of name)) (value_of name given)
 holds_value Script given rows h = h.script
 holds_value Workers given rows h = h.workers
 holds_value Generate given rows h = h.generate
+holds_value Desks given rows h = h.desks
 
 holds_session_too : (given : Given) (rows : List Row) → Holds given rows → given.session ≡ false
     → Holds (record given { session = true }) (rows ++ row_by CommandLine session_id (codes "true") ∷ [])
@@ -129,6 +134,7 @@ holds_session_too given rows h none = record {
   script = finds_old (codes "script") rows _ refl ∙ h.script;
   workers = finds_old (codes "workers") rows _ refl ∙ h.workers;
   generate = finds_old (codes "gen") rows _ refl ∙ h.generate;
+  desks = finds_old (codes "desks") rows _ refl ∙ h.desks;
 }
 
 holds_value_too : (name : Name) (value : Text) (given : Given) (rows : List Row) → Holds given rows → value_of name given ≡ None
@@ -138,18 +144,28 @@ holds_value_too Script value given rows h none = record {
   script = finds_new (codes "script") rows _ (h.script ∙ ap (option_map (row_by CommandLine (codes "script"))) none) refl;
   workers = finds_old (codes "workers") rows _ refl ∙ h.workers;
   generate = finds_old (codes "gen") rows _ refl ∙ h.generate;
+  desks = finds_old (codes "desks") rows _ refl ∙ h.desks;
 }
 holds_value_too Workers value given rows h none = record {
   session = finds_old session_id rows _ refl ∙ h.session;
   script = finds_old (codes "script") rows _ refl ∙ h.script;
   workers = finds_new (codes "workers") rows _ (h.workers ∙ ap (option_map (row_by CommandLine (codes "workers"))) none) refl;
   generate = finds_old (codes "gen") rows _ refl ∙ h.generate;
+  desks = finds_old (codes "desks") rows _ refl ∙ h.desks;
 }
 holds_value_too Generate value given rows h none = record {
   session = finds_old session_id rows _ refl ∙ h.session;
   script = finds_old (codes "script") rows _ refl ∙ h.script;
   workers = finds_old (codes "workers") rows _ refl ∙ h.workers;
   generate = finds_new (codes "gen") rows _ (h.generate ∙ ap (option_map (row_by CommandLine (codes "gen"))) none) refl;
+  desks = finds_old (codes "desks") rows _ refl ∙ h.desks;
+}
+holds_value_too Desks value given rows h none = record {
+  session = finds_old session_id rows _ refl ∙ h.session;
+  script = finds_old (codes "script") rows _ refl ∙ h.script;
+  workers = finds_old (codes "workers") rows _ refl ∙ h.workers;
+  generate = finds_old (codes "gen") rows _ refl ∙ h.generate;
+  desks = finds_new (codes "desks") rows _ (h.desks ∙ ap (option_map (row_by CommandLine (codes "desks"))) none) refl;
 }
 
 -- what one more option asks of those before it
@@ -174,6 +190,7 @@ value_asks : (name : Name) (value : Text) (given more : Given) → with_value na
 value_asks Script value given more e = asks_none (is_value value) given.script (record given { script = Some value }) more e
 value_asks Workers value given more e = asks_none (is_value value) given.workers (record given { workers = Some value }) more e
 value_asks Generate value given more e = asks_none (is_value value) given.generate (record given { generate = Some value }) more e
+value_asks Desks value given more e = asks_none (is_value value) given.desks (record given { desks = Some value }) more e
 
 -- ---- words
 
@@ -193,6 +210,7 @@ abbrev dashed : Name → Text
 dashed Script = codes "--script"
 dashed Workers = codes "--workers"
 dashed Generate = codes "--gen"
+dashed Desks = codes "--desks"
 
 -- the word of a form
 abbrev Spells : Text → Form → Type 0
@@ -213,18 +231,24 @@ spelled_by word name value e = first (bytes_eq name (codes "--script")) refl
     is : (text : Text) → bytes_eq name text ≡ true → word ≡ text ++ 61 ∷ value
     is text same = e ∙ ap (λ (t : Text). t ++ 61 ∷ value) ((bytes_eq-Decides name text).0 same)
 
-    third : (b : Bool) → bytes_eq name (codes "--gen") ≡ b → Spells word (if b then holds Generate value else nothing)
+    fourth : (b : Bool) → bytes_eq name (codes "--desks") ≡ b → Spells word (if b then holds Desks value else nothing)
+    fourth true same = is (codes "--desks") same
+    fourth false same = tt
+
+    third : (b : Bool) → bytes_eq name (codes "--gen") ≡ b
+        → Spells word (if b then holds Generate value else if bytes_eq name (codes "--desks") then holds Desks value else nothing)
     third true same = is (codes "--gen") same
-    third false same = tt
+    third false same = fourth (bytes_eq name (codes "--desks")) refl
 
     second : (b : Bool) → bytes_eq name (codes "--workers") ≡ b
-        → Spells word (if b then holds Workers value else if bytes_eq name (codes "--gen") then holds Generate value else nothing)
+        → Spells word (if b then holds Workers value else if bytes_eq name (codes "--gen") then holds Generate value
+        else if bytes_eq name (codes "--desks") then holds Desks value else nothing)
     second true same = is (codes "--workers") same
     second false same = third (bytes_eq name (codes "--gen")) refl
 
     first : (b : Bool) → bytes_eq name (codes "--script") ≡ b
         → Spells word (if b then holds Script value else if bytes_eq name (codes "--workers") then holds Workers value
-        else if bytes_eq name (codes "--gen") then holds Generate value else nothing)
+        else if bytes_eq name (codes "--gen") then holds Generate value else if bytes_eq name (codes "--desks") then holds Desks value else nothing)
     first true same = is (codes "--script") same
     first false same = second (bytes_eq name (codes "--workers")) refl
 
@@ -239,24 +263,29 @@ spelled_one word = go (nat_lt (position_or_len is_equals word) (length word)) re
 spelled : (word : Text) → Spells word (form_of word)
 spelled word = first (bytes_eq word (codes "--session")) refl
   where
-    fourth : (b : Bool) → bytes_eq word (codes "--gen") ≡ b → Spells word (if b then before Generate else one_word word)
+    fifth : (b : Bool) → bytes_eq word (codes "--desks") ≡ b → Spells word (if b then before Desks else one_word word)
+    fifth true same = (bytes_eq-Decides word (codes "--desks")).0 same
+    fifth false same = spelled_one word
+
+    fourth : (b : Bool) → bytes_eq word (codes "--gen") ≡ b
+        → Spells word (if b then before Generate else if bytes_eq word (codes "--desks") then before Desks else one_word word)
     fourth true same = (bytes_eq-Decides word (codes "--gen")).0 same
-    fourth false same = spelled_one word
+    fourth false same = fifth (bytes_eq word (codes "--desks")) refl
 
     third : (b : Bool) → bytes_eq word (codes "--workers") ≡ b
-        → Spells word (if b then before Workers else if bytes_eq word (codes "--gen") then before Generate else one_word word)
+        → Spells word (if b then before Workers else if bytes_eq word (codes "--gen") then before Generate else if bytes_eq word (codes "--desks") then before Desks else one_word word)
     third true same = (bytes_eq-Decides word (codes "--workers")).0 same
     third false same = fourth (bytes_eq word (codes "--gen")) refl
 
     second : (b : Bool) → bytes_eq word (codes "--script") ≡ b
         → Spells word (if b then before Script else if bytes_eq word (codes "--workers") then before Workers
-        else if bytes_eq word (codes "--gen") then before Generate else one_word word)
+        else if bytes_eq word (codes "--gen") then before Generate else if bytes_eq word (codes "--desks") then before Desks else one_word word)
     second true same = (bytes_eq-Decides word (codes "--script")).0 same
     second false same = third (bytes_eq word (codes "--workers")) refl
 
     first : (b : Bool) → bytes_eq word (codes "--session") ≡ b
         → Spells word (if b then session else if bytes_eq word (codes "--script") then before Script else if bytes_eq word (codes "--workers") then before Workers
-        else if bytes_eq word (codes "--gen") then before Generate else one_word word)
+        else if bytes_eq word (codes "--gen") then before Generate else if bytes_eq word (codes "--desks") then before Desks else one_word word)
     first true same = (bytes_eq-Decides word (codes "--session")).0 same
     first false same = second (bytes_eq word (codes "--script")) refl
 
@@ -289,12 +318,14 @@ value_use : (name : Name) (value : Text) (rows : List Row) → row_at (text_of n
 value_use Script value rows none = ap (λ b. (not b || false) && values_pass (rule_by Script) (value ∷ [])) (no_row (codes "script") rows none)
 value_use Workers value rows none = ap (λ b. (not b || false) && values_pass (rule_by Workers) (value ∷ [])) (no_row (codes "workers") rows none)
 value_use Generate value rows none = ap (λ b. (not b || false) && values_pass (rule_by Generate) (value ∷ [])) (no_row (codes "gen") rows none)
+value_use Desks value rows none = ap (λ b. (not b || false) && values_pass (rule_by Desks) (value ∷ [])) (no_row (codes "desks") rows none)
 
 value_used : (name : Name) (value : Text) (rows : List Row) → row_at (text_of name) rows ≡ None
     → used (rule_by name) (value ∷ []) rows ≡ rows ++ row_by CommandLine (text_of name) value ∷ []
 value_used Script value rows none = used_once (codes "script") value rows none
 value_used Workers value rows none = used_once (codes "workers") value rows none
 value_used Generate value rows none = used_once (codes "gen") value rows none
+value_used Desks value rows none = used_once (codes "desks") value rows none
 
 -- ---- one word
 
@@ -326,6 +357,7 @@ unfolding walked
 attached_walked Script value h = refl
 attached_walked Workers value h = refl
 attached_walked Generate value h = refl
+attached_walked Desks value h = refl
 
 attached_turn : (name : Name) (value : Text) (h : Held) → settle_passes known false h ≡ true → row_at (text_of name) (settled known h).rows ≡ None
     → turn_passes shape [] (walk_from h) (dashed name ++ 61 ∷ value) ≡ true
@@ -335,17 +367,21 @@ attached_turn Workers value h settles none = and_true (settle_passes known false
     (and_true (settle_passes known false h) _ settles (value_use Workers value (settled known h).rows none)) refl
 attached_turn Generate value h settles none = and_true (settle_passes known false h && use_passes false (rule_by Generate) (value ∷ []) (settled known h).rows) true
     (and_true (settle_passes known false h) _ settles (value_use Generate value (settled known h).rows none)) refl
+attached_turn Desks value h settles none = and_true (settle_passes known false h && use_passes false (rule_by Desks) (value ∷ []) (settled known h).rows) true
+    (and_true (settle_passes known false h) _ settles (value_use Desks value (settled known h).rows none)) refl
 
 apart_walked : (name : Name) (h : Held) → walked known [] (walk_from h) (dashed name) ≡ waiting_at name h
 unfolding walked
 apart_walked Script h = refl
 apart_walked Workers h = refl
 apart_walked Generate h = refl
+apart_walked Desks h = refl
 
 apart_turn : (name : Name) (h : Held) → settle_passes known false h ≡ true → turn_passes shape [] (walk_from h) (dashed name) ≡ true
 apart_turn Script h settles = and_true (settle_passes known false h) true settles refl
 apart_turn Workers h settles = and_true (settle_passes known false h) true settles refl
 apart_turn Generate h settles = and_true (settle_passes known false h) true settles refl
+apart_turn Desks h settles = and_true (settle_passes known false h) true settles refl
 
 -- a value goes to the option that waits for it
 value_met : (id value : Text) (h : Held) → is_value value ≡ true → word_met known [] false (option id) 1 value h ≡ plain_word known (option id) value h
@@ -360,6 +396,7 @@ unfolding walked
 value_walked Script value h is = ap (λ (met : Held × Step). after_step known value (waiting_at Script h) met.0 met.1) (value_met (codes "script") value (waiting_at Script h).held is)
 value_walked Workers value h is = ap (λ (met : Held × Step). after_step known value (waiting_at Workers h) met.0 met.1) (value_met (codes "workers") value (waiting_at Workers h).held is)
 value_walked Generate value h is = ap (λ (met : Held × Step). after_step known value (waiting_at Generate h) met.0 met.1) (value_met (codes "gen") value (waiting_at Generate h).held is)
+value_walked Desks value h is = ap (λ (met : Held × Step). after_step known value (waiting_at Desks h) met.0 met.1) (value_met (codes "desks") value (waiting_at Desks h).held is)
 
 value_passes_word : (s : Shape) (id value : Text) (h : Held) → is_value value ≡ true → word_passes s [] false (option id) value h ≡ true
 value_passes_word s id value h is =
@@ -375,6 +412,8 @@ value_turn Workers value h is = and_true _ _ (value_passes_word shape (codes "wo
     (ap (λ (met : Held × Step). step_passes shape 1 met.0 met.1) (value_met (codes "workers") value (waiting_at Workers h).held is))
 value_turn Generate value h is = and_true _ _ (value_passes_word shape (codes "gen") value (waiting_at Generate h).held is)
     (ap (λ (met : Held × Step). step_passes shape 1 met.0 met.1) (value_met (codes "gen") value (waiting_at Generate h).held is))
+value_turn Desks value h is = and_true _ _ (value_passes_word shape (codes "desks") value (waiting_at Desks h).held is)
+    (ap (λ (met : Held × Step). step_passes shape 1 met.0 met.1) (value_met (codes "desks") value (waiting_at Desks h).held is))
 
 -- ---- the words in turn
 
@@ -455,6 +494,10 @@ apart_stands Generate value given h stands none =
     let no = no_value Generate given h stands none in
     stands_with (with_text Generate value given) (held_with Generate value h) _ (value_use Generate value (settled known h).rows no) (value_used Generate value (settled known h).rows no)
     (holds_value_too Generate value given (settled known h).rows stands.rows none)
+apart_stands Desks value given h stands none =
+    let no = no_value Desks given h stands none in
+    stands_with (with_text Desks value given) (held_with Desks value h) _ (value_use Desks value (settled known h).rows no) (value_used Desks value (settled known h).rows no)
+    (holds_value_too Desks value given (settled known h).rows stands.rows none)
 
 goes_by : (value : Text) (words : List Text) → Goes words → GoesBy (value ∷ words)
 goes_by value words goes name given end h stands e =
@@ -488,7 +531,7 @@ all_go (word ∷ words) =
 -- ---- the matches
 
 nothing_stands : Stands nothing_given nothing_held
-nothing_stands = record { settles = refl; rows = record { session = refl; script = refl; workers = refl; generate = refl } }
+nothing_stands = record { settles = refl; rows = record { session = refl; script = refl; workers = refl; generate = refl; desks = refl } }
 
 reads_all : (words : List Text) (given : Given) → given_from nothing_given words ≡ Some given → Reads words (walk_from nothing_held) given
 reads_all words given e = (all_go words).0 nothing_given given nothing_held nothing_stands e
@@ -517,7 +560,9 @@ with_session_row b rows = if b then rows else rows ++ row_by DefaultValue sessio
 
 finished_rows : (given : Given) (h : Held) → Stands given h → finished known h ≡ with_session_row given.session (settled known h).rows
 finished_rows given h stands =
-    no_default (rule_by Generate) (with_default (with_default (with_default (settled known h).rows session_rule) (rule_by Script)) (rule_by Workers)) refl
+    no_default (rule_by Desks)
+    (with_default (with_default (with_default (with_default (settled known h).rows session_rule) (rule_by Script)) (rule_by Workers)) (rule_by Generate)) refl
+    ∙ no_default (rule_by Generate) (with_default (with_default (with_default (settled known h).rows session_rule) (rule_by Script)) (rule_by Workers)) refl
     ∙ no_default (rule_by Workers) (with_default (with_default (settled known h).rows session_rule) (rule_by Script)) refl
     ∙ no_default (rule_by Script) (with_default (settled known h).rows session_rule) refl ∙ go given.session refl
   where
@@ -564,6 +609,7 @@ not_session : (name : Name) → bytes_eq session_id (text_of name) ≡ false
 not_session Script = refl
 not_session Workers = refl
 not_session Generate = refl
+not_session Desks = refl
 
 value_read : (name : Name) (words : List Text) (given : Given) → given_from nothing_given words ≡ Some given
     → first_of (text_of name) (matches_of options_app words) ≡ value_of name given
@@ -588,18 +634,18 @@ as_flag : (found : Found) (b wanted : Bool) → AsFlag found b → one_text foun
 as_flag found b true flag e = flag.0 e
 as_flag found b false flag e = flag.1 e
 
-pub options_read : (words : List Text) (found : Found) (b : Bool) (script workers generate : Option Text) → is_some (given_from nothing_given words) ≡ true
+pub options_read : (words : List Text) (found : Found) (b : Bool) (script workers generate desks : Option Text) → is_some (given_from nothing_given words) ≡ true
     → rows_of found ≡ matches_of options_app words → AsFlag found b → script ≡ first_value found (codes "script") → workers ≡ first_value found (codes "workers")
-    → generate ≡ first_value found (codes "gen")
-    → given_from nothing_given words ≡ Some (record { session = b; script = script; workers = workers; generate = generate })
-options_read words found b script workers generate meant rows flag script_is workers_is generate_is =
+    → generate ≡ first_value found (codes "gen") → desks ≡ first_value found (codes "desks")
+    → given_from nothing_given words ≡ Some (record { session = b; script = script; workers = workers; generate = generate; desks = desks })
+options_read words found b script workers generate desks meant rows flag script_is workers_is generate_is desks_is =
     let by = options_in (given_from nothing_given words) meant in
     let given = by.0 in
     let flag_is : b ≡ given.session = as_flag found b given.session flag
     (one_text-rows found session_id ∙ ap (one_of session_id) rows ∙ session_read words given by.1) in
     let text_is = λ (name : Name). first_value-rows found (text_of name) ∙ ap (first_of (text_of name)) rows ∙ value_read name words given by.1 in
-    by.1 ∙ ap Some (same given b script workers generate flag_is (script_is ∙ text_is Script) (workers_is ∙ text_is Workers) (generate_is ∙ text_is Generate))
+    by.1 ∙ ap Some (same given b script workers generate desks flag_is (script_is ∙ text_is Script) (workers_is ∙ text_is Workers) (generate_is ∙ text_is Generate) (desks_is ∙ text_is Desks))
   where
-    same : (given : Given) (b : Bool) (script workers generate : Option Text) → b ≡ given.session → script ≡ given.script → workers ≡ given.workers → generate ≡ given.generate
-        → given ≡ record { session = b; script = script; workers = workers; generate = generate }
-    same given b script workers generate e f g h = λ i. record { session = sym e i; script = sym f i; workers = sym g i; generate = sym h i }
+    same : (given : Given) (b : Bool) (script workers generate desks : Option Text) → b ≡ given.session → script ≡ given.script → workers ≡ given.workers → generate ≡ given.generate → desks ≡ given.desks
+        → given ≡ record { session = b; script = script; workers = workers; generate = generate; desks = desks }
+    same given b script workers generate desks e f g h k = λ i. record { session = sym e i; script = sym f i; workers = sym g i; generate = sym h i; desks = sym k i }

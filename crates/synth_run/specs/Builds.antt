@@ -12,7 +12,8 @@ use Rattle.desk_core.specs.State.{first_state}
 use Rattle.synth_run.specs.declared.program.Status.{Status}
 use Rattle.synth_run.specs.declared.program.Status.TheVariants as statuses
 use Rattle.synth_run.specs.declared.words.Mode.{Mode}
-use Rattle.synth_run.specs.declared.words.Mode.TheVariants.{Synth, Session, Generate}
+use Rattle.synth_run.specs.declared.words.Mode.TheVariants.{Synth, Session, Generate, Desks}
+use Rattle.synth_run.specs.Desks.{CountsDesks}
 use Rattle.synth_run.specs.Generated.{generated_state}
 use Rattle.synth_run.specs.Session.{AreTurns, Turn, all_commands, builds_in, commands_in, up_to_quit}
 use Rattle.synth_run.specs.Synth.{fresh_state}
@@ -45,3 +46,5 @@ HasCounted Session status script left rest before after =
     (status ≡ statuses.Memory → ⊥) → (bytes : List ℕ) × Consumes left rest bytes × CountsTurns script bytes before after
 HasCounted (Generate count) status script left rest before after =
     (status ≡ statuses.Memory → ⊥) → RisesUpTo (built_count (generated_state script count)) before after
+HasCounted (Desks count) status script left rest before after =
+    (status ≡ statuses.Done) ⊎ (status ≡ statuses.Refused) → IfSome left (λ input. CountsDesks count script input before after)

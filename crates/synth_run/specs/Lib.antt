@@ -7,6 +7,8 @@ pub mod Lines
 pub mod Session
 pub mod Synth
 pub mod Refined
+pub mod Desks
+pub mod Routes
 pub mod Generated
 pub mod Taking
 pub mod Builds

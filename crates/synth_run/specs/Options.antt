@@ -3,7 +3,7 @@ use Rattle.std.specs.Prelude.{ℕ, ◌==◌, ◌&&◌, Bool, true, false, not, L
 use Rattle.std.specs.List.{after_first, before_first, position_or_len}
 use Rattle.std.specs.Str.{bytes_eq}
 use Rattle.synth_run.specs.declared.options.Name.{Name}
-use Rattle.synth_run.specs.declared.options.Name.TheVariants.{Script, Workers, Generate}
+use Rattle.synth_run.specs.declared.options.Name.TheVariants.{Script, Workers, Generate, Desks}
 
 -- the options of a call: whether it is a session, and the values of those that have one
 pub record Given : Type 0 where
@@ -11,9 +11,10 @@ pub record Given : Type 0 where
   pub script : Option (List ℕ)
   pub workers : Option (List ℕ)
   pub generate : Option (List ℕ)
+  pub desks : Option (List ℕ)
 
 abbrev pub nothing_given : Given
-nothing_given = record { session = false; script = None; workers = None; generate = None }
+nothing_given = record { session = false; script = None; workers = None; generate = None; desks = None }
 
 -- a value is not empty and does not begin with `-`
 abbrev pub is_value : List ℕ → Bool
@@ -31,6 +32,8 @@ with_value Workers value given =
     if is_value value && not (is_some given.workers) then Some (record given { workers = Some value }) else None
 with_value Generate value given =
     if is_value value && not (is_some given.generate) then Some (record given { generate = Some value }) else None
+with_value Desks value given =
+    if is_value value && not (is_some given.desks) then Some (record given { desks = Some value }) else None
 
 -- what a word of a call is: `--session`, an option whose value is the next word, an option with its value, or nothing
 pub data Form : Type 0 where
@@ -49,6 +52,7 @@ holds_by name value =
     if bytes_eq name (codes "--script") then holds Script value
     else if bytes_eq name (codes "--workers") then holds Workers value
     else if bytes_eq name (codes "--gen") then holds Generate value
+    else if bytes_eq name (codes "--desks") then holds Desks value
     else nothing
 
 -- an option with its value in one word: they stand before and after the first `=`
@@ -63,6 +67,7 @@ form_of word =
     else if bytes_eq word (codes "--script") then before Script
     else if bytes_eq word (codes "--workers") then before Workers
     else if bytes_eq word (codes "--gen") then before Generate
+    else if bytes_eq word (codes "--desks") then before Desks
     else one_word word
 
 -- the options after a word of this form: `more` takes the words after it, and `value` the value of an option before them

@@ -10,7 +10,8 @@ use Rattle.synth_run.specs.declared.program.Status.TheVariants as statuses
 use Rattle.synth_run.specs.declared.session.Stop.{Stop}
 use Rattle.synth_run.specs.declared.session.Stop.TheVariants as halts
 use Rattle.synth_run.specs.declared.words.Mode.{Mode}
-use Rattle.synth_run.specs.declared.words.Mode.TheVariants.{Synth, Session, Generate}
+use Rattle.synth_run.specs.declared.words.Mode.TheVariants.{Synth, Session, Generate, Desks}
+use Rattle.synth_run.specs.Desks as desks
 use Rattle.synth_run.specs.Generated.{IsSummary, generated_said}
 use Rattle.synth_run.specs.Refined.{IsRefinedBy, PrintNetlists}
 use Rattle.synth_run.specs.Said.{Said}
@@ -23,16 +24,19 @@ abbrev pub IsReply : Mode → List Word → List ℕ → Said → Type 0
 IsReply Synth script input said = IsSynthReply script input said
 IsReply Session script input said = IsSessionReply script input said
 IsReply (Generate count) script input said = said ≡ generated_said script count
+IsReply (Desks count) script input said = desks.IsDesksReply count script input said
 
 -- what is said of the input of a call, where the source tells it; where a design is made none is read, so it is empty
 abbrev pub OfInput : Mode → Option (List ℕ) → (List ℕ → Type 0) → Type 0
 OfInput Synth left P = IfSome left P
 OfInput Session left P = IfSome left P
 OfInput (Generate count) left P = P []
+OfInput (Desks count) left P = IfSome left P
 
 -- a session that took these bytes was ended by a `quit`
 abbrev pub IsQuit : Mode → List ℕ → Type 0
 IsQuit Session bytes = list_any is_quit (ended_commands bytes) ≡ true
+IsQuit (Desks count) bytes = list_any desks.ends_input (desks.ended_parts count bytes) ≡ true
 IsQuit mode bytes = ⊥
 
 -- the input was read to its end, past its limit or to `quit`
@@ -46,6 +50,7 @@ abbrev pub IsReadThrough : Mode → Option (List ℕ) → Option (List ℕ) → 
 IsReadThrough Synth before after = IsReadToEnd Synth before after
 IsReadThrough Session before after = IsReadToEnd Session before after
 IsReadThrough (Generate count) before after = after ≡ before
+IsReadThrough (Desks count) before after = IsReadToEnd (Desks count) before after
 
 -- the whole reply was written, and it is an error or not
 abbrev pub HasAnswered : Mode → List Word → Bool → Option (List ℕ) → Option (List ℕ) → Option (List ℕ) → Type 0
@@ -71,8 +76,9 @@ abbrev pub HasKept : Mode → Option (List ℕ) → Option (List ℕ) → Type 0
 HasKept Synth had has = Keeps had has
 HasKept Session had has = Unit {0}
 HasKept (Generate count) had has = Keeps had has
+HasKept (Desks count) had has = Unit {0}
 
--- what was written where the source failed: nothing of the reply to one text
+-- what was written where the source failed: nothing of the reply to one text, or of those of several desks
 abbrev pub HasAnsweredTaken : Mode → List Word → Option (List ℕ) → Option (List ℕ) → Option (List ℕ) → Option (List ℕ) → Type 0
 HasAnsweredTaken Session script before after had has = AnswersTaken script before after had has
 HasAnsweredTaken mode script before after had has = Keeps had has
@@ -84,11 +90,20 @@ pub record IsPrintedSession (script : List Word) (input : List ℕ) (had has : O
   pub written : Appends had has (session_said (is_overlong input) turns).text
   pub netlists : PrintNetlists turns
 
+-- the whole session of several desks was written, and each netlist that was printed in it is that of its desk's design
+pub record IsPrintedDesks (count : ℕ) (script : List Word) (input : List ℕ) (had has : Option (List ℕ)) : Type 0 where
+  pub turns : List desks.Turn
+  pub session : desks.IsDesks count script input turns
+  pub written : Appends had has (desks.desks_said (desks.passes_limit count input) turns).text
+  pub netlists : desks.PrintParts turns
+
 -- each netlist that was written, or counted, is the one that the script makes of the design
 abbrev pub HasRefined : Mode → Status → List Word → List ℕ → Option (List ℕ) → Option (List ℕ) → Type 0
 HasRefined Synth status script input had has = status ≡ statuses.Done → IsRefinedBy script input had has
 HasRefined Session status script input had has = (status ≡ statuses.Done) ⊎ (status ≡ statuses.Refused) → IsPrintedSession script input had has
 HasRefined (Generate count) status script input had has = status ≡ statuses.Done → IsSummary script count had has
+HasRefined (Desks count) status script input had has =
+    (status ≡ statuses.Done) ⊎ (status ≡ statuses.Refused) → IsPrintedDesks count script input had has
 
 -- the whole reply was written, or memory was wanting
 abbrev pub IsCompleted : Status → Type 0

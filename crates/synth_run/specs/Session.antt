@@ -1,5 +1,5 @@
 -- Sessions: which commands an input has, and what each is answered.
-use Rattle.std.specs.Prelude.{◌≡◌, ℕ, ◌+◌, ◌&&◌, Bool, true, false, not, nat_lt, List, [], ◌∷◌, ◌++◌, length, map, filter, take, codes, if◌then◌else◌}
+use Rattle.std.specs.Prelude.{◌≡◌, ℕ, ◌+◌, ◌&&◌, Bool, true, false, not, nat_lt, List, [], ◌∷◌, ◌++◌, length, map, filter, take, if◌then◌else◌}
 use Rattle.std.specs.List.{flat_map, list_any}
 use Rattle.synth_io.specs.declared.input.TheConstants.{LIMIT}
 use Rattle.desk_read.specs.declared.command.Command.{Command}

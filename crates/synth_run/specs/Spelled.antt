@@ -1,5 +1,4 @@
 -- Options as the code has them.
-use Rattle.std.specs.Prelude.{List, ℕ}
 use Rattle.std.specs.Option.{option_map}
 use Rattle.synth_run.specs.declared.options.Given.{Given}
 use Rattle.synth_run.specs.declared.options.Form.{Form}
@@ -13,6 +12,7 @@ given_as given = record {
   script = option_map (λ value. value.now) given.script;
   workers = option_map (λ value. value.now) given.workers;
   generate = option_map (λ value. value.now) given.generate;
+  desks = option_map (λ value. value.now) given.desks;
 }
 
 abbrev pub form_as : Form → options.Form

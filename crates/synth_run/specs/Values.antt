@@ -18,5 +18,7 @@ bare_app = on_top (λ s. record s { no_binary_name = true; disable_help_flag = t
 abbrev pub options_app : App
 options_app =
     with_rule
+    (with_rule
     (with_rule (with_rule (with_rule bare_app (switch_rule (codes "session"))) (value_rule (codes "script"))) (value_rule (codes "workers")))
-    (value_rule (codes "gen"))
+    (value_rule (codes "gen")))
+    (value_rule (codes "desks"))

@@ -8,7 +8,7 @@ use Rattle.std.specs.Str.Parse.{digits_value}
 use Rattle.script_core.specs.declared.word.Word.{Word}
 use Rattle.script_core.specs.Words.{default_script, script_of}
 use Rattle.synth_run.specs.declared.words.Mode.{Mode}
-use Rattle.synth_run.specs.declared.words.Mode.TheVariants.{Synth, Session, Generate}
+use Rattle.synth_run.specs.declared.words.Mode.TheVariants.{Synth, Session, Generate, Desks}
 use Rattle.synth_run.specs.declared.words.Plan.{Plan}
 use Rattle.synth_run.specs.Options.{Given, given_from, nothing_given}
 
@@ -37,12 +37,24 @@ given_workers (Some text) = number_of 64 text
 abbrev pub made_mode : List ℕ → Option Mode
 made_mode text = option_map Generate (number_of 4096 text)
 
--- what is done, by whether a session is asked for, and the text of `--gen`: one of these excludes the other
-abbrev pub mode_of : Bool → Option (List ℕ) → Option Mode
-mode_of false None = Some Synth
-mode_of true None = Some Session
-mode_of false (Some text) = made_mode text
-mode_of true (Some text) = None
+-- as many desks answer as a text writes
+abbrev pub desks_mode : List ℕ → Option Mode
+desks_mode text = option_map Desks (number_of 16 text)
+
+-- what is done in a session, by the texts of `--desks` and `--workers`, of which one excludes the other
+abbrev pub session_mode : Option (List ℕ) → Option (List ℕ) → Option Mode
+session_mode None workers = Some Session
+session_mode (Some text) None = desks_mode text
+session_mode (Some text) (Some workers) = None
+
+-- what is done, by whether a session is asked for, and the texts of `--gen`, `--desks` and `--workers`: a session excludes a
+-- design that is made, and without one no number of desks has a meaning
+abbrev pub mode_of : Bool → Option (List ℕ) → Option (List ℕ) → Option (List ℕ) → Option Mode
+mode_of false None None workers = Some Synth
+mode_of false (Some text) None workers = made_mode text
+mode_of false generate (Some text) workers = None
+mode_of true None desks workers = session_mode desks workers
+mode_of true (Some text) desks workers = None
 
 -- what options ask for, by what is done, the script and the number of workers, where they give all three
 abbrev pub plan_with : Option Mode → Option (List Word) → Option ℕ → Option Plan
@@ -52,7 +64,7 @@ plan_with (Some mode) None workers = None
 plan_with None script workers = None
 
 abbrev pub plan_by : Given → Option Plan
-plan_by given = plan_with (mode_of given.session given.generate) (given_script given.script) (given_workers given.workers)
+plan_by given = plan_with (mode_of given.session given.generate given.desks given.workers) (given_script given.script) (given_workers given.workers)
 
 -- what the words of a call ask for; None where they have no meaning
 abbrev pub plan_of : List (List ℕ) → Option Plan

@@ -11,7 +11,7 @@ ghost use Rattle.synth_run.specs.Said.{Said};
 ghost use Rattle.synth_run.specs.Session.{AreTurns, Turn};
 
 /// Each input has a reply, by what is done with it and the script, and no other.
-#[tactic(auto, using(crate::proofs::Replying::some_reply, crate::proofs::Only::same_reply))]
+#[tactic(auto, using(crate::proofs::Replying::some_reply, crate::proofs::Desking::same_reply))]
 pub fn one_reply()
     ensures some { (mode : Mode) (script : List Word) (input : List ℕ) → IsScript script →
         (said : Said) × IsReply mode script input said }

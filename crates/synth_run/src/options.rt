@@ -12,6 +12,7 @@ pub(crate) enum Name {
     Script,
     Workers,
     Generate,
+    Desks,
 }
 
 /// What a word of a call is.
@@ -39,6 +40,8 @@ fn form_of(word: &str) -> Form<'_>
         Form::Before(Name::Workers)
     } else if word == "--gen" {
         Form::Before(Name::Generate)
+    } else if word == "--desks" {
+        Form::Before(Name::Desks)
     } else {
         one_word(word)
     }
@@ -65,6 +68,8 @@ fn holds_by<'a>(name: &str, value: &'a str) -> Form<'a>
         Form::Holds(Name::Workers, value)
     } else if name == "--gen" {
         Form::Holds(Name::Generate, value)
+    } else if name == "--desks" {
+        Form::Holds(Name::Desks, value)
     } else {
         Form::Nothing
     }
@@ -91,6 +96,8 @@ pub(crate) struct Given<'a> {
     pub(crate) workers: Option<&'a str>,
     /// The text of the number of modules that are made.
     pub(crate) generate: Option<&'a str>,
+    /// The text of the number of desks.
+    pub(crate) desks: Option<&'a str>,
 }
 
 impl<'a> Given<'a> {
@@ -103,6 +110,7 @@ impl<'a> Given<'a> {
             script: None,
             workers: None,
             generate: None,
+            desks: None,
         }
     }
 
@@ -134,6 +142,10 @@ impl<'a> Given<'a> {
             }),
             Name::Generate if is_value(value) && self.generate.is_none() => Some(Given {
                 generate: Some(value),
+                ..self
+            }),
+            Name::Desks if is_value(value) && self.desks.is_none() => Some(Given {
+                desks: Some(value),
                 ..self
             }),
             _ => None,

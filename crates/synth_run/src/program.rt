@@ -13,6 +13,7 @@ ghost use Rattle.synth_run.specs.Replies.{IsCompleted, IsPrintedSession, IsReadT
 ghost use Rattle.synth_run.specs.Replies.{status_of};
 ghost use Rattle.synth_run.specs.Words.{plan_of};
 
+use crate::desks::serve_desks;
 use crate::generate::generate;
 use crate::session::{Session, Stop, piece_of};
 use crate::synth::synthesise;
@@ -114,9 +115,10 @@ fn converse<R: Threads + Wait + Sync, S: Source, K: Sink, G: Gate, L: Send>(
 ///
 /// At most 67,108,865 bytes are taken, in pieces of at most 65,536; each read but the last takes at least one. Each
 /// reply is written in pieces of 4,096 bytes, of which the last may be shorter. In a session each command is answered
-/// when its last line has come, before more is read. Where a design is made, nothing is read. Each build of a module is a
-/// step of the meter. The workers run in threads, as many as the words say, and a worker calls the gate before and after the
-/// job of each module.
+/// when its last line has come, before more is read; with several desks all is read before any command is answered.
+/// Where a design is made, nothing is read. Each build of a module is a step of the meter. The workers run in threads,
+/// as many as the words say, and a worker calls the gate before and after the job of each module, or, with several desks,
+/// of each desk.
 pub fn run<R: Threads + Wait + Sync, S: Source, K: Sink, G: Gate, L: Send>(
     rt: &R,
     alloc: Global,
@@ -148,7 +150,8 @@ pub fn run<R: Threads + Wait + Sync, S: Source, K: Sink, G: Gate, L: Send>(
     // Whatever the answer, what was written is a front of the reply.
     ensures begun { IfSome (plan_of (map string_bytes words.now)) (λ plan.
         HasBegun plan.mode plan.script (S.left source.old) (K.held sink.old) (K.held sink.new)) }
-    // In a session, just the commands were answered whose last line was taken with its LF.
+    // In a session of one desk, just the commands were answered whose last line was taken with its LF; else nothing was
+    // written.
     ensures read_fault { result ≡ Status.ReadFault → HasRisen (S.faults source.old) (S.faults source.new)
         × IfSome (plan_of (map string_bytes words.now)) (λ plan.
         HasAnsweredTaken plan.mode plan.script (S.left source.old) (S.left source.new) (K.held sink.old) (K.held sink.new)) }
@@ -185,5 +188,6 @@ pub fn run<R: Threads + Wait + Sync, S: Source, K: Sink, G: Gate, L: Send>(
         Mode::Synth => status_of(synthesise(&crew, plan, source, sink, meter)),
         Mode::Session => status_of(converse(&crew, plan, source, sink, meter)),
         Mode::Generate(count) => status_of(generate(&crew, plan, count, sink, meter)),
+        Mode::Desks(count) => status_of(serve_desks(&crew, plan, count, source, sink, meter)),
     }
 }

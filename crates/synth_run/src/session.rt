@@ -58,7 +58,7 @@ pub(crate) struct Session {
 }
 
 /// Whether the command ends the session.
-fn is_quit(command: &Command) -> bool
+pub(crate) fn is_quit(command: &Command) -> bool
     ensures value { result ≡ is_quit command.now }
 {
     matches!(command, Command::Quit)

@@ -21,13 +21,15 @@ fn options_command<'a>(alloc: Global) -> Result<Command<'a>, AllocError>
     let script = Arg::new(alloc, "script").long("script");
     let workers = Arg::new(alloc, "workers").long("workers");
     let generate = Arg::new(alloc, "gen").long("gen");
+    let desks = Arg::new(alloc, "desks").long("desks");
     Command::new(alloc, "rtlsyn")
         .no_binary_name(true)
         .disable_help_flag(true)
         .arg(session)?
         .arg(script)?
         .arg(workers)?
-        .arg(generate)
+        .arg(generate)?
+        .arg(desks)
 }
 
 /// The options that the words give. Where the words follow the rule of options, only want of memory refuses.
@@ -42,5 +44,6 @@ pub(crate) fn read_values<'a>(alloc: Global, words: &'a [String]) -> Result<Give
         script: matches.get_str("script"),
         workers: matches.get_str("workers"),
         generate: matches.get_str("gen"),
+        desks: matches.get_str("desks"),
     })
 }

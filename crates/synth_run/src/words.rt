@@ -8,6 +8,7 @@ ghost use Rattle.std.specs.Option.{option_map};
 ghost use Rattle.std.specs.Char.{is_ascii_digit};
 ghost use Rattle.std.specs.List.{list_all};
 ghost use Rattle.synth_run.specs.Words.{given_script, given_workers, is_number, made_mode, mode_of, number_of, plan_by};
+ghost use Rattle.synth_run.specs.Words.{session_mode};
 ghost use Rattle.synth_run.specs.Words.{plan_of};
 
 use crate::options::{Given, are_options};
@@ -26,6 +27,8 @@ pub enum Mode {
     Session,
     /// A design of so many modules is made, and a summary of its netlist is written. No input is read.
     Generate(u32),
+    /// The input is a list of commands of so many desks, from 1 to 16, which answer them beside each other.
+    Desks(u32),
 }
 
 /// What the words of a call ask for: what is done, by which script, and with how many workers, from 1 to 64.
@@ -64,7 +67,7 @@ fn is_number(digits: &[u8]) -> bool
 }
 
 /// The number that the text writes, where it is one from 1 to `most`.
-fn number_of(most: u32, text: &str) -> Option<u32>
+pub(crate) fn number_of(most: u32, text: &str) -> Option<u32>
     ensures value { result ≡ number_of most text.now }
     ensures range { IfSome result (λ number. (1 ≤ number) × (number ≤ most)) }
 {
@@ -88,17 +91,35 @@ fn made_mode(text: &str) -> Option<Mode>
     }
 }
 
-/// What is done: a session is held, a design is made, or one text is synthesised. A session excludes a design that is
-/// made.
-fn mode_of(session: bool, modules: Option<&str>) -> Option<Mode>
-    ensures value { result ≡ mode_of session (option_map (λ t. t.now) modules.entry) }
-    ensures few { IfSome result (λ mode. (n : ℕ) → mode ≡ Mode.Generate n → n ≤ 4096) }
+/// What is done in a session: one desk answers, or as many as the text says. These exclude a number of workers.
+fn session_mode(desks: Option<&str>, workers: Option<&str>) -> Option<Mode>
+    ensures value { result ≡
+        session_mode (option_map (λ t. t.now) desks.entry) (option_map (λ t. t.now) workers.entry) }
+    ensures desks { IfSome result (λ mode. (n : ℕ) → mode ≡ Mode.Desks n → (1 ≤ n) × (n ≤ 16)) }
 {
-    match (session, modules) {
-        (false, None) => Some(Mode::Synth),
-        (true, None) => Some(Mode::Session),
-        (false, Some(text)) => made_mode(text),
-        (true, Some(_)) => None,
+    match (desks, workers) {
+        (None, _) => Some(Mode::Session),
+        (Some(text), None) => match number_of(16, text) {
+            Some(count) => Some(Mode::Desks(count)),
+            None => None,
+        },
+        (Some(_), Some(_)) => None,
+    }
+}
+
+/// What is done: a session is held, a design is made, or one text is synthesised. A session excludes a design that is
+/// made, and without one no number of desks has a meaning.
+fn mode_of(given: Given<'_>) -> Option<Mode>
+    ensures value { result ≡ mode_of (given_as given.entry).session (given_as given.entry).generate
+        (given_as given.entry).desks (given_as given.entry).workers }
+    ensures few { IfSome result (λ mode. (n : ℕ) → mode ≡ Mode.Generate n → n ≤ 4096) }
+    ensures desks { IfSome result (λ mode. (n : ℕ) → mode ≡ Mode.Desks n → (1 ≤ n) × (n ≤ 16)) }
+{
+    match (given.session, given.generate, given.desks) {
+        (false, None, None) => Some(Mode::Synth),
+        (false, Some(text), None) => made_mode(text),
+        (true, None, desks) => session_mode(desks, given.workers),
+        _ => None,
     }
 }
 
@@ -139,8 +160,9 @@ fn plan_by(alloc: Global, given: Given<'_>) -> Result<Plan, WordFault>
     ensures workers { IfOk result (λ plan. (1 ≤ plan.workers) × (plan.workers ≤ 64)) }
     ensures script { IfOk result (λ plan. IsScript plan.script) }
     ensures modules { IfOk result (λ plan. (n : ℕ) → plan.mode ≡ Mode.Generate n → n ≤ 4096) }
+    ensures desks { IfOk result (λ plan. (n : ℕ) → plan.mode ≡ Mode.Desks n → (1 ≤ n) × (n ≤ 16)) }
 {
-    let Some(mode) = mode_of(given.session, given.generate) else {
+    let Some(mode) = mode_of(given) else {
         return Err(WordFault::Usage);
     };
     let script = match given_script(alloc, given.script) {
@@ -160,16 +182,18 @@ fn plan_by(alloc: Global, given: Given<'_>) -> Result<Plan, WordFault>
 
 /// What the words of a call ask for.
 ///
-/// `--session`, `--gen N`, `--script S` and `--workers N` stand in any order, each at most once, and `--session` excludes
-/// `--gen`. A value is the next word, or follows `=` in the same word; it is not empty and does not begin with `-`. S is a
-/// script as `parse_script` takes it. A number has decimal digits without a leading zero, and is from 1 to 64 of workers,
-/// from 1 to 4,096 of modules that are made. All other words have no meaning.
+/// `--session`, `--gen N`, `--script S`, `--workers N` and `--desks N` stand in any order, each at most once;
+/// `--session` excludes `--gen`, and `--desks` needs `--session` and excludes `--workers`. A value is the next word, or
+/// follows `=` in the same word; it is not empty and does not begin with `-`. S is a script as `parse_script` takes it.
+/// A number has decimal digits without a leading zero, and is from 1 to 64 of workers, from 1 to 4,096 of modules that
+/// are made, from 1 to 16 of desks. All other words have no meaning.
 pub fn read_words(alloc: Global, words: &[String]) -> Result<Plan, WordFault>
     ensures plan { IfOk result (λ plan. plan_of (map string_bytes words.now) ≡ Some plan) }
     ensures usage { result ≡ Err WordFault.Usage → plan_of (map string_bytes words.now) ≡ None }
     ensures workers { IfOk result (λ plan. (1 ≤ plan.workers) × (plan.workers ≤ 64)) }
     ensures script { IfOk result (λ plan. IsScript plan.script) }
     ensures modules { IfOk result (λ plan. (n : ℕ) → plan.mode ≡ Mode.Generate n → n ≤ 4096) }
+    ensures desks { IfOk result (λ plan. (n : ℕ) → plan.mode ≡ Mode.Desks n → (1 ≤ n) × (n ≤ 16)) }
 {
     if !are_options(words) {
         return Err(WordFault::Usage);

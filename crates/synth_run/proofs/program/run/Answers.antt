@@ -1,15 +1,16 @@
 use Rattle.std.proofs.Common.{◌≡◌, ℕ, true, false, inr, refl, sym, ap, subst, ◌∙◌}
 use Rattle.synth_io.specs.Counts.{HasRisen}
-use Rattle.std.specs.Prelude.{map, string_bytes}
+use Rattle.std.specs.Prelude.{IfSome, map, string_bytes}
 use Rattle.synth_run.specs.declared.words.Mode.{Mode}
-use Rattle.synth_run.specs.declared.words.Mode.TheVariants.{Synth, Session, Generate}
+use Rattle.synth_run.specs.declared.words.Mode.TheVariants.{Synth, Session, Generate, Desks}
 use Rattle.synth_run.specs.declared.words.Plan.{Plan}
 use Rattle.synth_run.specs.Builds.{HasCounted}
+use Rattle.synth_run.specs.Desks.{CountsDesks}
 use Rattle.synth_run.specs.Replies.{HasAnswered, HasBegun, HasKept, HasRefined, IsCompleted, IsReadThrough, OfInput, status_of}
 use Rattle.synth_run.specs.Words.{plan_of}
-use Rattle.synth_run.proofs.Ending.{begins, completed, on_some, done, planned, refined, refined_text, refused, was_memory, was_source}
+use Rattle.synth_run.proofs.Ending.{begins, completed, on_some, done, planned, refined, refined_desks, refined_text, refused, was_memory, was_source, when_answered}
 use Rattle.synth_run.proofs.Generating as generating
-use Rattle.synth_run.proofs.Planning.{each_plan, never_made, not_session, not_synth, nothing_begun, nothing_counted, nothing_refined, nothing_written}
+use Rattle.synth_run.proofs.Planning.{each_plan, never_made, not_desks, not_session, not_synth, nothing_begun, nothing_counted, nothing_refined, nothing_written}
 use Rattle.synth_run.proofs.program.run.Goals as goal
 
 pub returns-in-Err-Memory-clause-begun : goal.returns-in-Err-Memory-clause-begun
@@ -23,6 +24,12 @@ returns-in-Err-Memory-clause-memory g c = λ _. nothing_written (map string_byte
 
 pub returns-in-Err-Memory-clause-builds : goal.returns-in-Err-Memory-clause-builds
 returns-in-Err-Memory-clause-builds g c = nothing_counted (map string_bytes c.args.words.now) (g.S.Source.left c.args.source.now) c.args.meter.now
+
+pub returns-in-Err-Memory-clause-complete : goal.returns-in-Err-Memory-clause-complete
+returns-in-Err-Memory-clause-complete g c =
+    on_some (plan_of (map string_bytes c.args.words.now))
+    ((HasRisen (g.S.Source.faults c.args.source.now) (g.S.Source.faults c.args.source.now) → ⊥) → (HasRisen (g.K.Sink.faults c.args.sink.now) (g.K.Sink.faults c.args.sink.now) → ⊥) → Unit {0})
+    (λ source sink. tt)
 
 pub returns-in-Synth-clause-done : goal.returns-in-Synth-clause-done
 returns-in-Synth-clause-done g c = λ e.
@@ -90,6 +97,47 @@ returns-in-Session-clause-builds g c =
     (subst (λ (m : Mode). HasCounted m c.status_of-in-Session.result c.in-Ok.plan.script (g.S.Source.left c.args.source.now) (g.S.Source.left c.converse.new.source) c.args.meter.now c.converse.new.meter) (sym c.in-Session.is)
     (λ other. c.converse.ensures.counts (λ e. other (c.status_of-in-Session.ensures.value ∙ ap status_of e))))
 
+pub returns-in-Desks-clause-done : goal.returns-in-Desks-clause-done
+returns-in-Desks-clause-done g c = λ e.
+    planned (plan_of (map string_bytes c.args.words.now)) c.in-Ok.plan (λ (plan : Plan). HasAnswered plan.mode plan.script false (g.S.Source.left c.args.source.now) (g.K.Sink.held c.args.sink.now) (g.K.Sink.held c.serve_desks.new.sink) × IsReadThrough plan.mode (g.S.Source.left c.args.source.now) (g.S.Source.left c.serve_desks.new.source)) c.in-Ok.ensures.plan
+    (subst (λ (m : Mode). HasAnswered m c.in-Ok.plan.script false (g.S.Source.left c.args.source.now) (g.K.Sink.held c.args.sink.now) (g.K.Sink.held c.serve_desks.new.sink) × IsReadThrough m (g.S.Source.left c.args.source.now) (g.S.Source.left c.serve_desks.new.source)) (sym c.in-Desks.is)
+    (done (Desks c.in-Desks.count) c.in-Ok.plan.script (g.S.Source.left c.args.source.now) (g.S.Source.left c.serve_desks.new.source) (g.K.Sink.held c.args.sink.now) (g.K.Sink.held c.serve_desks.new.sink) c.serve_desks.result c.status_of-in-Desks.result c.status_of-in-Desks.ensures.value c.serve_desks.ensures.ok c.serve_desks.ensures.through e))
+
+pub returns-in-Desks-clause-refused : goal.returns-in-Desks-clause-refused
+returns-in-Desks-clause-refused g c = λ e.
+    planned (plan_of (map string_bytes c.args.words.now)) c.in-Ok.plan (λ (plan : Plan). HasAnswered plan.mode plan.script true (g.S.Source.left c.args.source.now) (g.K.Sink.held c.args.sink.now) (g.K.Sink.held c.serve_desks.new.sink) × IsReadThrough plan.mode (g.S.Source.left c.args.source.now) (g.S.Source.left c.serve_desks.new.source)) c.in-Ok.ensures.plan
+    (subst (λ (m : Mode). HasAnswered m c.in-Ok.plan.script true (g.S.Source.left c.args.source.now) (g.K.Sink.held c.args.sink.now) (g.K.Sink.held c.serve_desks.new.sink) × IsReadThrough m (g.S.Source.left c.args.source.now) (g.S.Source.left c.serve_desks.new.source)) (sym c.in-Desks.is)
+    (refused (Desks c.in-Desks.count) c.in-Ok.plan.script (g.S.Source.left c.args.source.now) (g.S.Source.left c.serve_desks.new.source) (g.K.Sink.held c.args.sink.now) (g.K.Sink.held c.serve_desks.new.sink) c.serve_desks.result c.status_of-in-Desks.result c.status_of-in-Desks.ensures.value c.serve_desks.ensures.ok c.serve_desks.ensures.through e))
+
+pub returns-in-Desks-clause-begun : goal.returns-in-Desks-clause-begun
+returns-in-Desks-clause-begun g c =
+    planned (plan_of (map string_bytes c.args.words.now)) c.in-Ok.plan (λ (plan : Plan). HasBegun plan.mode plan.script (g.S.Source.left c.args.source.now) (g.K.Sink.held c.args.sink.now) (g.K.Sink.held c.serve_desks.new.sink)) c.in-Ok.ensures.plan
+    (subst (λ (m : Mode). HasBegun m c.in-Ok.plan.script (g.S.Source.left c.args.source.now) (g.K.Sink.held c.args.sink.now) (g.K.Sink.held c.serve_desks.new.sink)) (sym c.in-Desks.is)
+    (begins (Desks c.in-Desks.count) c.in-Ok.plan.script (g.S.Source.left c.args.source.now) (g.K.Sink.held c.args.sink.now) (g.K.Sink.held c.serve_desks.new.sink) c.serve_desks.result c.serve_desks.ensures.ok c.serve_desks.ensures.begun))
+
+pub returns-in-Desks-clause-memory : goal.returns-in-Desks-clause-memory
+returns-in-Desks-clause-memory g c = λ e.
+    planned (plan_of (map string_bytes c.args.words.now)) c.in-Ok.plan (λ (plan : Plan). HasKept plan.mode (g.K.Sink.held c.args.sink.now) (g.K.Sink.held c.serve_desks.new.sink)) c.in-Ok.ensures.plan
+    (subst (λ (m : Mode). HasKept m (g.K.Sink.held c.args.sink.now) (g.K.Sink.held c.serve_desks.new.sink)) (sym c.in-Desks.is)
+    (tt))
+
+pub returns-in-Desks-clause-refines : goal.returns-in-Desks-clause-refines
+returns-in-Desks-clause-refines g c =
+    planned (plan_of (map string_bytes c.args.words.now)) c.in-Ok.plan (λ (plan : Plan). OfInput plan.mode (g.S.Source.left c.args.source.now) (λ input. HasRefined plan.mode c.status_of-in-Desks.result plan.script input (g.K.Sink.held c.args.sink.now) (g.K.Sink.held c.serve_desks.new.sink))) c.in-Ok.ensures.plan
+    (subst (λ (m : Mode). OfInput m (g.S.Source.left c.args.source.now) (λ input. HasRefined m c.status_of-in-Desks.result c.in-Ok.plan.script input (g.K.Sink.held c.args.sink.now) (g.K.Sink.held c.serve_desks.new.sink))) (sym c.in-Desks.is)
+    (refined_desks c.in-Desks.count c.in-Ok.plan.script (g.S.Source.left c.args.source.now) (g.K.Sink.held c.args.sink.now) (g.K.Sink.held c.serve_desks.new.sink) c.serve_desks.result c.status_of-in-Desks.result c.status_of-in-Desks.ensures.value c.serve_desks.ensures.prints))
+
+pub returns-in-Desks-clause-builds : goal.returns-in-Desks-clause-builds
+returns-in-Desks-clause-builds g c =
+    planned (plan_of (map string_bytes c.args.words.now)) c.in-Ok.plan (λ (plan : Plan). HasCounted plan.mode c.status_of-in-Desks.result plan.script (g.S.Source.left c.args.source.now) (g.S.Source.left c.serve_desks.new.source) c.args.meter.now c.serve_desks.new.meter) c.in-Ok.ensures.plan
+    (subst (λ (m : Mode). HasCounted m c.status_of-in-Desks.result c.in-Ok.plan.script (g.S.Source.left c.args.source.now) (g.S.Source.left c.serve_desks.new.source) c.args.meter.now c.serve_desks.new.meter) (sym c.in-Desks.is)
+    (when_answered (IfSome (g.S.Source.left c.args.source.now) (λ input. CountsDesks c.in-Desks.count c.in-Ok.plan.script input c.args.meter.now c.serve_desks.new.meter)) c.serve_desks.result c.status_of-in-Desks.result c.status_of-in-Desks.ensures.value c.serve_desks.ensures.counts))
+
+pub returns-in-Desks-clause-unread : goal.returns-in-Desks-clause-unread
+returns-in-Desks-clause-unread g c =
+    never_made (plan_of (map string_bytes c.args.words.now)) c.in-Ok.plan (c.serve_desks.new.source ≡ c.args.source.now) c.in-Ok.ensures.plan
+    (not_desks c.in-Ok.plan.mode c.in-Desks.count c.in-Desks.is)
+
 pub returns-in-Generate-clause-done : goal.returns-in-Generate-clause-done
 returns-in-Generate-clause-done g c = λ e.
     planned (plan_of (map string_bytes c.args.words.now)) c.in-Ok.plan (λ (plan : Plan). HasAnswered plan.mode plan.script false (g.S.Source.left c.args.source.now) (g.K.Sink.held c.args.sink.now) (g.K.Sink.held c.generate.new.sink) × IsReadThrough plan.mode (g.S.Source.left c.args.source.now) (g.S.Source.left c.args.source.now)) c.in-Ok.ensures.plan
@@ -156,3 +204,6 @@ returns-in-Generate-clause-complete g c =
 
 pub generate-requires-clause-modules : goal.generate-requires-clause-modules
 generate-requires-clause-modules g c κs within = c.in-Ok.ensures.modules c.in-Generate.count c.in-Generate.is
+
+pub serve_desks-requires-clause-range : goal.serve_desks-requires-clause-range
+serve_desks-requires-clause-range g c κs script = c.in-Ok.ensures.desks c.in-Desks.count c.in-Desks.is

@@ -17,5 +17,5 @@ returns-clause-value c =
     let words = map string_bytes c.args.words.now in
     let app_is = c.in_ok-options_command.ensures.app in
     let rows_are = (c.in_ok-matches.ensures.matches (ap is_simple app_is ∙ is_simple_app)).0 ∙ ap (λ app. matches_of app words) app_is in
-    options_read words (found_of c.in_ok-matches.matches) c.get_flag.result _ _ _ c.requires.meant rows_are (c.get_flag.ensures.value, c.get_flag.ensures.other)
-    c.get_str.ensures c.get_str-2.ensures c.get_str-3.ensures
+    options_read words (found_of c.in_ok-matches.matches) c.get_flag.result _ _ _ _ c.requires.meant rows_are (c.get_flag.ensures.value, c.get_flag.ensures.other)
+    c.get_str.ensures c.get_str-2.ensures c.get_str-3.ensures c.get_str-4.ensures

@@ -3,7 +3,8 @@ use Rattle.std.proofs.Common.{◌≡◌, Ok, Err, take, refl, ap, ◌∙◌, ari
 use Rattle.std.proofs.lemmas.Result.{IfOk-at_ok}
 use Rattle.synth_io.specs.declared.input.Next.{Next}
 use Rattle.synth_io.specs.declared.input.Next.TheVariants.{Bytes, End, Past}
-use Rattle.synth_run.proofs.Holding.{ended_all, ended_cut, past_all, past_cut, stands_broken, stands_failed, stands_first, stands_next, stands_quit, took_kept, took_more, took_past}
+use Rattle.synth_run.proofs.Holding.{ended_all, ended_cut, past_all, past_cut, stands_broken, stands_failed, stands_first, stands_next, stands_quit}
+use Rattle.synth_run.proofs.Limits.{took_kept, took_more, took_past}
 use Rattle.synth_run.proofs.session.Session.answer_all.Goals as goal
 
 pub loop-count-init : goal.loop-count-init
@@ -43,8 +44,8 @@ returns-in-Ok-true-clause-taken g c =
     let given : c.in-Ok-Bytes.field-0 ≡ Bytes c.in-Ok-Bytes.count = (rw c.in-Ok-Bytes.is at c.in-Ok-Bytes.field-0-is) in
     let is : c.read_next-next.result ≡ Ok (Bytes c.in-Ok-Bytes.count) = c.in-Ok-Bytes.is ∙ ap (λ (next : Next). Ok next) given in
     let read = c.read_next-next.ensures.bytes c.in-Ok-Bytes.count is in
-    took_more c.args.self c.loop-count.self (take c.in-Ok-Bytes.count c.read_next-next.new.piece) (g.S.Source.left c.args.source.now) (g.S.Source.left c.loop-count.source) (g.S.Source.left c.read_next-next.new.source) (g.K.Sink.held c.args.sink.now) (g.K.Sink.held c.loop-count.sink) c.loop-count.taken c.in-Ok-Bytes.count c.args.meter.now c.loop-count.meter
-    c.loop-count.invariant.stands read.bytes (length-take-le c.in-Ok-Bytes.count c.read_next-next.new.piece read.held) read.within
+    took_more c.loop-count.invariant.stands.bytes (g.S.Source.left c.args.source.now) (g.S.Source.left c.loop-count.source) (g.S.Source.left c.read_next-next.new.source) c.loop-count.taken c.loop-count.invariant.stands.taken c.loop-count.invariant.stands.size
+    (take c.in-Ok-Bytes.count c.read_next-next.new.piece) c.in-Ok-Bytes.count read.bytes (length-take-le c.in-Ok-Bytes.count c.read_next-next.new.piece read.held) read.within
 
 pub loop-count-preserved : goal.loop-count-preserved
 loop-count-preserved g c =
@@ -79,8 +80,11 @@ returns-in-Err-take_bytes-clause-taken g c =
     let given : c.in-Ok-Bytes.field-0 ≡ Bytes c.in-Ok-Bytes.count = (rw c.in-Ok-Bytes.is at c.in-Ok-Bytes.field-0-is) in
     let is : c.read_next-next.result ≡ Ok (Bytes c.in-Ok-Bytes.count) = c.in-Ok-Bytes.is ∙ ap (λ (next : Next). Ok next) given in
     let read = c.read_next-next.ensures.bytes c.in-Ok-Bytes.count is in
-    took_more c.args.self c.loop-count.self (take c.in-Ok-Bytes.count c.read_next-next.new.piece) (g.S.Source.left c.args.source.now) (g.S.Source.left c.loop-count.source) (g.S.Source.left c.read_next-next.new.source) (g.K.Sink.held c.args.sink.now) (g.K.Sink.held c.loop-count.sink) c.loop-count.taken c.in-Ok-Bytes.count c.args.meter.now c.loop-count.meter
-    c.loop-count.invariant.stands read.bytes (length-take-le c.in-Ok-Bytes.count c.read_next-next.new.piece read.held) read.within
+    took_more c.loop-count.invariant.stands.bytes (g.S.Source.left c.args.source.now) (g.S.Source.left c.loop-count.source) (g.S.Source.left c.read_next-next.new.source) c.loop-count.taken c.loop-count.invariant.stands.taken c.loop-count.invariant.stands.size
+    (take c.in-Ok-Bytes.count c.read_next-next.new.piece) c.in-Ok-Bytes.count read.bytes (length-take-le c.in-Ok-Bytes.count c.read_next-next.new.piece read.held) read.within
+
+pub returns-in-Err-take_bytes-clause-sink_count : goal.returns-in-Err-take_bytes-clause-sink_count
+returns-in-Err-take_bytes-clause-sink_count g c = λ other. c.in-Err-take_bytes.ensures.same other ∙ c.loop-count.invariant.sink
 
 pub returns-in-Ok-End-clause-ok : goal.returns-in-Ok-End-clause-ok
 returns-in-Ok-End-clause-ok g c =
@@ -105,8 +109,7 @@ returns-in-Ok-End-clause-taken g c =
     let given : c.in-Ok-End.field-0 ≡ End = (rw c.in-Ok-End.is at c.in-Ok-End.field-0-is) in
     let is : c.read_next-next.result ≡ Ok (End) = c.in-Ok-End.is ∙ ap (λ (next : Next). Ok next) given in
     let ended = c.read_next-next.ensures.end is in
-    took_kept c.args.self c.loop-count.self (g.S.Source.left c.args.source.now) (g.S.Source.left c.loop-count.source) (g.S.Source.left c.read_next-next.new.source) (g.K.Sink.held c.args.sink.now) (g.K.Sink.held c.loop-count.sink) c.loop-count.taken c.args.meter.now c.loop-count.meter
-    c.loop-count.invariant.stands ended.0
+    took_kept c.loop-count.invariant.stands.bytes (g.S.Source.left c.args.source.now) (g.S.Source.left c.loop-count.source) (g.S.Source.left c.read_next-next.new.source) c.loop-count.taken c.loop-count.invariant.stands.taken c.loop-count.invariant.stands.size c.loop-count.invariant.stands.within ended.0
 
 pub returns-in-Ok-Past-clause-ok : goal.returns-in-Ok-Past-clause-ok
 returns-in-Ok-Past-clause-ok g c =
@@ -131,8 +134,7 @@ returns-in-Ok-Past-clause-taken g c =
     let given : c.in-Ok-Past.field-0 ≡ Past = (rw c.in-Ok-Past.is at c.in-Ok-Past.field-0-is) in
     let is : c.read_next-next.result ≡ Ok (Past) = c.in-Ok-Past.is ∙ ap (λ (next : Next). Ok next) given in
     let past = c.read_next-next.ensures.past is in
-    took_past c.args.self c.loop-count.self (g.S.Source.left c.args.source.now) (g.S.Source.left c.loop-count.source) (g.S.Source.left c.read_next-next.new.source) (g.K.Sink.held c.args.sink.now) (g.K.Sink.held c.loop-count.sink) c.loop-count.taken c.args.meter.now c.loop-count.meter
-    c.loop-count.invariant.stands past.0 past.1
+    took_past c.loop-count.invariant.stands.bytes (g.S.Source.left c.args.source.now) (g.S.Source.left c.loop-count.source) (g.S.Source.left c.read_next-next.new.source) c.loop-count.taken c.loop-count.invariant.stands.taken c.loop-count.invariant.stands.size past.0 past.1
 
 pub returns-in-Err-clause-err : goal.returns-in-Err-clause-err
 returns-in-Err-clause-err g c =
@@ -142,9 +144,4 @@ returns-in-Err-clause-err g c =
 
 pub returns-in-Err-clause-taken : goal.returns-in-Err-clause-taken
 returns-in-Err-clause-taken g c =
-    took_kept c.args.self c.loop-count.self (g.S.Source.left c.args.source.now) (g.S.Source.left c.loop-count.source) (g.S.Source.left c.read_next-next.new.source) (g.K.Sink.held c.args.sink.now) (g.K.Sink.held c.loop-count.sink) c.loop-count.taken c.args.meter.now c.loop-count.meter
-    c.loop-count.invariant.stands
-    c.in-Err.ensures.lost
-
-pub returns-in-Err-take_bytes-clause-sink_count : goal.returns-in-Err-take_bytes-clause-sink_count
-returns-in-Err-take_bytes-clause-sink_count g c = λ other. c.in-Err-take_bytes.ensures.same other ∙ c.loop-count.invariant.sink
+    took_kept c.loop-count.invariant.stands.bytes (g.S.Source.left c.args.source.now) (g.S.Source.left c.loop-count.source) (g.S.Source.left c.read_next-next.new.source) c.loop-count.taken c.loop-count.invariant.stands.taken c.loop-count.invariant.stands.size c.loop-count.invariant.stands.within c.in-Err.ensures.lost

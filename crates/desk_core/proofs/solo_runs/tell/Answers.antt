@@ -1,0 +1,96 @@
+use Rattle.std.proofs.Common.{◌≡◌, ℕ, ◌-◌, List, ◌++◌, Option, Ok, refl, sym, ap, subst, ◌∙◌, arith}
+use Rattle.std.specs.Prelude.{codes}
+use Rattle.reply_lines.specs.Lines.{counted}
+use Rattle.rtl_ir.specs.declared.module.Design.{Design}
+use Rattle.rtl_ir.specs.declared.module.Module.{Module}
+use Rattle.result_cache.specs.Filled.{new_count}
+use Rattle.script_core.specs.declared.built.Built.{Built}
+use Rattle.desk_core.specs.Ages.{kept_in, texts_of}
+use Rattle.desk_core.specs.Netlist.{built_count, key_texts}
+use Rattle.desk_core.specs.Results.{TellKeys, over_of}
+use Rattle.desk_core.specs.Solo.{own_state}
+use Rattle.desk_core.specs.State.{KeptKey}
+use Rattle.desk_core.proofs.Finding.{built_few}
+use Rattle.desk_core.proofs.SoloRuns.{own_grown, own_over, own_rises, own_state_grown, own_tell}
+use Rattle.desk_core.proofs.Told.{told_is}
+use Rattle.desk_core.proofs.solo_runs.tell.Goals as goal
+
+pub needed_by-requires-clause-keys : goal.needed_by-requires-clause-keys
+needed_by-requires-clause-keys g c =
+    let design = c.args.present.now.design.design in
+    let script = c.args.present.now.script in
+    let table = c.in_ok-table.table.modules.now in
+    let same : table ≡ design.modules = c.in_ok-table.ensures.value ∙ ap (λ (d : Design). d.modules) c.design.ensures.value in
+    subst (λ (found : List (Option Built)). TellKeys design table script found) (sym c.as_slice.ensures.value) (own_tell design script c.args.results.now table same c.requires.own)
+
+pub needed_by-requires-clause-beside : goal.needed_by-requires-clause-beside
+needed_by-requires-clause-beside g c = c.requires.own.aged.beside
+
+pub find_own-requires-clause-own : goal.find_own-requires-clause-own
+find_own-requires-clause-own g c =
+    let own =
+    own_grown c.args.present.now.design.design c.args.present.now.script c.args.results.now c.needed_by.new.ages c.needed_by.ensures.kept c.needed_by.ensures.beside c.needed_by.ensures.young c.requires.own in
+    search (own)
+
+pub returns-in_err-needed-clause-own : goal.returns-in_err-needed-clause-own
+returns-in_err-needed-clause-own g c =
+    own_grown c.args.present.now.design.design c.args.present.now.script c.args.results.now c.needed_by.new.ages c.needed_by.ensures.kept c.needed_by.ensures.beside c.needed_by.ensures.young c.requires.own
+
+pub returns-in_err-needed-clause-state : goal.returns-in_err-needed-clause-state
+returns-in_err-needed-clause-state g c = own_state_grown c.args.present.now.design.design c.args.present.now.script c.args.results.now c.needed_by.new.ages c.needed_by.ensures.kept (record c.args.results.now { ages = c.needed_by.new.ages }) refl
+
+pub returns-in_err-find_own-clause-state : goal.returns-in_err-find_own-clause-state
+returns-in_err-find_own-clause-state g c = own_state_grown c.args.present.now.design.design c.args.present.now.script c.args.results.now c.needed_by.new.ages c.needed_by.ensures.kept c.find_own.new.results c.find_own.ensures.ages
+
+pub returns-in_err-find_own-clause-ticks : goal.returns-in_err-find_own-clause-ticks
+returns-in_err-find_own-clause-ticks g c = own_rises c.args.present.now.design.design c.args.present.now.script c.args.results.now c.args.meter.now c.find_own.new.meter c.requires.own c.find_own.ensures.ticks
+
+pub returns-in_err-words-clause-state : goal.returns-in_err-words-clause-state
+returns-in_err-words-clause-state g c = own_state_grown c.args.present.now.design.design c.args.present.now.script c.args.results.now c.needed_by.new.ages c.needed_by.ensures.kept c.find_own.new.results c.find_own.ensures.ages
+
+pub returns-in_err-words-clause-ticks : goal.returns-in_err-words-clause-ticks
+returns-in_err-words-clause-ticks g c = own_rises c.args.present.now.design.design c.args.present.now.script c.args.results.now c.args.meter.now c.find_own.new.meter c.requires.own c.find_own.ensures.ticks
+
+pub returns-in_err-over-clause-state : goal.returns-in_err-over-clause-state
+returns-in_err-over-clause-state g c = own_state_grown c.args.present.now.design.design c.args.present.now.script c.args.results.now c.needed_by.new.ages c.needed_by.ensures.kept c.find_own.new.results c.find_own.ensures.ages
+
+pub returns-in_err-over-clause-ticks : goal.returns-in_err-over-clause-ticks
+returns-in_err-over-clause-ticks g c = own_rises c.args.present.now.design.design c.args.present.now.script c.args.results.now c.args.meter.now c.find_own.new.meter c.requires.own c.find_own.ensures.ticks
+
+pub returns-clause-state : goal.returns-clause-state
+returns-clause-state g c = own_state_grown c.args.present.now.design.design c.args.present.now.script c.args.results.now c.needed_by.new.ages c.needed_by.ensures.kept c.find_own.new.results c.find_own.ensures.ages
+
+pub returns-clause-ticks : goal.returns-clause-ticks
+returns-clause-ticks g c = own_rises c.args.present.now.design.design c.args.present.now.script c.args.results.now c.args.meter.now c.find_own.new.meter c.requires.own c.find_own.ensures.ticks
+
+pub returns-in_err-told_by-clause-state : goal.returns-in_err-told_by-clause-state
+returns-in_err-told_by-clause-state g c = own_state_grown c.args.present.now.design.design c.args.present.now.script c.args.results.now c.needed_by.new.ages c.needed_by.ensures.kept c.find_own.new.results c.find_own.ensures.ages
+
+pub returns-in_err-told_by-clause-ticks : goal.returns-in_err-told_by-clause-ticks
+returns-in_err-told_by-clause-ticks g c = own_rises c.args.present.now.design.design c.args.present.now.script c.args.results.now c.args.meter.now c.find_own.new.meter c.requires.own c.find_own.ensures.ticks
+
+pub built_words-requires : goal.built_words-requires
+built_words-requires g c =
+    let few =
+    built_few c.args.present.now.design.design c.args.present.now.script (texts_of (kept_in c.needed_by.new.ages.keys c.needed_by.new.ages.ages.items)) c.in_ok-needed.needed.built c.in_ok-needed.ensures.needed.built in
+    let count = c.module_count.ensures.value in
+    record { few = omega (arith, few, count) }
+
+pub returns-clause-told : goal.returns-clause-told
+returns-clause-told g c =
+    let design = c.args.present.now.design.design in
+    let script = c.args.present.now.script in
+    let s = own_state design script c.args.results.now in
+    let texts = key_texts script design.modules in
+    let built = c.in_ok-needed.needed.built in
+    let words =
+    c.in_ok-words.ensures.value
+    ∙ ap (λ (n : ℕ). counted (codes "built") built ++ counted (codes "reused") (n - built)) c.module_count.ensures.value in
+    let count : built ≡ built_count s = c.in_ok-needed.ensures.needed.built ∙ ap (λ (kept : List KeptKey). new_count (texts_of kept) texts) c.needed_by.ensures.kept in
+    let modules = c.as_slice-modules.ensures.value ∙ ap (λ (d : Design). d.modules) c.design-2.ensures.value in
+    let over =
+    c.in_ok-over.ensures.value
+    ∙ ap (λ (ms : List Module). over_of ms c.as_slice-2.result.now) modules
+    ∙ ap (over_of design.modules) c.as_slice-2.ensures.value in
+    told_is s c.in_ok-words.words c.in_ok-over.over built (Ok c.in_ok-told_by.field-0) c.in_ok-told_by.ensures.value words count
+    (own_over design script c.find_own.new.results c.in_ok-over.over c.find_own.ensures.own c.in_ok-find_own.ensures.found over)

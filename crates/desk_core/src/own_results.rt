@@ -1,0 +1,236 @@
+//! The results that one desk keeps itself, and finds in a cache that it shares with other desks.
+
+ghost use Rattle.std.specs.Prelude.{◌≡◌, ◌<◌, ℕ, Bool, [], ◌∷◌, IfOk, OnErr, OnOk, length};
+ghost use Rattle.rtl_bits.specs.Counts.{risen};
+ghost use Rattle.result_cache.specs.Filled.{HoldsNone, filled_keys, new_count, with_key, with_keys};
+ghost use Rattle.result_cache.specs.History.{held};
+ghost use Rattle.result_cache.specs.Seats.{IsIdle};
+ghost use Rattle.result_cache.specs.Stored.{mode_at};
+ghost use Rattle.build_crew.specs.Calls.{HasFound};
+ghost use Rattle.build_crew.specs.Forgetting.{without};
+ghost use Rattle.build_crew.specs.Kept.{HasStill};
+ghost use Rattle.build_crew.specs.Rises.{RisesUpTo};
+ghost use Rattle.script_core.specs.Built.{IsAcceptedKey, IsValueOf};
+ghost use Rattle.script_core.specs.Keys.{key_text};
+ghost use Rattle.desk_core.specs.Netlist.{key_text_at, key_texts};
+ghost use Rattle.desk_core.specs.Needed.{ages_after};
+ghost use Rattle.desk_core.specs.Results.{AreFound};
+ghost use Rattle.desk_core.specs.Solo.{AreOwn, Builds, HoldsNoOther, IsFoundAt};
+
+use crate::ages::Ages;
+use crate::kept::Kept;
+use crate::key_order::KeyOrder;
+use crate::keys::Keys;
+use crate::modules::module_count;
+use crate::needed::Needed;
+use build_crew::find;
+use result_cache::laws::shards_are_sound;
+use result_cache::{Claim, Keyed, Seat, Shard, SharedCache, Ticket};
+use rtl_bits::{Memory, Steps, Text};
+use script_core::Key;
+use std::alloc::Global;
+use std::sync::Wait;
+
+/// What a desk asks a shared cache with: the runtime of its waiting, the memory, and the cache.
+#[derive_where(Clone, Copy)]
+pub struct Access<'a, R> {
+    pub rt: &'a R,
+    pub alloc: Global,
+    pub cache: &'a SharedCache<Kept>,
+}
+
+/// The results that a desk keeps, under their keys, with the ages of these; and beside each module the result of its
+/// key, once it was asked for. All calls on the shard are made by the seat 0.
+#[derive(Drop)]
+pub struct OwnResults {
+    pub shard: Shard<Kept>,
+    pub ages: Ages,
+    pub found: Vec<Option<Kept>>,
+}
+
+/// The result of a key by the shared cache, for two that hold it.
+fn find_shared<R: Wait, L>(
+    access: &Access<R>,
+    key: &Key,
+    seat: &mut Seat,
+    meter: &mut Steps<L>,
+) -> Result<(Kept, Kept), Memory>
+    requires accepted { IsAcceptedKey key.now }
+    requires idle { IsIdle access.now.cache.now.table.shared.table_id seat.old }
+    ensures idle { IsIdle access.now.cache.now.table.shared.table_id seat.new }
+    ensures key { IfOk result (λ both. both.0.key ≡ key.now) }
+    ensures second { IfOk result (λ both. both.1 ≡ both.0) }
+    ensures value { IfOk result (λ both. IsValueOf key.now both.0.outcome) }
+    ensures built { OnOk result ((n : ℕ) × (is_new : Bool) × (meter.new ≡ risen meter.old n)
+        × HasFound (key_text key.now) is_new seat.old seat.new n) }
+    ensures ticks { RisesUpTo 1 meter.old meter.new }
+{
+    let alloc = access.alloc;
+    let order = KeyOrder { alloc, key };
+    let found = find(access.rt, access.cache, seat, &order, meter)?;
+    let other = found.value.share()?;
+    Ok((found.value, other))
+}
+
+/// Finds the result of the key of a ticket of the desk's own shard. The ticket is spent, whatever the answer is.
+#[tactic(auto, using(crate::proofs::OwnShard::stands_is))]
+fn fill<R: Wait, L>(
+    access: &Access<R>,
+    shard: &mut Shard<Kept>,
+    ticket: Ticket,
+    key: &Key,
+    seat: &mut Seat,
+    meter: &mut Steps<L>,
+) -> Result<Kept, Memory>
+    requires accepted { IsAcceptedKey key.now }
+    requires ticket { ticket.key ≡ key_text key.now }
+    requires held { mode_at shard.old ticket.key ≡ held 0 }
+    requires alone { HoldsNoOther ticket.key shard.old }
+    requires idle { IsIdle access.now.cache.now.table.shared.table_id seat.old }
+    ensures free { HoldsNone shard.new }
+    ensures idle { IsIdle access.now.cache.now.table.shared.table_id seat.new }
+    ensures key { IfOk result (λ kept. kept.key ≡ key.now) }
+    ensures value { IfOk result (λ kept. IsValueOf key.now kept.outcome) }
+    ensures filled { OnOk result (filled_keys shard.new ≡ with_key (key_text key.now) (filled_keys shard.old)) }
+    ensures err { OnErr result (filled_keys shard.new ≡ filled_keys shard.old) }
+    ensures built { OnOk result ((n : ℕ) × (is_new : Bool) × (meter.new ≡ risen meter.old n)
+        × HasFound (key_text key.now) is_new seat.old seat.new n) }
+    ensures ticks { RisesUpTo 1 meter.old meter.new }
+{
+    match find_shared(access, key, seat, meter) {
+        Ok((kept, other)) => {
+            shard.fill(0, ticket, other);
+            Ok(kept)
+        }
+        Err(Memory) => {
+            shard.give_back(0, ticket);
+            Err(Memory)
+        }
+    }
+}
+
+/// The result of a key, which is kept from then on. The shared cache is asked only where it is not kept.
+#[tactic(auto, using(crate::proofs::OwnShard::stands_key, crate::proofs::OwnShard::stands_value, crate::proofs::Rises::rises_none))]
+fn take<R: Wait, L>(
+    access: &Access<R>,
+    shard: &mut Shard<Kept>,
+    key: &Key,
+    seat: &mut Seat,
+    meter: &mut Steps<L>,
+) -> Result<Kept, Memory>
+    requires accepted { IsAcceptedKey key.now }
+    requires free { HoldsNone shard.old }
+    requires idle { IsIdle access.now.cache.now.table.shared.table_id seat.old }
+    ensures free { HoldsNone shard.new }
+    ensures idle { IsIdle access.now.cache.now.table.shared.table_id seat.new }
+    ensures key { IfOk result (λ result. result.key ≡ key.now) }
+    ensures value { IfOk result (λ result. IsValueOf key.now result.outcome) }
+    ensures filled { OnOk result (filled_keys shard.new ≡ with_key (key_text key.now) (filled_keys shard.old)) }
+    ensures err { OnErr result (filled_keys shard.new ≡ filled_keys shard.old) }
+    ensures built { OnOk result (Builds (filled_keys shard.old) (key_text key.now ∷ []) seat.old seat.new meter.old
+        meter.new) }
+    ensures ticks { RisesUpTo (new_count (filled_keys shard.old) (key_text key.now ∷ [])) meter.old meter.new }
+{
+    let text = key.text(access.alloc)?;
+    shards_are_sound(shard);
+    match shard.claim(0, &text)? {
+        Claim::Hit(result) => Ok(result),
+        Claim::Yours(ticket) => fill(access, shard, ticket, key, seat, meter),
+        Claim::Busy(_) => unreachable!(),
+    }
+}
+
+/// Finds the result of the module at this place, and puts it beside it.
+#[tactic(auto, using(crate::proofs::Rises::rises_none))]
+fn find_at<R: Wait, L>(
+    access: &Access<R>,
+    keys: &Keys,
+    at: u32,
+    results: &mut OwnResults,
+    seat: &mut Seat,
+    meter: &mut Steps<L>,
+) -> Result<(), Memory>
+    requires table { keys.now.table.now.modules.now ≡ keys.now.design.now.design.modules }
+    requires own { AreOwn keys.now.design.now.design keys.now.script.now results.old }
+    requires in_range { at < length keys.now.design.now.design.modules }
+    requires idle { IsIdle access.now.cache.now.table.shared.table_id seat.old }
+    ensures own { AreOwn keys.now.design.now.design keys.now.script.now results.new }
+    ensures idle { IsIdle access.now.cache.now.table.shared.table_id seat.new }
+    ensures ages { results.new.ages ≡ results.old.ages }
+    ensures filled { OnOk result (filled_keys results.new.shard ≡
+        with_key (key_text_at keys.now.script.now keys.now.design.now.design.modules at)
+        (filled_keys results.old.shard)) }
+    ensures found { OnOk result (IsFoundAt results.old.found.items results.new.found.items at) }
+    ensures err { OnErr result (filled_keys results.new.shard ≡ filled_keys results.old.shard) }
+    ensures built { OnOk result (Builds (filled_keys results.old.shard) (key_text_at keys.now.script.now
+        keys.now.design.now.design.modules at ∷ []) seat.old seat.new meter.old meter.new) }
+    ensures ticks { RisesUpTo (new_count (filled_keys results.old.shard)
+        (key_text_at keys.now.script.now keys.now.design.now.design.modules at ∷ [])) meter.old meter.new }
+{
+    if results.found[at as usize].is_some() {
+        return Ok(());
+    }
+    let key = keys.key_at(access.alloc, at)?;
+    let result = take(access, &mut results.shard, &key, seat, meter)?;
+    results.found[at as usize] = Some(result);
+    Ok(())
+}
+
+/// Finds the result of each module. The ages of the keys stay.
+pub fn find_own<R: Wait, L>(
+    access: &Access<R>,
+    keys: &Keys,
+    results: &mut OwnResults,
+    seat: &mut Seat,
+    meter: &mut Steps<L>,
+) -> Result<(), Memory>
+    requires table { keys.now.table.now.modules.now ≡ keys.now.design.now.design.modules }
+    requires own { AreOwn keys.now.design.now.design keys.now.script.now results.old }
+    requires idle { IsIdle access.now.cache.now.table.shared.table_id seat.old }
+    ensures own { AreOwn keys.now.design.now.design keys.now.script.now results.new }
+    ensures idle { IsIdle access.now.cache.now.table.shared.table_id seat.new }
+    ensures ages { results.new.ages ≡ results.old.ages }
+    ensures filled { OnOk result (filled_keys results.new.shard ≡
+        with_keys (filled_keys results.old.shard) (key_texts keys.now.script.now keys.now.design.now.design.modules)) }
+    ensures found { OnOk result (AreFound results.new.found.items) }
+    ensures err { OnErr result (HasStill (filled_keys results.old.shard) (filled_keys results.new.shard)) }
+    ensures built { OnOk result (Builds (filled_keys results.old.shard) (key_texts keys.now.script.now
+        keys.now.design.now.design.modules) seat.old seat.new meter.old meter.new) }
+    ensures ticks { RisesUpTo
+        (new_count (filled_keys results.old.shard) (key_texts keys.now.script.now keys.now.design.now.design.modules))
+        meter.old meter.new }
+{
+    for at in 0..module_count(keys.design) {
+        find_at(access, keys, at, results, seat, meter)?;
+    }
+    Ok(())
+}
+
+/// Gives up the values of these keys.
+#[tactic(auto, using(crate::proofs::OwnShard::gone_first))]
+fn give_up_own(shard: &mut Shard<Kept>, keys: &[Text])
+    requires free { HoldsNone shard.old }
+    ensures free { HoldsNone shard.new }
+    ensures kept { filled_keys shard.new ≡ without keys.now (filled_keys shard.old) }
+{
+    for key in keys {
+        shard.forget(0, key);
+    }
+}
+
+impl OwnResults {
+    /// Ends a command that needed the netlist, once all of its memory is taken: the keys that it needed have age 0, the
+    /// others are older by one, and the values of those that are too old are given up.
+    pub fn end(&mut self, needed: &Needed)
+        requires free { HoldsNone self.old.shard }
+        requires beside { length needed.now.marks.items ≡ length self.old.ages.ages.items }
+        ensures free { HoldsNone self.new.shard }
+        ensures found { self.new.found ≡ self.old.found }
+        ensures kept { filled_keys self.new.shard ≡ without needed.now.too_old.items (filled_keys self.old.shard) }
+        ensures keys { self.new.ages.keys ≡ self.old.ages.keys }
+        ensures ages { self.new.ages.ages.items ≡ ages_after needed.now.marks.items self.old.ages.ages.items }
+    {
+        give_up_own(&mut self.shard, needed.too_old.as_slice());
+        self.ages.grow(needed.marks.as_slice());
+    }
+}
