@@ -7,14 +7,15 @@ ghost use Rattle.script_core.specs.Keys.{key_of};
 
 use rtl_bits::Memory;
 use rtl_check::Checked;
-use script_core::{Key, KeyTable, Script, key_by};
+use rtl_ir::DesignPorts;
+use script_core::{Key, Script, key_by};
 use std::alloc::Global;
 
 /// A design and a script, with the table of the design's modules: what tells the keys of the modules.
 #[derive(Clone, Copy)]
 pub struct Keys<'d, 't> {
     pub design: &'d Checked,
-    pub table: &'t KeyTable<'d>,
+    pub table: &'t DesignPorts<'d>,
     pub script: &'d Script,
 }
 

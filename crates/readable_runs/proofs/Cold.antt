@@ -1,5 +1,5 @@
 -- The cold run of an accepted design is a design that a text can give, where it is a netlist.
-use Rattle.std.proofs.Common.{◌≡◌, ℕ, zero, suc, false, Some, List, [], ◌∷◌, length, inl, inr, refl, sym, ◌∙◌, ap, subst, arith}
+use Rattle.std.proofs.Common.{◌≡◌, ℕ, zero, suc, Some, List, [], ◌∷◌, length, inl, inr, refl, sym, ◌∙◌, ap, subst, arith}
 use Rattle.std.specs.Prelude.{map, slice_get}
 use Rattle.std.specs.List.{All}
 use Rattle.std.proofs.lemmas.List.{length-map}
@@ -12,12 +12,9 @@ use Rattle.net_model.specs.Lists.{In}
 use Rattle.script_core.specs.declared.outcome.Outcome.TheVariants.{Done}
 use Rattle.script_core.specs.declared.word.Word.{Word}
 use Rattle.script_core.specs.Built.{IsValueOf, body_name, unnamed}
-use Rattle.script_core.specs.Cold.{IsNetlist, cold, outcome_of}
-use Rattle.script_core.specs.Fold.{MayStart, StartsWithProc, fold_words}
+use Rattle.script_core.specs.Cold.{IsNetlist, cold, outcome_of, table_of}
+use Rattle.script_core.specs.Fold.{MayStart, StartsWithProc, fold_script}
 use Rattle.script_core.specs.Keys.{key_of}
-use Rattle.script_core.specs.Reached.{below_of, table_of}
-use Rattle.script_core.specs.Words.{flattens}
-use Rattle.script_core.proofs.FoldLemmas.{fold_plain}
 use Rattle.script_core.proofs.Given.{given_first}
 use Rattle.script_core.proofs.Refining.{value_is}
 use Rattle.script_core.proofs.Renaming.{fold_renamed}
@@ -44,16 +41,13 @@ record AreReadable (names : List (List ℕ)) (ms : List Module) : Type 0 where
   modules : All IsReadableModule ms
   ids : ids_of ms ≡ names
 
-module _ (d : Design) (readable : IsReadable d) (short : HasShortMemories d) (none : check_faults d.modules ≡ []) (script : List Word) (stage : StartsWithProc script) (plain : flattens script ≡ false) where
+module _ (d : Design) (readable : IsReadable d) (short : HasShortMemories d) (none : check_faults d.modules ≡ []) (script : List Word) (stage : StartsWithProc script) where
   module _ (m : Module) (i : In m d.modules) (n : Module) (e : outcome_of script d.modules m ≡ Done n) where
     start : MayStart (table_of d.modules m) m
     start = given_first d readable none m i m.id
 
-    built : fold_words script (table_of d.modules m) m ≡ Done n
-    built =
-        sym (fold_plain script (table_of d.modules m) (below_of script d.modules m.cells) m plain)
-        ∙ fold_renamed m.id script (table_of d.modules m) (below_of script d.modules m.cells) (unnamed m)
-        ∙ e
+    built : fold_script script (table_of d.modules m) m ≡ Done n
+    built = fold_renamed m.id script (table_of d.modules m) (unnamed m) ∙ e
 
     own_reads : IsReadableModule n
     own_reads =
@@ -88,10 +82,10 @@ module _ (d : Design) (readable : IsReadable d) (short : HasShortMemories d) (no
       }
 
 -- the value of the key of a module, where it is a module
-module _ (d : Design) (readable : IsReadable d) (at : ℕ) (m : Module) (here : slice_get d.modules at ≡ Some m) (script : List Word) (none : check_faults d.modules ≡ []) (stage : StartsWithProc script) (plain : flattens script ≡ false) (short : NamesShortMemories m) where
+module _ (d : Design) (readable : IsReadable d) (at : ℕ) (m : Module) (here : slice_get d.modules at ≡ Some m) (script : List Word) (none : check_faults d.modules ≡ []) (stage : StartsWithProc script) (short : NamesShortMemories m) where
   pub value_reads : (after : Module) → IsValueOf (key_of d.modules at script) (Done after) → IsReadableModule after
   value_reads after h =
       let i = place_in m d.modules at here in
       let is = readable_named m body_name (all_each IsReadableModule d.modules readable.modules m i) refl in
       script_reads script (table_of d.modules m) (unnamed m) after stage (given_first d readable none m i body_name) (short_named (unnamed m) is short) is
-      (sym (value_is d readable at m here script (Done after) h ∙ fold_plain script (table_of d.modules m) (below_of script d.modules m.cells) (unnamed m) plain))
+      (sym (value_is d readable at m here script (Done after) h))

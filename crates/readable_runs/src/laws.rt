@@ -13,7 +13,7 @@ ghost use Rattle.script_core.specs.declared.outcome.Outcome.TheVariants.{Done};
 ghost use Rattle.script_core.specs.declared.word.Word.{Word};
 ghost use Rattle.script_core.specs.Built.{IsValueOf};
 ghost use Rattle.script_core.specs.Cold.{IsNetlist, cold};
-ghost use Rattle.script_core.specs.Fold.{MayBeGiven, MayStart, StartsWithProc, fold_words, pass_of};
+ghost use Rattle.script_core.specs.Fold.{MayBeGiven, MayStart, StartsWithProc, fold_script, pass_of};
 ghost use Rattle.script_core.specs.Keys.{key_of};
 ghost use Rattle.script_core.specs.Mapping.{maps_all};
 ghost use Rattle.readable_runs.specs.Short.{HasShortMemories, NamesShortMemories};
@@ -21,12 +21,12 @@ ghost use Rattle.readable_runs.specs.Short.{HasShortMemories, NamesShortMemories
 use rtl_ir::{Design, Module, PortTable};
 
 /// Where no line of a process writes a memory of a longer name than a constant holds, what the pass of a word makes of
-/// a module that a text can give is such a module; and so is what words make of it of which the first is `proc`.
+/// a module that a text can give is such a module; and so is what a script makes of it that begins with `proc`.
 pub fn scripts_keep_readable_modules()
     ensures word { (table : PortTable) (word : Word) (m n : Module) → MayBeGiven table word m → NamesShortMemories m →
         IsReadableModule m → pass_of table word m ≡ Some n → IsReadableModule n }
     ensures script { (script : List Word) (table : PortTable) (m n : Module) → StartsWithProc script →
-        MayStart table m → NamesShortMemories m → IsReadableModule m → fold_words script table m ≡ Done n →
+        MayStart table m → NamesShortMemories m → IsReadableModule m → fold_script script table m ≡ Done n →
         IsReadableModule n }
 {}
 

@@ -1,5 +1,5 @@
 -- Words one after another.
-use Rattle.std.proofs.Common.{◌≡◌, ℕ, ◌+◌, ◌<◌, ◌≤◌, List, ◌∷◌, length, drop, get_or, Bool, true, false, [], Some, None, Result, Ok, Err, sym, ap, subst, ◌∙◌, add-one, arith, cond}
+use Rattle.std.proofs.Common.{◌≡◌, ℕ, ◌+◌, ◌<◌, ◌≤◌, List, ◌∷◌, length, drop, get_or, Bool, Some, None, Result, Ok, Err, sym, ap, subst, ◌∙◌, add-one, cond}
 use Rattle.std.specs.Prelude.{IfOk, OnOk}
 use Rattle.std.proofs.Math.Seq.{drop-cons}
 use Rattle.std.proofs.lemmas.List.{drop_all}
@@ -11,9 +11,8 @@ use Rattle.net_index.specs.Builder.{IsInLimits}
 use Rattle.tech_map.specs.Techmap.{TechmapPassesLimit, beside, techmap_of}
 use Rattle.script_core.specs.declared.outcome.Outcome.TheVariants.{Done, Over}
 use Rattle.script_core.specs.declared.word.Word.{Word}
-use Rattle.script_core.specs.Words.{flattens}
 use Rattle.proc_steps.proofs.Limits.{limits_passed, limits_within}
-use Rattle.script_core.specs.Fold.{techmap_within, pass_of, after_word, fold_flat, fold_script, fold_words, MayBeGiven, AfterWord, AreApplicable, AreFlatApplicable, IsApplicable}
+use Rattle.script_core.specs.Fold.{techmap_within, pass_of, after_word, fold_script, MayBeGiven, AfterWord, AreApplicable}
 
 -- what `techmap` gives
 pub mapped : (m : Module) (r : Result Module PassFault) → IfOk r (λ after. after ≡ techmap_of m) → OnOk r (IsInLimits (beside m)) → IfOk r (λ after. techmap_within m ≡ Some after)
@@ -32,12 +31,12 @@ module _ (words : List Word) (at : ℕ) (d word : Word) (inside : at < length wo
   left = words_left words at d word inside is
 
   -- a word that gave a module
-  pub fold_next : (after : Module) → pass_of table word m ≡ Some after → fold_words (drop at words) table m ≡ fold_words (drop (at + 1) words) table after
-  fold_next after e = ap (λ (ws : List Word). fold_words ws table m) left ∙ ap (after_word word (fold_words (drop (at + 1) words) table)) e
+  pub fold_next : (after : Module) → pass_of table word m ≡ Some after → fold_script (drop at words) table m ≡ fold_script (drop (at + 1) words) table after
+  fold_next after e = ap (λ (ws : List Word). fold_script ws table m) left ∙ ap (after_word word (fold_script (drop (at + 1) words) table)) e
 
   -- a word that passed a limit
-  pub fold_over : pass_of table word m ≡ None → fold_words (drop at words) table m ≡ Over word
-  fold_over e = ap (λ (ws : List Word). fold_words ws table m) left ∙ ap (after_word word (fold_words (drop (at + 1) words) table)) e
+  pub fold_over : pass_of table word m ≡ None → fold_script (drop at words) table m ≡ Over word
+  fold_over e = ap (λ (ws : List Word). fold_script ws table m) left ∙ ap (after_word word (fold_script (drop (at + 1) words) table)) e
 
   pub applicable_now : AreApplicable (drop at words) table m → MayBeGiven table word m
   applicable_now h = (subst (λ (ws : List Word). AreApplicable ws table m) left h).0
@@ -46,27 +45,5 @@ module _ (words : List Word) (at : ℕ) (d word : Word) (inside : at < length wo
   applicable_next after e h = subst (AfterWord (AreApplicable (drop (at + 1) words) table)) e (subst (λ (ws : List Word). AreApplicable ws table m) left h).1
 
 -- no word is left
-pub fold_end : (words : List Word) (at : ℕ) (table : PortTable) (m : Module) → length words ≤ at → fold_words (drop at words) table m ≡ Done m
-fold_end words at table m h = ap (λ (ws : List Word). fold_words ws table m) (drop_all at words h)
-
--- a script that does not flatten takes its words one by one
-pub fold_plain : (script : List Word) (table : PortTable) (below : List Module) (m : Module) → flattens script ≡ false → fold_script script table below m ≡ fold_words script table m
-fold_plain script table below m plain = ap (λ (t : Bool). cond t (fold_flat (drop 2 script) table below m) (fold_words script table m)) plain
-
--- a script that flattens takes the words after the second one by one
-pub fold_flattens : (script : List Word) (table : PortTable) (below : List Module) (m : Module) → flattens script ≡ true → fold_script script table below m ≡ fold_flat (drop 2 script) table below m
-fold_flattens script table below m flat = ap (λ (t : Bool). cond t (fold_flat (drop 2 script) table below m) (fold_words script table m)) flat
-
--- what a script may be applied to, by whether it flattens
-module _ (script : List Word) (table : PortTable) (below : List Module) (m : Module) where
-  pub applicable_flat : flattens script ≡ true → IsApplicable script table below m → AreFlatApplicable (drop 2 script) table below m
-  applicable_flat flat h = subst (λ (t : Bool). cond t (AreFlatApplicable (drop 2 script) table below m) (AreApplicable script table m)) flat h
-
-  pub applicable_plain : flattens script ≡ false → IsApplicable script table below m → AreApplicable script table m
-  applicable_plain plain h = subst (λ (t : Bool). cond t (AreFlatApplicable (drop 2 script) table below m) (AreApplicable script table m)) plain h
-
--- a script that flattens has two words
-pub two_words : (script : List Word) → flattens script ≡ true → 2 ≤ length script
-two_words [] flat = absurd cc
-two_words (w ∷ []) flat = absurd cc
-two_words (w ∷ v ∷ ws) flat = omega arith
+pub fold_end : (words : List Word) (at : ℕ) (table : PortTable) (m : Module) → length words ≤ at → fold_script (drop at words) table m ≡ Done m
+fold_end words at table m h = ap (λ (ws : List Word). fold_script ws table m) (drop_all at words h)

@@ -2,22 +2,20 @@
 
 ghost use Rattle.std.specs.Prelude.{◌≡◌, IfOk};
 ghost use Rattle.rtl_bits.specs.Counts.{risen};
-ghost use Rattle.rtl_ir.specs.declared.module.Design.{Design};
 ghost use Rattle.rtl_ir.specs.declared.module.Module.{Module};
 ghost use Rattle.rtl_ir.specs.declared.ports.PortTable.{PortTable};
 ghost use Rattle.rtl_write.specs.Ports.{ports_text};
 ghost use Rattle.rtl_write.specs.PortTables.{ArePorts};
-ghost use Rattle.rtl_readable.specs.Readable.{IsReadable, IsReadableModule};
-ghost use Rattle.rtl_write.specs.Text.{body_text, text_of};
+ghost use Rattle.rtl_readable.specs.Readable.{IsReadableModule};
+ghost use Rattle.rtl_write.specs.Text.{body_text};
 ghost use Rattle.script_core.specs.Built.{IsAcceptedKey, IsValueOf, unnamed};
 
 use crate::built::Built;
 use crate::fold::fold;
 use crate::key::Key;
 use crate::outcome::Outcome;
-use rtl_bits::{Copied, Memory, Seq, Steps, Text};
-use rtl_ir::{Design, Module, PortTable};
-use rtl_read::{ReadFault, read};
+use rtl_bits::{Copied, Memory, Steps, Text};
+use rtl_ir::{Module, PortTable};
 use rtl_write::{read_body, read_ports};
 use std::alloc::Global;
 
@@ -40,20 +38,6 @@ fn ports_of(alloc: Global, ports: Text) -> Result<PortTable, Memory>
     read_ports(alloc, ports.as_slice())
 }
 
-/// The modules of this text, which is let go. Of a text that gives none it answers no module.
-fn modules_of(alloc: Global, below: Text) -> Result<Design, Memory>
-    ensures round_trip { (design : Design) → IsReadable design → below ≡ text_of design →
-        IfOk result (λ read. read ≡ design) }
-{
-    match read(alloc, below.as_slice()) {
-        Ok(design) => Ok(design),
-        Err(ReadFault::Memory) => Err(Memory),
-        Err(_) => Ok(Design {
-            modules: Seq::make(alloc),
-        }),
-    }
-}
-
 /// What the passes of the key's script make of the key's module. The texts of the key are let go before the first pass.
 fn outcome_of(alloc: Global, key: Key) -> Result<Outcome, Memory>
     requires accepted { IsAcceptedKey key }
@@ -63,12 +47,10 @@ fn outcome_of(alloc: Global, key: Key) -> Result<Outcome, Memory>
         body,
         ports,
         script,
-        below,
     } = key;
     let module = module_of(alloc, body)?;
     let ports = ports_of(alloc, ports)?;
-    let below = modules_of(alloc, below)?;
-    fold(alloc, &script, module, &ports, &below)
+    fold(alloc, script.as_slice(), module, &ports)
 }
 
 /// What `build` makes of the key, without the key: its texts are let go before the first pass. Each call, whatever it
