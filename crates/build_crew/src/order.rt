@@ -20,6 +20,7 @@ pub trait Order {
 
     /// The text of the key, under which its value is kept: a value that stands for it is one that is asked for.
     fn text(&self) -> Result<Text, Memory>
+        requires buildable { is_buildable self.now }
         ensures value { IfOk result (λ text. text ≡ text_of self.now) }
         ensures answers { IfOk result (λ text. (value : Self.Value) → Self.Value.stands_for value text →
             is_answer self.now value) };

@@ -3,7 +3,7 @@ use Rattle.std.proofs.Common.{◌≡◌, ℕ, zero, suc, ◌+◌, ◌<◌, ◌�
 use Rattle.std.proofs.Math.ListN.{drop_of_length-le}
 use Rattle.std.proofs.lemmas.List.{append-nil, drop-set, length-append, length-set, take_at}
 use Rattle.std.proofs.lemmas.Option.{slice_get-get_or}
-use Rattle.std.specs.Prelude.{IfOk, map}
+use Rattle.std.specs.Prelude.{IfOk, IfSome, map}
 use Rattle.std.specs.List.{list_all}
 use Rattle.std.specs.Option.{is_some}
 use Rattle.rtl_bits.specs.Counts.{risen}
@@ -62,11 +62,18 @@ tell_keys design table script results same h = record {
 pub got_at : {A : Type 0} (xs : List A) (k : ℕ) (x y : A) → k < length xs → get_or xs k x ≡ y → slice_get xs k ≡ Some y
 got_at xs k x y within is = slice_get-get_or xs k x within ∙ ap Some is
 
+-- a result that stands beside a module has the key of the module
+pub beside_own : (design : Design) (table : List Module) (script : List Word) (found : List (Option Built)) (at : ℕ) (other one : Option Built) → TellKeys design table script found → at < length design.modules → get_or found at other ≡ one
+    → IfSome one (λ kept. kept.key ≡ key_of design.modules at script)
+beside_own design table script found at other None tells inside is = tt
+beside_own design table script found at other (Some kept) tells inside is =
+    tells.own at kept (got_at found at other (Some kept) (let e = tells.beside in omega (arith, e, inside)) is)
+
 -- what is found for a key is found for one that it equals
-pub found_fits : (r : Result (Found Built) Memory) (key own : Key) → key ≡ own → IfOk r (λ found. found.value.key ≡ key)
-    → IfOk r (λ found. IsValueOf found.value.key found.value.outcome) → IfOk r (λ found. (found.value.key ≡ own) × IsValueOf found.value.key found.value.outcome)
-found_fits (Ok found) key own same is value = (is ∙ same, value)
-found_fits (Err memory) key own same is value = tt
+pub found_fits : (r : Result (Found Built) Memory) (key own : Key) → key ≡ own → IfOk r (λ found. (found.value.key ≡ key) × IsValueOf found.value.key found.value.outcome)
+    → IfOk r (λ found. (found.value.key ≡ own) × IsValueOf found.value.key found.value.outcome)
+found_fits (Ok found) key own same is = (is.0 ∙ same, is.1)
+found_fits (Err memory) key own same is = tt
 
 pub found_does : (r : Result (Found Built) Memory) (key own : Key) (olds news : Seated) (m n : ℕ) → key ≡ own
     → IfOk r (λ found. (k : ℕ) × (n ≡ risen m k) × HasFound (key_text key) found.is_new olds news k)

@@ -1,6 +1,6 @@
 -- A shard on which the seat 0 makes all calls.
-use Rattle.std.proofs.Common.{◌≡◌, ◌↔◌, ℕ, ◌+◌, ◌<◌, List, [], ◌∷◌, ◌++◌, Bool, true, false, cond, not, ◌&&◌, ◌||◌, Option, Some, None, refl, sym, ap, subst, ◌∙◌, filter, get_or, length, take}
-use Rattle.std.specs.Prelude.{◌≢◌, IsSome}
+use Rattle.std.proofs.Common.{◌≡◌, ◌↔◌, ℕ, ◌+◌, ◌<◌, List, [], ◌∷◌, ◌++◌, Bool, true, false, cond, not, ◌&&◌, ◌||◌, Option, Some, None, Result, Ok, Err, refl, sym, ap, subst, ◌∙◌, filter, get_or, length, take}
+use Rattle.std.specs.Prelude.{◌≢◌, IfOk, IsSome}
 use Rattle.std.proofs.lemmas.List.{take_more}
 use Rattle.std.specs.Option.{is_some}
 use Rattle.std.specs.Set.{distinct_count}
@@ -149,12 +149,15 @@ stands_is kept other key text same own value is = record {
   value = subst (λ (b : Built). IsValueOf b.key b.outcome) (sym same) (subst (λ (k : Key). IsValueOf k kept.outcome) (sym own) value);
 }
 
--- a result that stands for the text of a key is the result of that key
-pub stands_key : (built : Built) (key : Key) (text : List ℕ) → ((other : Key) → key_text other ≡ text → other ≡ key) → StandsFor built text → built.key ≡ key
-stands_key built key text only stands = only built.key stands.text_is
+-- the text of a key is that of one that it equals
+pub told_text : {E : Type 0} (r : Result (List ℕ) E) (key own : Key) → key ≡ own → IfOk r (λ text. text ≡ key_text key) → IfOk r (λ text. text ≡ key_text own)
+told_text r key own same is = subst (λ (k : Key). IfOk r (λ text. text ≡ key_text k)) same is
 
-pub stands_value : (built : Built) (key : Key) (text : List ℕ) → ((other : Key) → key_text other ≡ text → other ≡ key) → StandsFor built text → IsValueOf key built.outcome
-stands_value built key text only stands = subst (λ (k : Key). IsValueOf k built.outcome) (only built.key stands.text_is) stands.value
+-- .. and a result that stands for it is the result of that key
+pub told_answers : {E : Type 0} (r : Result (List ℕ) E) (key own : Key) → key ≡ own → IfOk r (λ text. (other : Key) → key_text other ≡ text → other ≡ key)
+    → IfOk r (λ text. (built : Built) → StandsFor built text → (built.key ≡ own) × IsValueOf built.key built.outcome)
+told_answers (Ok text) key own same only = λ built stands. (only built.key stands.text_is ∙ same, stands.value)
+told_answers (Err fault) key own same only = tt
 
 -- a key that is not known may be built
 pub ticks_new : (keys : List (List ℕ)) (key : List ℕ) (m n : ℕ) → has_name keys key ≡ false → RisesUpTo 1 m n → RisesUpTo (new_count keys (key ∷ [])) m n

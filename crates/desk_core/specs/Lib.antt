@@ -2,6 +2,7 @@ pub mod Standing
 pub mod State
 pub mod Ages
 pub mod Codes
+pub mod Asked
 pub mod Netlist
 pub mod Answers
 pub mod Summary

@@ -1,19 +1,10 @@
 //! The jobs of a crew: each finds the result of the key of one module.
 
-ghost use Rattle.std.specs.Prelude.{◌≡◌, ℕ, IfOk, OnErr};
-ghost use Rattle.rtl_bits.specs.Counts.{risen};
-ghost use Rattle.result_cache.specs.Seats.{IsIdle};
-ghost use Rattle.build_crew.specs.Calls.{HasFailed, HasFound};
-ghost use Rattle.script_core.specs.Built.{IsAcceptedKey, IsValueOf};
-ghost use Rattle.script_core.specs.Keys.{key_text};
-
 use crate::kept::Kept;
-use crate::key_order::KeyOrder;
 use crate::keys::Keys;
 use build_crew::{Found, find};
 use result_cache::{Seat, SharedCache};
 use rtl_bits::{Memory, Steps};
-use script_core::Key;
 use std::alloc::Global;
 use std::marker::{Send, Sync};
 use std::sync::Wait;
@@ -28,29 +19,6 @@ pub struct CrewJobs<'a, R> {
     pub cache: &'a SharedCache<Kept>,
     pub keys: &'a Keys<'a, 'a>,
     pub found: &'a [Option<Kept>],
-}
-
-impl<R: Wait> CrewJobs<'_, R> {
-    /// Finds the result of a key.
-    fn find_by<L>(
-        &self,
-        key: &Key,
-        seat: &mut Seat,
-        meter: &mut Steps<L>,
-    ) -> Result<Found<Kept>, Memory>
-        requires accepted { IsAcceptedKey key.now }
-        requires idle { IsIdle self.now.cache.now.table.shared.table_id seat.old }
-        ensures idle { IsIdle self.now.cache.now.table.shared.table_id seat.new }
-        ensures key { IfOk result (λ found. found.value.key ≡ key.now) }
-        ensures value { IfOk result (λ found. IsValueOf found.value.key found.value.outcome) }
-        ensures found { IfOk result (λ found. (n : ℕ) ×
-            (meter.new ≡ risen meter.old n) × HasFound (key_text key.now) found.is_new seat.old seat.new n) }
-        ensures failed { OnErr result ((n : ℕ) ×
-            (meter.new ≡ risen meter.old n) × HasFailed seat.old seat.new n) }
-    {
-        let alloc = self.alloc;
-        find(self.rt, self.cache, seat, &KeyOrder { alloc, key }, meter)
-    }
 }
 
 impl<R: Wait + Sync> Job for CrewJobs<'_, R> {
@@ -87,12 +55,8 @@ impl<R: Wait + Sync> Job for CrewJobs<'_, R> {
         token: &mut Seat,
         meter: &mut Steps<L>,
     ) -> Result<Found<Kept>, Memory> {
-        match &self.found[number as usize] {
-            Some(kept) => self.find_by(kept.built().key(), token, meter),
-            None => {
-                let key = self.keys.key_at(self.alloc, number)?;
-                self.find_by(&key, token, meter)
-            }
-        }
+        let beside = &self.found[number as usize];
+        let order = self.keys.order(self.alloc, number, beside);
+        find(self.rt, self.cache, token, &order, meter)
     }
 }

@@ -1,37 +1,43 @@
-//! Keys whose results are asked for.
+//! Modules whose results are asked for.
 
 use crate::kept::Kept;
+use crate::keys::Keys;
 use build_crew::Order;
 use rtl_bits::{Memory, Steps, Text};
-use script_core::{Key, build};
 use std::alloc::Global;
 
-/// A key whose result is asked for.
+/// The module at a place, the result of whose key is asked for. A result that stands beside the module tells the key.
 #[derive(Clone, Copy)]
 pub struct KeyOrder<'a> {
     pub alloc: Global,
-    pub key: &'a Key,
+    pub keys: &'a Keys<'a, 'a>,
+    pub beside: &'a Option<Kept>,
+    pub at: u32,
 }
 
 impl Order for KeyOrder<'_> {
     type Value = Kept;
 
     ghost use Rattle.std.specs.Prelude.{◌≡◌};
-    ghost use Rattle.script_core.specs.Built.{IsAcceptedKey, IsValueOf};
+    ghost use Rattle.script_core.specs.Built.{IsValueOf};
     ghost use Rattle.script_core.specs.Keys.{key_text};
+    ghost use Rattle.desk_core.specs.Asked.{IsAsked, asked_key};
 
-    ghost text_of = { λ order. key_text order.key.now };
+    ghost text_of = { λ order. key_text (asked_key order) };
 
-    ghost is_buildable = { λ order. IsAcceptedKey order.key.now };
+    ghost is_buildable = { λ order. IsAsked order };
 
-    ghost is_answer = { λ order built. (built.key ≡ order.key.now) × IsValueOf built.key built.outcome };
+    ghost is_answer = { λ order built. (built.key ≡ asked_key order) × IsValueOf built.key built.outcome };
 
     fn text(&self) -> Result<Text, Memory> {
-        self.key.text(self.alloc)
+        match self.beside {
+            Some(kept) => kept.built().key().text(self.alloc),
+            None => self.keys.key_at(self.alloc, self.at)?.text(self.alloc),
+        }
     }
 
     fn build<L>(&self, meter: &mut Steps<L>) -> Result<Kept, Memory> {
-        let built = build(self.alloc, self.key, meter)?;
+        let built = self.keys.build_at(self.alloc, self.at, meter)?;
         Kept::make(self.alloc, built)
     }
 }

@@ -11,6 +11,7 @@ use crate::ages::{Ages, is_too_old};
 use crate::kept::Kept;
 use crate::keys::Keys;
 use crate::modules::module_count;
+use build_crew::Order;
 use rtl_bits::{Memory, Text};
 use rtl_sig::NameId;
 use std::alloc::Global;
@@ -33,10 +34,7 @@ fn text_at(alloc: Global, keys: &Keys, found: &[Option<Kept>], at: u32) -> Resul
     ensures value { IfOk result (λ text. text ≡
         key_text_at keys.now.script.now keys.now.design.now.design.modules at) }
 {
-    match &found[at as usize] {
-        Some(kept) => kept.built().key().text(alloc),
-        None => keys.key_at(alloc, at)?.text(alloc),
-    }
+    keys.order(alloc, at, &found[at as usize]).text()
 }
 
 /// The places of the keys of the modules, in the order of the modules.

@@ -10,8 +10,9 @@ ghost use Rattle.build_crew.specs.Calls.{HasFound};
 ghost use Rattle.build_crew.specs.Forgetting.{without};
 ghost use Rattle.build_crew.specs.Kept.{HasStill};
 ghost use Rattle.build_crew.specs.Rises.{RisesUpTo};
-ghost use Rattle.script_core.specs.Built.{IsAcceptedKey, IsValueOf};
+ghost use Rattle.script_core.specs.Built.{IsValueOf};
 ghost use Rattle.script_core.specs.Keys.{key_text};
+ghost use Rattle.desk_core.specs.Asked.{IsAsked, asked_key};
 ghost use Rattle.desk_core.specs.Netlist.{key_text_at, key_texts};
 ghost use Rattle.desk_core.specs.Needed.{ages_after};
 ghost use Rattle.desk_core.specs.Results.{AreFound};
@@ -23,11 +24,10 @@ use crate::key_order::KeyOrder;
 use crate::keys::Keys;
 use crate::modules::module_count;
 use crate::needed::Needed;
-use build_crew::find;
+use build_crew::{Order, find};
 use result_cache::laws::shards_are_sound;
 use result_cache::{Claim, Keyed, Seat, Shard, SharedCache, Ticket};
 use rtl_bits::{Memory, Steps, Text};
-use script_core::Key;
 use std::alloc::Global;
 use std::sync::Wait;
 
@@ -51,23 +51,21 @@ pub struct OwnResults {
 /// The result of a key by the shared cache, for two that hold it.
 fn find_shared<R: Wait, L>(
     access: &Access<R>,
-    key: &Key,
+    order: &KeyOrder,
     seat: &mut Seat,
     meter: &mut Steps<L>,
 ) -> Result<(Kept, Kept), Memory>
-    requires accepted { IsAcceptedKey key.now }
+    requires asked { IsAsked order.now }
     requires idle { IsIdle access.now.cache.now.table.shared.table_id seat.old }
     ensures idle { IsIdle access.now.cache.now.table.shared.table_id seat.new }
-    ensures key { IfOk result (λ both. both.0.key ≡ key.now) }
+    ensures key { IfOk result (λ both. both.0.key ≡ asked_key order.now) }
     ensures second { IfOk result (λ both. both.1 ≡ both.0) }
-    ensures value { IfOk result (λ both. IsValueOf key.now both.0.outcome) }
+    ensures value { IfOk result (λ both. IsValueOf (asked_key order.now) both.0.outcome) }
     ensures built { OnOk result ((n : ℕ) × (is_new : Bool) × (meter.new ≡ risen meter.old n)
-        × HasFound (key_text key.now) is_new seat.old seat.new n) }
+        × HasFound (key_text (asked_key order.now)) is_new seat.old seat.new n) }
     ensures ticks { RisesUpTo 1 meter.old meter.new }
 {
-    let alloc = access.alloc;
-    let order = KeyOrder { alloc, key };
-    let found = find(access.rt, access.cache, seat, &order, meter)?;
+    let found = find(access.rt, access.cache, seat, order, meter)?;
     let other = found.value.share()?;
     Ok((found.value, other))
 }
@@ -78,26 +76,26 @@ fn fill<R: Wait, L>(
     access: &Access<R>,
     shard: &mut Shard<Kept>,
     ticket: Ticket,
-    key: &Key,
+    order: &KeyOrder,
     seat: &mut Seat,
     meter: &mut Steps<L>,
 ) -> Result<Kept, Memory>
-    requires accepted { IsAcceptedKey key.now }
-    requires ticket { ticket.key ≡ key_text key.now }
+    requires asked { IsAsked order.now }
+    requires ticket { ticket.key ≡ key_text (asked_key order.now) }
     requires held { mode_at shard.old ticket.key ≡ held 0 }
     requires alone { HoldsNoOther ticket.key shard.old }
     requires idle { IsIdle access.now.cache.now.table.shared.table_id seat.old }
     ensures free { HoldsNone shard.new }
     ensures idle { IsIdle access.now.cache.now.table.shared.table_id seat.new }
-    ensures key { IfOk result (λ kept. kept.key ≡ key.now) }
-    ensures value { IfOk result (λ kept. IsValueOf key.now kept.outcome) }
-    ensures filled { OnOk result (filled_keys shard.new ≡ with_key (key_text key.now) (filled_keys shard.old)) }
+    ensures key { IfOk result (λ kept. kept.key ≡ asked_key order.now) }
+    ensures value { IfOk result (λ kept. IsValueOf (asked_key order.now) kept.outcome) }
+    ensures filled { OnOk result (filled_keys shard.new ≡ with_key (key_text (asked_key order.now)) (filled_keys shard.old)) }
     ensures err { OnErr result (filled_keys shard.new ≡ filled_keys shard.old) }
     ensures built { OnOk result ((n : ℕ) × (is_new : Bool) × (meter.new ≡ risen meter.old n)
-        × HasFound (key_text key.now) is_new seat.old seat.new n) }
+        × HasFound (key_text (asked_key order.now)) is_new seat.old seat.new n) }
     ensures ticks { RisesUpTo 1 meter.old meter.new }
 {
-    match find_shared(access, key, seat, meter) {
+    match find_shared(access, order, seat, meter) {
         Ok((kept, other)) => {
             shard.fill(0, ticket, other);
             Ok(kept)
@@ -110,32 +108,36 @@ fn fill<R: Wait, L>(
 }
 
 /// The result of a key, which is kept from then on. The shared cache is asked only where it is not kept.
-#[tactic(auto, using(crate::proofs::OwnShard::stands_key, crate::proofs::OwnShard::stands_value, crate::proofs::Rises::rises_none))]
+#[tactic(auto, using(crate::proofs::Rises::rises_none))]
 fn take<R: Wait, L>(
     access: &Access<R>,
     shard: &mut Shard<Kept>,
-    key: &Key,
+    order: &KeyOrder,
     seat: &mut Seat,
     meter: &mut Steps<L>,
 ) -> Result<Kept, Memory>
-    requires accepted { IsAcceptedKey key.now }
+    requires asked { IsAsked order.now }
     requires free { HoldsNone shard.old }
     requires idle { IsIdle access.now.cache.now.table.shared.table_id seat.old }
     ensures free { HoldsNone shard.new }
     ensures idle { IsIdle access.now.cache.now.table.shared.table_id seat.new }
-    ensures key { IfOk result (λ result. result.key ≡ key.now) }
-    ensures value { IfOk result (λ result. IsValueOf key.now result.outcome) }
-    ensures filled { OnOk result (filled_keys shard.new ≡ with_key (key_text key.now) (filled_keys shard.old)) }
+    ensures key { IfOk result (λ result. result.key ≡ asked_key order.now) }
+    ensures value { IfOk result (λ result. IsValueOf (asked_key order.now) result.outcome) }
+    ensures filled { OnOk result (filled_keys shard.new ≡ with_key (key_text (asked_key order.now)) (filled_keys shard.old)) }
     ensures err { OnErr result (filled_keys shard.new ≡ filled_keys shard.old) }
-    ensures built { OnOk result (Builds (filled_keys shard.old) (key_text key.now ∷ []) seat.old seat.new meter.old
+    ensures built { OnOk result (Builds (filled_keys shard.old) (key_text (asked_key order.now) ∷ []) seat.old seat.new meter.old
         meter.new) }
-    ensures ticks { RisesUpTo (new_count (filled_keys shard.old) (key_text key.now ∷ [])) meter.old meter.new }
+    ensures ticks { RisesUpTo (new_count (filled_keys shard.old) (key_text (asked_key order.now) ∷ [])) meter.old meter.new }
 {
-    let text = key.text(access.alloc)?;
     shards_are_sound(shard);
-    match shard.claim(0, &text)? {
+    // The text is freed before the result is built.
+    let claim = {
+        let text = order.text()?;
+        shard.claim(0, &text)?
+    };
+    match claim {
         Claim::Hit(result) => Ok(result),
-        Claim::Yours(ticket) => fill(access, shard, ticket, key, seat, meter),
+        Claim::Yours(ticket) => fill(access, shard, ticket, order, seat, meter),
         Claim::Busy(_) => unreachable!(),
     }
 }
@@ -170,8 +172,9 @@ fn find_at<R: Wait, L>(
     if results.found[at as usize].is_some() {
         return Ok(());
     }
-    let key = keys.key_at(access.alloc, at)?;
-    let result = take(access, &mut results.shard, &key, seat, meter)?;
+    let nothing = None;
+    let order = keys.order(access.alloc, at, &nothing);
+    let result = take(access, &mut results.shard, &order, seat, meter)?;
     results.found[at as usize] = Some(result);
     Ok(())
 }

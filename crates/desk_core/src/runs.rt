@@ -1,17 +1,17 @@
 //! Commands that need the netlist.
 
-ghost use Rattle.std.specs.Prelude.{◌≡◌, IfOk, OnErr, OnOk};
+ghost use Rattle.std.specs.Prelude.{◌≡◌, ◌≤◌, ◌-◌, ◌++◌, IfOk, OnErr, OnOk, codes, length};
 ghost use Rattle.rtl_write.specs.Text.{text_of};
 ghost use Rattle.result_cache.specs.Filled.{with_keys};
 ghost use Rattle.script_core.specs.Cold.{cold};
 ghost use Rattle.build_crew.specs.Kept.{kept_by};
 ghost use Rattle.build_crew.specs.Rises.{RisesUpTo};
-ghost use Rattle.reply_lines.specs.Lines.{error_reply, ok_line, ok_reply};
+ghost use Rattle.reply_lines.specs.Lines.{counted, error_reply, ok_line, ok_reply};
 ghost use Rattle.desk_core.specs.Answers.{print_answer, printed_reply, run_answer};
 ghost use Rattle.desk_core.specs.Builds.{BuildsOrReturns, HasClaims, KeepsAll, present_keys};
 ghost use Rattle.desk_core.specs.Needed.{IsNeeded};
 ghost use Rattle.desk_core.specs.Netlist.{built_count, done_modules, key_texts};
-ghost use Rattle.desk_core.specs.Results.{AreFound, AreSound, outcomes_of, state_of};
+ghost use Rattle.desk_core.specs.Results.{AreFound, AreSound, outcomes_of, over_of, state_of};
 ghost use Rattle.desk_core.specs.State.{State, answer};
 ghost use Rattle.desk_core.specs.Told.{told_by, told_of};
 
@@ -19,7 +19,6 @@ use crate::crew::Crew;
 use crate::desk::Desk;
 use crate::kept::Kept;
 use crate::keys::Keys;
-use crate::modules::module_count;
 use crate::needed::{Needed, needed_by};
 use crate::netlist::{built_words, netlist_text, over_words};
 use crate::results::{Results, find_all};
@@ -44,7 +43,7 @@ pub enum Told {
 }
 
 /// The words of the error, or those of what was built where there is none.
-pub fn told_by(over: Option<Text>, words: Text) -> Result<Told, Memory>
+fn told_by(over: Option<Text>, words: Text) -> Result<Told, Memory>
     ensures value { IfOk result (λ told. told ≡ told_by words over) }
 {
     match over {
@@ -54,6 +53,24 @@ pub fn told_by(over: Option<Text>, words: Text) -> Result<Told, Memory>
             Ok(Told::Over(over))
         }
     }
+}
+
+/// What is told of the results beside the modules of a design, where so many of their keys were not kept.
+pub fn tell_found(
+    alloc: Global,
+    design: &Checked,
+    found: &[Option<Kept>],
+    built: usize,
+) -> Result<Told, Memory>
+    requires few { built ≤ length design.now.design.modules }
+    ensures value { IfOk result (λ told. told ≡ told_by
+        (counted (codes "built") built ++ counted (codes "reused") (length design.now.design.modules - built))
+        (over_of design.now.design.modules found.now)) }
+{
+    let modules = design.design().modules.as_slice();
+    let words = built_words(alloc, built, modules.len())?;
+    let over = over_words(alloc, modules, found)?;
+    told_by(over, words)
 }
 
 /// The reply of the line with these words.
@@ -116,7 +133,6 @@ pub fn print_reply(
 
 /// Finds the results of all modules, and tells how many keys were not kept, or which module passes a limit; and what the
 /// command needs of the kept keys, which are as before.
-#[tactic(auto, using(crate::proofs::Told::told_is, crate::proofs::Told::told_over))]
 pub fn tell<R: Threads + Wait + Sync, G: Gate, L: Send>(
     crew: &Crew<R, G>,
     design: &Checked,
@@ -149,10 +165,8 @@ pub fn tell<R: Threads + Wait + Sync, G: Gate, L: Send>(
     };
     let needed = needed_by(alloc, &keys, results.found.as_slice(), &mut results.ages)?;
     find_all(crew, &keys, results, meter)?;
-    let words = built_words(alloc, needed.built, module_count(design) as usize)?;
-    let modules = design.design().modules.as_slice();
-    let over = over_words(alloc, modules, results.found.as_slice())?;
-    Ok((told_by(over, words)?, needed))
+    let told = tell_found(alloc, design, results.found.as_slice(), needed.built)?;
+    Ok((told, needed))
 }
 
 impl Desk {

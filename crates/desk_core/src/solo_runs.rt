@@ -18,12 +18,10 @@ ghost use Rattle.desk_core.specs.State.{answer};
 ghost use Rattle.desk_core.specs.Told.{told_of};
 
 use crate::keys::Keys;
-use crate::modules::module_count;
 use crate::needed::{Needed, needed_by};
-use crate::netlist::{built_words, over_words};
 use crate::own_results::{Access, OwnResults, find_own};
 use crate::present::Present;
-use crate::runs::{Told, print_reply, run_reply, told_by};
+use crate::runs::{Told, print_reply, run_reply, tell_found};
 use crate::simulate::trace_reply;
 use crate::solo::SoloDesk;
 use design_edit::place_named;
@@ -37,7 +35,7 @@ use std::sync::Wait;
 
 /// Finds the results of all modules, and tells how many keys were not kept, or which module passes a limit; and what the
 /// command needs of the kept keys, which are as before.
-#[tactic(auto, using(crate::proofs::Told::told_is, crate::proofs::SoloRuns::own_over, crate::proofs::SoloRuns::own_rises, crate::proofs::Rises::rises_none))]
+#[tactic(auto, using(crate::proofs::Rises::rises_none))]
 fn tell<R: Wait, L>(
     access: &Access<R>,
     present: &Present,
@@ -72,10 +70,13 @@ fn tell<R: Wait, L>(
     };
     let needed = needed_by(alloc, &keys, results.found.as_slice(), &mut results.ages)?;
     find_own(access, &keys, results, seat, meter)?;
-    let words = built_words(alloc, needed.built, module_count(&present.design) as usize)?;
-    let modules = present.design.design().modules.as_slice();
-    let over = over_words(alloc, modules, results.found.as_slice())?;
-    Ok((told_by(over, words)?, needed))
+    let told = tell_found(
+        alloc,
+        &present.design,
+        results.found.as_slice(),
+        needed.built,
+    )?;
+    Ok((told, needed))
 }
 
 impl SoloDesk {

@@ -21,6 +21,7 @@ use Rattle.script_core.specs.Keys.{body_text_at, key_of}
 pub record IsAt (modules : List Module) (at : ℕ) : Type 0 where
   pub m : Module
   pub member : In m modules
+  pub there : slice_get modules at ≡ Some m
   pub body : body_text_at modules at ≡ body_text m
   pub ports : port_table_of modules at ≡ (table_of modules m).modules
 
@@ -35,6 +36,7 @@ module_at modules at h =
     record {
       m = found.0;
       member = found.1;
+      there = found.2;
       body = ap (λ (o : Option Module). unwrap_or (option_map body_text o) []) found.2;
       ports = ap (λ (o : Option Module). map ports_by_module (instances_of modules (unwrap_or (option_map (λ (m : Module). m.cells) o) []))) found.2;
     }

@@ -1,12 +1,17 @@
 -- What is read of the texts of a key.
-use Rattle.std.proofs.Common.{◌≡◌, List, Result, Ok, Err, sym, ap, subst, ◌∙◌}
-use Rattle.std.specs.Prelude.{IfOk}
+use Rattle.std.proofs.Common.{◌≡◌, ℕ, ◌<◌, List, [], length, Some, Result, Ok, Err, refl, sym, ap, subst, ◌∙◌}
+use Rattle.std.specs.Prelude.{IfOk, slice_get}
+use Rattle.rtl_ir.specs.declared.module.Design.{Design}
+use Rattle.rtl_ir.specs.Faults.{check_faults}
 use Rattle.rtl_ir.specs.declared.module.Module.{Module}
 use Rattle.rtl_ir.specs.declared.ports.PortTable.{PortTable}
 use Rattle.rtl_ir.specs.Ports.{port_table_of}
-use Rattle.rtl_readable.specs.Readable.{IsReadableModule}
+use Rattle.rtl_readable.specs.Readable.{IsReadable, IsReadableModule}
 use Rattle.rtl_write.specs.PortTables.{ArePorts}
+use Rattle.rtl_write.proofs.BodyLaws.{equal_texts}
+use Rattle.rtl_write.proofs.PortLemmas.{table_back}
 use Rattle.rtl_write.proofs.PortTableLemmas.{readable_table}
+use Rattle.rtl_write.specs.PortTables.{modules_of}
 use Rattle.rtl_write.specs.Text.{body_text}
 use Rattle.rtl_write.specs.Ports.{ports_text}
 use Rattle.script_core.specs.declared.key.Key.{Key}
@@ -15,6 +20,7 @@ use Rattle.script_core.specs.declared.word.Word.{Word}
 use Rattle.script_core.specs.Built.{body_name, unnamed, IsValueOf, IsAcceptedKey}
 use Rattle.script_core.specs.Cold.{table_of}
 use Rattle.script_core.specs.Fold.{MayStart, fold_script}
+use Rattle.script_core.specs.Keys.{key_of}
 use Rattle.script_core.proofs.BuildLemmas.{module_at, readable_in}
 use Rattle.script_core.proofs.Given.{given_first}
 
@@ -42,6 +48,22 @@ module _ (key : Key) (read : Module) (table : PortTable)
     where
       same : (n : Module) → n.id ≡ body_name → n ≡ record n { id = body_name }
       same n e = (λ i. record n { id = e i })
+
+-- the module at a place of an accepted design, without its name, and its table are what is read of the texts of its key
+module _ (d : Design) (at : ℕ) (script : List Word) (readable : IsReadable d) (none : check_faults d.modules ≡ []) (inside : at < length d.modules)
+    (body : Module) (ports : PortTable) (is : (m : Module) → slice_get d.modules at ≡ Some m → body ≡ unnamed m) where
+  abbrev its_ports : PortTable
+  its_ports = record { modules = port_table_of d.modules at }
+
+  pub read_there : {table : List Module} → ports.modules ≡ port_table_of table at → table ≡ d.modules → IsRead (key_of d.modules at script) body ports
+  read_there its same =
+      let here = module_at d.modules at inside in
+      let good = readable_in IsReadableModule d.modules readable.modules here.m here.member in
+      let own : ports.modules ≡ its_ports.modules = its ∙ ap (λ (ms : List Module). port_table_of ms at) same in
+      read_key (key_of d.modules at script) body ports
+      (λ m fine e. is here.m here.there ∙ ap unnamed ((equal_texts here.m m good fine).0 (sym here.body ∙ e)))
+      (λ t fine e. ap (λ ms. record { modules = ms }) (own ∙ sym (table_back its_ports (readable_table d at readable)) ∙ ap modules_of e ∙ table_back t fine))
+      (record { design = d; at = at; readable = readable; faultless = none; in_range = inside; same = refl })
 
 -- the fold over what was read is the value of the key
 pub value_of_key : (key : Key) (read : Module) (table : PortTable) → IsRead key read table → (outcome : Outcome) → outcome ≡ fold_script key.script table read → IsValueOf key outcome

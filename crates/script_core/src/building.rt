@@ -1,67 +1,54 @@
 //! Builds.
 
-ghost use Rattle.std.specs.Prelude.{◌≡◌, IfOk};
+ghost use Rattle.std.specs.Prelude.{◌≡◌, ◌<◌, IfOk, Some, length, slice_get};
 ghost use Rattle.rtl_bits.specs.Counts.{risen};
 ghost use Rattle.rtl_ir.specs.declared.module.Module.{Module};
 ghost use Rattle.rtl_ir.specs.declared.ports.PortTable.{PortTable};
 ghost use Rattle.rtl_write.specs.Ports.{ports_text};
 ghost use Rattle.rtl_write.specs.PortTables.{ArePorts};
-ghost use Rattle.rtl_readable.specs.Readable.{IsReadableModule};
+ghost use Rattle.rtl_readable.specs.Readable.{IsReadable, IsReadableModule};
 ghost use Rattle.rtl_write.specs.Text.{body_text};
 ghost use Rattle.script_core.specs.Built.{IsAcceptedKey, IsValueOf, unnamed};
+ghost use Rattle.script_core.specs.Keys.{key_of};
 
 use crate::built::Built;
 use crate::fold::fold;
-use crate::key::Key;
+use crate::key::{Key, key_by};
 use crate::outcome::Outcome;
+use crate::script::Script;
 use rtl_bits::{Copied, Memory, Steps, Text};
-use rtl_ir::{Module, PortTable};
+use rtl_check::Checked;
+use rtl_ir::{DesignPorts, Module, PortTable};
 use rtl_write::{read_body, read_ports};
 use std::alloc::Global;
 
 /// The name that a module has while it is built, since a body has none.
 const BODY_NAME: &[u8] = b"\\m";
 
-/// The module of this body. The text is let go.
-fn module_of(alloc: Global, body: Text) -> Result<Module, Memory>
-    ensures round_trip { («module» : Module) → IsReadableModule «module» → body ≡ body_text «module» →
+/// The module of this body.
+fn module_of(alloc: Global, body: &Text) -> Result<Module, Memory>
+    ensures round_trip { («module» : Module) → IsReadableModule «module» → body.now ≡ body_text «module» →
         IfOk result (λ read. read ≡ unnamed «module») }
 {
     read_body(alloc, body.as_slice(), BODY_NAME)
 }
 
-/// The ports of this text, which is let go.
-fn ports_of(alloc: Global, ports: Text) -> Result<PortTable, Memory>
-    ensures round_trip { IfOk result (λ read. (table : PortTable) → ArePorts table → ports ≡ ports_text table →
+/// The ports of this text.
+fn ports_of(alloc: Global, ports: &Text) -> Result<PortTable, Memory>
+    ensures round_trip { IfOk result (λ read. (table : PortTable) → ArePorts table → ports.now ≡ ports_text table →
         read ≡ table) }
 {
     read_ports(alloc, ports.as_slice())
 }
 
-/// What the passes of the key's script make of the key's module. The texts of the key are let go before the first pass.
-fn outcome_of(alloc: Global, key: Key) -> Result<Outcome, Memory>
-    requires accepted { IsAcceptedKey key }
-    ensures value { IfOk result (λ outcome. IsValueOf key outcome) }
+/// What the passes of the key's script make of the key's module.
+fn outcome_of(alloc: Global, key: &Key) -> Result<Outcome, Memory>
+    requires accepted { IsAcceptedKey key.now }
+    ensures value { IfOk result (λ outcome. IsValueOf key.now outcome) }
 {
-    let Key {
-        body,
-        ports,
-        script,
-    } = key;
-    let module = module_of(alloc, body)?;
-    let ports = ports_of(alloc, ports)?;
-    fold(alloc, script.as_slice(), module, &ports)
-}
-
-/// What `build` makes of the key, without the key: its texts are let go before the first pass. Each call, whatever it
-/// answers, is one step.
-pub fn build_outcome<L>(alloc: Global, key: Key, meter: &mut Steps<L>) -> Result<Outcome, Memory>
-    requires accepted { IsAcceptedKey key }
-    ensures value { IfOk result (λ outcome. IsValueOf key outcome) }
-    ensures one_tick { meter.new ≡ risen meter.old 1 }
-{
-    meter.tick();
-    outcome_of(alloc, key)
+    let module = module_of(alloc, &key.body)?;
+    let ports = ports_of(alloc, &key.ports)?;
+    fold(alloc, key.script.as_slice(), module, &ports)
 }
 
 /// Builds the key: its module, read of its texts, is given to the passes of its script, in order. The module
@@ -73,6 +60,60 @@ pub fn build<L>(alloc: Global, key: &Key, meter: &mut Steps<L>) -> Result<Built,
     ensures one_tick { meter.new ≡ risen meter.old 1 }
 {
     meter.tick();
-    let outcome = outcome_of(alloc, key.copy()?)?;
+    let outcome = outcome_of(alloc, key)?;
     Ok(Built::make(key.copy()?, outcome))
+}
+
+/// A copy of the module at this place, under the name that a body is read with.
+fn body_at(alloc: Global, design: &Checked, module: u32) -> Result<Module, Memory>
+    requires in_range { «module» < length design.now.design.modules }
+    ensures value { IfOk result (λ body. (m : Module) →
+        slice_get design.now.design.modules «module» ≡ Some m → body ≡ unnamed m) }
+{
+    let mut body = design.design().modules.as_slice()[module as usize].copy()?;
+    body.id = Text::from_slice(alloc, BODY_NAME)?;
+    Ok(body)
+}
+
+/// What the passes of the script make of the module at this place.
+fn outcome_at(
+    alloc: Global,
+    design: &Checked,
+    table: &DesignPorts,
+    module: u32,
+    script: &Script,
+) -> Result<Outcome, Memory>
+    requires in_range { «module» < length design.now.design.modules }
+    requires readable { IsReadable design.now.design }
+    requires table { table.now.modules.now ≡ design.now.design.modules }
+    ensures value { IfOk result (λ outcome.
+        IsValueOf (key_of design.now.design.modules «module» script.now) outcome) }
+{
+    let body = body_at(alloc, design, module)?;
+    let ports = table.table_of(alloc, module)?;
+    fold(alloc, script.as_slice(), body, &ports)
+}
+
+/// Builds the key of the module at this place of the design, under the script. The module is copied and no text of it is
+/// read; its key is made once it is built, so that no text is held beside it. Each call, whatever it answers, is one
+/// step, as of `build`.
+pub fn build_by<L>(
+    alloc: Global,
+    design: &Checked,
+    table: &DesignPorts,
+    module: u32,
+    script: &Script,
+    meter: &mut Steps<L>,
+) -> Result<Built, Memory>
+    requires in_range { «module» < length design.now.design.modules }
+    requires readable { IsReadable design.now.design }
+    requires table { table.now.modules.now ≡ design.now.design.modules }
+    ensures key { IfOk result (λ built. built.key ≡ key_of design.now.design.modules «module» script.now) }
+    ensures value { IfOk result (λ built. IsValueOf built.key built.outcome) }
+    ensures one_tick { meter.new ≡ risen meter.old 1 }
+{
+    meter.tick();
+    let outcome = outcome_at(alloc, design, table, module, script)?;
+    let key = key_by(alloc, design, table, module, script)?;
+    Ok(Built::make(key, outcome))
 }

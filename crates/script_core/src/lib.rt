@@ -11,7 +11,7 @@ mod parse;
 mod script;
 mod word;
 
-pub use building::{build, build_outcome};
+pub use building::{build, build_by};
 pub use built::Built;
 pub use key::{Key, key_by, key_of};
 pub use outcome::Outcome;

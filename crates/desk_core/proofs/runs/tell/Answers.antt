@@ -1,7 +1,6 @@
-use Rattle.std.proofs.Common.{◌≡◌, ℕ, ◌-◌, List, ◌++◌, Option, Ok, refl, sym, ap, subst, ◌∙◌, arith}
+use Rattle.std.proofs.Common.{◌≡◌, ℕ, ◌-◌, List, ◌++◌, Option, Ok, length, refl, sym, ap, subst, ◌∙◌}
 use Rattle.std.specs.Prelude.{codes}
 use Rattle.reply_lines.specs.Lines.{counted}
-use Rattle.rtl_ir.specs.declared.module.Module.{Module}
 use Rattle.desk_core.specs.State.{KeptKey}
 use Rattle.result_cache.specs.Filled.{new_count}
 use Rattle.build_crew.specs.Kept.{kept_by}
@@ -52,21 +51,12 @@ returns-in_err-find_all-clause-returned g c =
     returns_more (new_count (kept_by c.args.results.now.seats.items) (key_texts c.args.script.now c.args.design.now.design.modules)) (built_count (state_of c.args.design.now.design c.args.script.now c.args.results.now)) c.args.results.now.seats.items c.find_all.new.results.seats.items
     c.args.meter.now c.find_all.new.meter (built_more c.args.design.now.design c.args.script.now c.args.results.now c.requires.sound) c.find_all.ensures.returned
 
-pub returns-in_err-words-clause-state : goal.returns-in_err-words-clause-state
-returns-in_err-words-clause-state g c =
+pub returns-in_err-told-clause-state : goal.returns-in_err-told-clause-state
+returns-in_err-told-clause-state g c =
     grown_state c.args.design.now.design c.args.script.now c.args.results.now c.needed_by.new.ages c.needed_by.ensures.kept c.find_all.new.results c.find_all.ensures.ages
 
-pub returns-in_err-words-clause-returned : goal.returns-in_err-words-clause-returned
-returns-in_err-words-clause-returned g c =
-    returns_more (new_count (kept_by c.args.results.now.seats.items) (key_texts c.args.script.now c.args.design.now.design.modules)) (built_count (state_of c.args.design.now.design c.args.script.now c.args.results.now)) c.args.results.now.seats.items c.find_all.new.results.seats.items
-    c.args.meter.now c.find_all.new.meter (built_more c.args.design.now.design c.args.script.now c.args.results.now c.requires.sound) c.find_all.ensures.returned
-
-pub returns-in_err-over-clause-state : goal.returns-in_err-over-clause-state
-returns-in_err-over-clause-state g c =
-    grown_state c.args.design.now.design c.args.script.now c.args.results.now c.needed_by.new.ages c.needed_by.ensures.kept c.find_all.new.results c.find_all.ensures.ages
-
-pub returns-in_err-over-clause-returned : goal.returns-in_err-over-clause-returned
-returns-in_err-over-clause-returned g c =
+pub returns-in_err-told-clause-returned : goal.returns-in_err-told-clause-returned
+returns-in_err-told-clause-returned g c =
     returns_more (new_count (kept_by c.args.results.now.seats.items) (key_texts c.args.script.now c.args.design.now.design.modules)) (built_count (state_of c.args.design.now.design c.args.script.now c.args.results.now)) c.args.results.now.seats.items c.find_all.new.results.seats.items
     c.args.meter.now c.find_all.new.meter (built_more c.args.design.now.design c.args.script.now c.args.results.now c.requires.sound) c.find_all.ensures.returned
 
@@ -84,32 +74,19 @@ returns-clause-ticks g c =
     rises_within (new_count (kept_by c.args.results.now.seats.items) (key_texts c.args.script.now c.args.design.now.design.modules)) (built_count (state_of c.args.design.now.design c.args.script.now c.args.results.now)) c.args.meter.now c.find_all.new.meter
     c.in_ok-find_all.ensures.ticks (built_more c.args.design.now.design c.args.script.now c.args.results.now c.requires.sound)
 
-pub returns-in_err-told_by-clause-returned : goal.returns-in_err-told_by-clause-returned
-returns-in_err-told_by-clause-returned g c =
-    returns_more (new_count (kept_by c.args.results.now.seats.items) (key_texts c.args.script.now c.args.design.now.design.modules)) (built_count (state_of c.args.design.now.design c.args.script.now c.args.results.now)) c.args.results.now.seats.items c.find_all.new.results.seats.items
-    c.args.meter.now c.find_all.new.meter (built_more c.args.design.now.design c.args.script.now c.args.results.now c.requires.sound) c.find_all.ensures.returned
-
-pub built_words-requires : goal.built_words-requires
-built_words-requires g c =
-    let few =
-    built_few c.args.design.now.design c.args.script.now (texts_of (kept_in c.needed_by.new.ages.keys c.needed_by.new.ages.ages.items)) c.in_ok-needed.needed.built c.in_ok-needed.ensures.needed.built in
-    let count = c.module_count.ensures.value in
-    record { few = omega (arith, few, count) }
+pub tell_found-requires : goal.tell_found-requires
+tell_found-requires g c =
+    record { few = built_few c.args.design.now.design c.args.script.now (texts_of (kept_in c.needed_by.new.ages.keys c.needed_by.new.ages.ages.items)) c.in_ok-needed.needed.built c.in_ok-needed.ensures.needed.built }
 
 pub returns-clause-told : goal.returns-clause-told
 returns-clause-told g c =
     let design = c.args.design.now.design in
-    let s = state_of design c.args.script.now c.args.results.now in
-    let texts = key_texts c.args.script.now design.modules in
+    let script = c.args.script.now in
+    let s = state_of design script c.args.results.now in
+    let texts = key_texts script design.modules in
     let built = c.in_ok-needed.needed.built in
-    let words =
-    c.in_ok-words.ensures.value
-    ∙ ap (λ (n : ℕ). counted (codes "built") built ++ counted (codes "reused") (n - built)) c.module_count.ensures.value in
+    let words = counted (codes "built") built ++ counted (codes "reused") (length design.modules - built) in
+    let over = over_of design.modules c.as_slice-2.result.now in
     let count : built ≡ built_count s = c.in_ok-needed.ensures.needed.built ∙ ap (λ (kept : List KeptKey). new_count (texts_of kept) texts) c.needed_by.ensures.kept in
-    let modules = c.as_slice-modules.ensures.value ∙ ap (λ (d : Design). d.modules) c.design-2.ensures.value in
-    let over =
-    c.in_ok-over.ensures.value
-    ∙ ap (λ (ms : List Module). over_of ms c.as_slice-2.result.now) modules
-    ∙ ap (over_of design.modules) c.as_slice-2.ensures.value in
-    told_is s c.in_ok-words.words c.in_ok-over.over built (Ok c.in_ok-told_by.field-0) c.in_ok-told_by.ensures.value words count
-    (told_over design c.args.script.now c.find_all.new.results c.in_ok-over.over c.find_all.ensures.sound c.in_ok-find_all.ensures.found over)
+    told_is s words over built (Ok c.in_ok-told.told) c.in_ok-told.ensures.value refl count
+    (told_over design script c.find_all.new.results over c.find_all.ensures.sound c.in_ok-find_all.ensures.found (ap (over_of design.modules) c.as_slice-2.ensures.value))

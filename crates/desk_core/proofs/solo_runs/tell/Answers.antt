@@ -1,8 +1,7 @@
-use Rattle.std.proofs.Common.{◌≡◌, ℕ, ◌-◌, List, ◌++◌, Option, Ok, refl, sym, ap, subst, ◌∙◌, arith}
+use Rattle.std.proofs.Common.{◌≡◌, ℕ, ◌-◌, List, ◌++◌, Option, Ok, length, refl, sym, ap, subst, ◌∙◌}
 use Rattle.std.specs.Prelude.{codes}
 use Rattle.reply_lines.specs.Lines.{counted}
 use Rattle.rtl_ir.specs.declared.module.Design.{Design}
-use Rattle.rtl_ir.specs.declared.module.Module.{Module}
 use Rattle.result_cache.specs.Filled.{new_count}
 use Rattle.script_core.specs.declared.built.Built.{Built}
 use Rattle.desk_core.specs.Ages.{kept_in, texts_of}
@@ -45,17 +44,11 @@ returns-in_err-find_own-clause-state g c = own_state_grown c.args.present.now.de
 pub returns-in_err-find_own-clause-ticks : goal.returns-in_err-find_own-clause-ticks
 returns-in_err-find_own-clause-ticks g c = own_rises c.args.present.now.design.design c.args.present.now.script c.args.results.now c.args.meter.now c.find_own.new.meter c.requires.own c.find_own.ensures.ticks
 
-pub returns-in_err-words-clause-state : goal.returns-in_err-words-clause-state
-returns-in_err-words-clause-state g c = own_state_grown c.args.present.now.design.design c.args.present.now.script c.args.results.now c.needed_by.new.ages c.needed_by.ensures.kept c.find_own.new.results c.find_own.ensures.ages
+pub returns-in_err-told-clause-state : goal.returns-in_err-told-clause-state
+returns-in_err-told-clause-state g c = own_state_grown c.args.present.now.design.design c.args.present.now.script c.args.results.now c.needed_by.new.ages c.needed_by.ensures.kept c.find_own.new.results c.find_own.ensures.ages
 
-pub returns-in_err-words-clause-ticks : goal.returns-in_err-words-clause-ticks
-returns-in_err-words-clause-ticks g c = own_rises c.args.present.now.design.design c.args.present.now.script c.args.results.now c.args.meter.now c.find_own.new.meter c.requires.own c.find_own.ensures.ticks
-
-pub returns-in_err-over-clause-state : goal.returns-in_err-over-clause-state
-returns-in_err-over-clause-state g c = own_state_grown c.args.present.now.design.design c.args.present.now.script c.args.results.now c.needed_by.new.ages c.needed_by.ensures.kept c.find_own.new.results c.find_own.ensures.ages
-
-pub returns-in_err-over-clause-ticks : goal.returns-in_err-over-clause-ticks
-returns-in_err-over-clause-ticks g c = own_rises c.args.present.now.design.design c.args.present.now.script c.args.results.now c.args.meter.now c.find_own.new.meter c.requires.own c.find_own.ensures.ticks
+pub returns-in_err-told-clause-ticks : goal.returns-in_err-told-clause-ticks
+returns-in_err-told-clause-ticks g c = own_rises c.args.present.now.design.design c.args.present.now.script c.args.results.now c.args.meter.now c.find_own.new.meter c.requires.own c.find_own.ensures.ticks
 
 pub returns-clause-state : goal.returns-clause-state
 returns-clause-state g c = own_state_grown c.args.present.now.design.design c.args.present.now.script c.args.results.now c.needed_by.new.ages c.needed_by.ensures.kept c.find_own.new.results c.find_own.ensures.ages
@@ -63,18 +56,9 @@ returns-clause-state g c = own_state_grown c.args.present.now.design.design c.ar
 pub returns-clause-ticks : goal.returns-clause-ticks
 returns-clause-ticks g c = own_rises c.args.present.now.design.design c.args.present.now.script c.args.results.now c.args.meter.now c.find_own.new.meter c.requires.own c.find_own.ensures.ticks
 
-pub returns-in_err-told_by-clause-state : goal.returns-in_err-told_by-clause-state
-returns-in_err-told_by-clause-state g c = own_state_grown c.args.present.now.design.design c.args.present.now.script c.args.results.now c.needed_by.new.ages c.needed_by.ensures.kept c.find_own.new.results c.find_own.ensures.ages
-
-pub returns-in_err-told_by-clause-ticks : goal.returns-in_err-told_by-clause-ticks
-returns-in_err-told_by-clause-ticks g c = own_rises c.args.present.now.design.design c.args.present.now.script c.args.results.now c.args.meter.now c.find_own.new.meter c.requires.own c.find_own.ensures.ticks
-
-pub built_words-requires : goal.built_words-requires
-built_words-requires g c =
-    let few =
-    built_few c.args.present.now.design.design c.args.present.now.script (texts_of (kept_in c.needed_by.new.ages.keys c.needed_by.new.ages.ages.items)) c.in_ok-needed.needed.built c.in_ok-needed.ensures.needed.built in
-    let count = c.module_count.ensures.value in
-    record { few = omega (arith, few, count) }
+pub tell_found-requires : goal.tell_found-requires
+tell_found-requires g c =
+    record { few = built_few c.args.present.now.design.design c.args.present.now.script (texts_of (kept_in c.needed_by.new.ages.keys c.needed_by.new.ages.ages.items)) c.in_ok-needed.needed.built c.in_ok-needed.ensures.needed.built }
 
 pub returns-clause-told : goal.returns-clause-told
 returns-clause-told g c =
@@ -83,14 +67,8 @@ returns-clause-told g c =
     let s = own_state design script c.args.results.now in
     let texts = key_texts script design.modules in
     let built = c.in_ok-needed.needed.built in
-    let words =
-    c.in_ok-words.ensures.value
-    ∙ ap (λ (n : ℕ). counted (codes "built") built ++ counted (codes "reused") (n - built)) c.module_count.ensures.value in
+    let words = counted (codes "built") built ++ counted (codes "reused") (length design.modules - built) in
+    let over = over_of design.modules c.as_slice-2.result.now in
     let count : built ≡ built_count s = c.in_ok-needed.ensures.needed.built ∙ ap (λ (kept : List KeptKey). new_count (texts_of kept) texts) c.needed_by.ensures.kept in
-    let modules = c.as_slice-modules.ensures.value ∙ ap (λ (d : Design). d.modules) c.design-2.ensures.value in
-    let over =
-    c.in_ok-over.ensures.value
-    ∙ ap (λ (ms : List Module). over_of ms c.as_slice-2.result.now) modules
-    ∙ ap (over_of design.modules) c.as_slice-2.ensures.value in
-    told_is s c.in_ok-words.words c.in_ok-over.over built (Ok c.in_ok-told_by.field-0) c.in_ok-told_by.ensures.value words count
-    (own_over design script c.find_own.new.results c.in_ok-over.over c.find_own.ensures.own c.in_ok-find_own.ensures.found over)
+    told_is s words over built (Ok c.in_ok-told.told) c.in_ok-told.ensures.value refl count
+    (own_over design script c.find_own.new.results over c.find_own.ensures.own c.in_ok-find_own.ensures.found (ap (over_of design.modules) c.as_slice-2.ensures.value))
