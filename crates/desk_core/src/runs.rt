@@ -25,7 +25,8 @@ use crate::results::{Results, find_all};
 use reply_lines::{Reply, error_reply, ok_line, ok_reply, put_counted, text_reply};
 use rtl_bits::{Memory, Steps, Text};
 use rtl_check::Checked;
-use script_core::{KeyTable, Script};
+use rtl_ir::DesignPorts;
+use script_core::Script;
 use std::alloc::Global;
 use std::marker::{Send, Sync};
 use std::sync::Wait;
@@ -156,7 +157,7 @@ pub fn tell<R: Threads + Wait + Sync, G: Gate, L: Send>(
         results.old.seats.items results.new.seats.items meter.old meter.new }
 {
     let alloc = crew.alloc;
-    let table = KeyTable::of(alloc, design.design())?;
+    let table = DesignPorts::of(alloc, design.design())?;
     let keys = Keys {
         design,
         table: &table,

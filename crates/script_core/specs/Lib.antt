@@ -1,6 +1,4 @@
 pub mod Words
-pub mod Reached
-pub mod Searching
 pub mod Keys
 pub mod Fold
 pub mod Built

@@ -19,7 +19,6 @@ pub enum Word {
     Muxtree,
     Reduce,
     Dff,
-    Flatten,
 }
 
 impl Copied for Word {
@@ -57,8 +56,6 @@ impl Word {
             Some(Word::Reduce)
         } else if spelling == b"opt_dff".as_slice() {
             Some(Word::Dff)
-        } else if spelling == b"flatten".as_slice() {
-            Some(Word::Flatten)
         } else {
             None
         }
@@ -80,7 +77,6 @@ impl Word {
             Word::Muxtree => b"opt_muxtree",
             Word::Reduce => b"opt_reduce",
             Word::Dff => b"opt_dff",
-            Word::Flatten => b"flatten",
         }
     }
 
@@ -100,7 +96,6 @@ impl Word {
             Word::Muxtree => b'x',
             Word::Reduce => b'r',
             Word::Dff => b'd',
-            Word::Flatten => b'l',
         }
     }
 }
