@@ -93,11 +93,15 @@ length_beside : (items : List (Found Built)) → length (beside_of items) ≡ le
 length_beside [] = refl
 length_beside (x ∷ items) = ap suc (length_beside items)
 
+-- what a list of results of items has at a place is the result of the item there
+got_made : {A B : Type 0} (f : A → B) (items : List A) (at : ℕ) (b : B) → slice_get (map (λ x. Some (f x)) items) at ≡ Some (Some b) → (x : A) × (slice_get items at ≡ Some x) × (f x ≡ b) × (at < length items)
+got_made f [] at b is = absurd (let none : None ≡ Some (Some b) = is in cc)
+got_made f (x ∷ items) zero b is = (x, refl, (let e : f x ≡ b = cc in e), omega arith)
+got_made f (x ∷ items) (suc at) b is = let rest = got_made f items at b is in (rest.0, rest.1, rest.2, let l = rest.3 in omega (arith, l))
+
 -- what stands beside a module was found there
 got_beside : (items : List (Found Built)) (at : ℕ) (built : Built) → slice_get (beside_of items) at ≡ Some (Some built) → (found : Found Built) × (slice_get items at ≡ Some found) × (found.value ≡ built) × (at < length items)
-got_beside [] at built is = absurd (let no : None ≡ Some (Some built) = is in cc)
-got_beside (x ∷ items) zero built is = (x, refl, (let e : x.value ≡ built = cc in e), omega arith)
-got_beside (x ∷ items) (suc at) built is = let rest = got_beside items at built is in (rest.0, rest.1, rest.2, let l = rest.3 in omega (arith, l))
+got_beside = got_made (λ (found : Found Built). found.value)
 
 pub all_beside : (items : List (Found Built)) → list_all is_some (beside_of items) ≡ true
 all_beside [] = refl

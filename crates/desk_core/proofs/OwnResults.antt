@@ -45,6 +45,10 @@ same_still keys more same q is = ap (λ (l : List (List ℕ)). has_name l q) sam
 pub aged_still : (ages : Ages) (keys more : List (List ℕ)) → HasStill keys more → AreAged ages keys → AreAged ages more
 aged_still ages keys more still h = record { beside = h.beside; kept = λ q is. still q (h.kept q is); young = h.young }
 
+-- what stands in two options is one thing
+some_once : {A : Type 0} (a b : A) → Some (Some a) ≡ Some (Some b) → a ≡ b
+some_once a b e = cc
+
 module _ (design : Design) (script : List Word) where
   abbrev text_at : ℕ → List ℕ
   text_at at = key_text_at script design.modules at
@@ -73,7 +77,7 @@ module _ (design : Design) (script : List Word) where
       by k other is (inl e) =
           let there : slice_get (set found at (Some built)) at ≡ Some (Some built) = get_set_same found at (Some built) (let b = h.beside in omega (arith, b, within)) in
           let one : Some (Some built) ≡ Some (Some other) = sym there ∙ ap (slice_get (set found at (Some built))) (sym e) ∙ is in
-          let same : built ≡ other = cc in
+          let same : built ≡ other = some_once built other one in
           subst (λ (b : Built). IsResultAt script design.modules (with_key (text_at at) keys) k b) same
           (subst (λ (n : ℕ). IsResultAt script design.modules (with_key (text_at at) keys) n built) (sym e)
           record { key = key; value = value; kept = with_itself (text_at at) keys })

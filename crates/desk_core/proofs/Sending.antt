@@ -30,6 +30,7 @@ use Rattle.rtl_ir.specs.contracts.process.Process as processes
 use Rattle.script_core.proofs.key.Key.TheSendSync as keys
 use Rattle.script_core.proofs.word.Word.TheSendSync as words
 use Rattle.script_core.specs.contracts.built.Built as results
+use Rattle.script_core.specs.contracts.key_table.KeyTable as key_tables
 use Rattle.script_core.specs.contracts.outcome.Outcome as outcomes
 use Rattle.desk_core.specs.contracts.crew_jobs.CrewJobs as jobs
 use Rattle.desk_core.specs.contracts.keys.Keys as tellers
@@ -115,8 +116,11 @@ checked_sync = declared_sync checked.the_type (design_sync, tt)
 table_sync : (a : NamedLft) → IsSync (tables.the_row a)
 table_sync a = search (sendable, crosses, maps.crosses, module_sync) depth 60
 
+key_table_sync : (a : NamedLft) → IsSync (key_tables.the_row a)
+key_table_sync a = search (sendable, crosses, maps.crosses, module_sync, table_sync) depth 60
+
 teller_sync : (a b : NamedLft) → IsSync (tellers.the_row a b)
-teller_sync a b = search (sendable, checked_sync, table_sync, scripts.the_sync) depth 40
+teller_sync a b = search (sendable, checked_sync, key_table_sync, scripts.the_sync) depth 40
 
 -- the jobs of a crew
 pub jobs_sync : (a : NamedLft) (R : RattleType) → IsSync R → IsSync (jobs.the_row a R)

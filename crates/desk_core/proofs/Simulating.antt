@@ -16,9 +16,10 @@ use Rattle.reply_lines.specs.Lines.{counted, ok_line, ok_reply}
 use Rattle.script_core.specs.declared.outcome.Outcome.{Outcome}
 use Rattle.script_core.specs.declared.outcome.Outcome.TheVariants.{Done, Over}
 use Rattle.script_core.specs.declared.word.Word.{Word}
-use Rattle.script_core.specs.Cold.{cold, named, outcome_of, table_of}
+use Rattle.script_core.specs.Cold.{cold, named, outcome_of}
 use Rattle.script_core.specs.Built.{unnamed}
 use Rattle.script_core.specs.Fold.{fold_script}
+use Rattle.script_core.specs.Reached.{below_of, table_of}
 use Rattle.sim_trace.specs.Stimulus.{stimulus_of, trace_text}
 use Rattle.desk_core.specs.declared.runs.Told.{Told}
 use Rattle.desk_core.specs.declared.runs.Told.TheVariants.{Built, Over as WasOver}
@@ -52,7 +53,7 @@ alike script all name (m ∷ ms) e = by (outcome_of script all m) refl (alike sc
   where
     by : (o : Outcome) → outcome_of script all m ≡ o → (over_words ms (map (outcome_of script all) ms) ≡ None → AreAlike name ms (done_modules (map (outcome_of script all) ms)))
         → over_words (m ∷ ms) (o ∷ map (outcome_of script all) ms) ≡ None → AreAlike name (m ∷ ms) (done_modules (o ∷ map (outcome_of script all) ms))
-    by (Done n) is rest h = alike_more name m n ms (done_modules (map (outcome_of script all) ms)) (named_id m.id (fold_script script (table_of all m) (unnamed m)) n is) (rest h)
+    by (Done n) is rest h = alike_more name m n ms (done_modules (map (outcome_of script all) ms)) (named_id m.id (fold_script script (table_of all m) (below_of script all m.cells) (unnamed m)) n is) (rest h)
     by (Over word) is rest h = absurd cc
 
 place_alike : (name : List ℕ) (sources modules : List Module) → AreAlike name sources modules → place_named modules name ≡ place_named sources name

@@ -6,6 +6,7 @@ use Rattle.rtl_write.specs.Ports.{ports_text}
 use Rattle.design_edit.specs.Modules.{has_module}
 use Rattle.script_core.specs.declared.built.Built.{Built}
 use Rattle.script_core.specs.declared.word.Word.{Word}
+use Rattle.script_core.specs.Keys.{below_text_at}
 use Rattle.desk_core.specs.Results.{IsResultAt}
 
 -- the result of a module, unless one of these edits has the module's name
@@ -29,11 +30,13 @@ abbrev pub AreStill : List Word → List Module → List Module → List (List �
 AreStill script old new keys found =
     (at : ℕ) (built : Built) → slice_get found at ≡ Some (Some built) → IsStillAt script old new keys at built
 
--- the module at a place sees the ports that are in the key of this result
-abbrev pub SeesOwn : List Module → ℕ → Built → Type 0
-SeesOwn modules at built = built.key.ports ≡ ports_text (record { modules = port_table_of modules at })
+-- the module at a place sees the ports that are in the key of this result, and where the key's script flattens, it reaches the
+-- modules that are in the key
+pub record SeesOwn (modules : List Module) (at : ℕ) (built : Built) : Type 0 where
+  pub ports : built.key.ports ≡ ports_text (record { modules = port_table_of modules at })
+  pub below : built.key.below ≡ below_text_at built.key.script modules at
 
--- of the results beside modules some stayed, and each of these modules sees the ports that are in the key of its result
+-- of the results beside modules some stayed, and each of these modules sees what is in the key of its result
 pub record AreSeen (modules : List Module) (old new : List (Option Built)) : Type 0 where
   pub count : length new ≡ length old
   pub own :

@@ -8,6 +8,7 @@ ghost use Rattle.rtl_readable.specs.Readable.{IsReadable};
 ghost use Rattle.rtl_write.specs.Ports.{ports_text};
 ghost use Rattle.design_edit.specs.Modules.{has_module};
 ghost use Rattle.design_edit.specs.Table.{ArePlaces};
+ghost use Rattle.script_core.specs.Keys.{below_text_at};
 ghost use Rattle.desk_core.specs.Beside.{AreSeen, SeesOwn, unedited, unless_edited};
 
 use crate::kept::Kept;
@@ -15,8 +16,9 @@ use design_edit::{Places, places_of};
 use result_cache::Keyed;
 use rtl_bits::{Memory, Text};
 use rtl_check::Checked;
-use rtl_ir::{DesignPorts, Module};
+use rtl_ir::Module;
 use rtl_write::ports_text;
+use script_core::{KeyTable, below_text};
 use std::alloc::Global;
 
 /// Whether a module of this name is among the edits.
@@ -74,35 +76,58 @@ pub fn fill_up(found: &mut Vec<Option<Kept>>, count: usize) -> Result<(), Memory
 }
 
 /// The text of the ports that the module at this place of a design sees.
-fn ports_seen(alloc: Global, table: &DesignPorts, at: u32) -> Result<Text, Memory>
+fn ports_seen(alloc: Global, table: &KeyTable, at: u32) -> Result<Text, Memory>
     requires in_range { at < length table.now.modules.now }
     ensures value { IfOk result (λ text. text ≡
         ports_text (record { modules = port_table_of table.now.modules.now at })) }
 {
-    let ports = table.table_of(alloc, at)?;
+    let ports = table.ports_of(alloc, at)?;
     ports_text(alloc, &ports)
 }
 
-/// Whether the module at this place sees the ports that are in the key of the result. Where there was no memory for the
-/// table, or there is none to look, it is taken for one that does not.
-fn sees_own(alloc: Global, table: &Option<DesignPorts>, at: u32, kept: &Kept) -> bool
-    requires in_range { IfSome table.now (λ ports. at < length ports.modules.now) }
-    ensures own { (modules : List Module) → IfSome table.now (λ ports. ports.modules.now ≡ modules) → IsTrue result →
-        SeesOwn modules at kept.now }
+/// Whether the module at this place sees the ports that are in the key of the result. Without memory to look it is
+/// taken for one that does not.
+fn sees_ports(alloc: Global, table: &KeyTable, at: u32, kept: &Kept) -> bool
+    requires in_range { at < length table.now.modules.now }
+    ensures own { IsTrue result →
+        kept.now.key.ports ≡ ports_text (record { modules = port_table_of table.now.modules.now at }) }
 {
-    let Some(table) = table else {
-        return false;
-    };
     match ports_seen(alloc, table, at) {
         Ok(text) => text.as_slice() == kept.built().key().ports.as_slice(),
         Err(Memory) => false,
     }
 }
 
-/// Whether there is no result, or its module sees the ports that are in its key.
-fn stays(alloc: Global, table: &Option<DesignPorts>, at: u32, found: &Option<Kept>) -> bool
-    requires in_range { IfSome table.now (λ ports. at < length ports.modules.now) }
-    ensures own { (modules : List Module) → IfSome table.now (λ ports. ports.modules.now ≡ modules) → IsTrue result →
+/// Whether the module at this place reaches the modules that are in the key of the result. Without memory to look it is
+/// taken for one that does not.
+fn reaches_own(alloc: Global, table: &KeyTable, at: u32, kept: &Kept) -> bool
+    requires in_range { at < length table.now.modules.now }
+    ensures own { IsTrue result → kept.now.key.below ≡ below_text_at kept.now.key.script table.now.modules.now at }
+{
+    let key = kept.built().key();
+    match below_text(alloc, table, at, &key.script) {
+        Ok(text) => text.as_slice() == key.below.as_slice(),
+        Err(Memory) => false,
+    }
+}
+
+/// Whether the module at this place sees what is in the key of the result. Where there was no memory for the table it
+/// is taken for one that does not.
+fn sees_own(alloc: Global, table: &Option<KeyTable>, at: u32, kept: &Kept) -> bool
+    requires in_range { IfSome table.now (λ known. at < length known.modules.now) }
+    ensures own { (modules : List Module) → IfSome table.now (λ known. known.modules.now ≡ modules) → IsTrue result →
+        SeesOwn modules at kept.now }
+{
+    match table {
+        Some(table) => sees_ports(alloc, table, at, kept) && reaches_own(alloc, table, at, kept),
+        None => false,
+    }
+}
+
+/// Whether there is no result, or its module sees what is in its key.
+fn stays(alloc: Global, table: &Option<KeyTable>, at: u32, found: &Option<Kept>) -> bool
+    requires in_range { IfSome table.now (λ known. at < length known.modules.now) }
+    ensures own { (modules : List Module) → IfSome table.now (λ known. known.modules.now ≡ modules) → IsTrue result →
         IfSome found.now (SeesOwn modules at) }
 {
     match found {
@@ -111,15 +136,15 @@ fn stays(alloc: Global, table: &Option<DesignPorts>, at: u32, found: &Option<Kep
     }
 }
 
-/// Lets go of the results beside modules that see other ports than those in their keys. Without memory to look, of
-/// more.
+/// Lets go of the results beside modules that see other ports than those in their keys, or reach other modules. Without
+/// memory to look, of more.
 #[tactic(auto, using(crate::proofs::Staying::seen_none))]
 pub fn let_go_unseen(alloc: Global, design: &Checked, found: &mut Vec<Option<Kept>>)
     requires readable { IsReadable design.now.design }
     requires beside { length found.old.items ≡ length design.now.design.modules }
     ensures seen { AreSeen design.now.design.modules found.old.items found.new.items }
 {
-    let table = DesignPorts::of(alloc, design.design()).ok();
+    let table = KeyTable::of(alloc, design.design()).ok();
     for at in 0..found.len() {
         if !stays(alloc, &table, at as u32, &found[at]) {
             found[at] = None;

@@ -11,15 +11,14 @@ use crate::kept::Kept;
 use crate::key_order::KeyOrder;
 use rtl_bits::{Memory, Steps};
 use rtl_check::Checked;
-use rtl_ir::DesignPorts;
-use script_core::{Built, Key, Script, build_by, key_by};
+use script_core::{Built, Key, KeyTable, Script, build_by, key_by};
 use std::alloc::Global;
 
 /// A design and a script, with the table of the design's modules: what tells the keys of the modules.
 #[derive(Clone, Copy)]
 pub struct Keys<'d, 't> {
     pub design: &'d Checked,
-    pub table: &'t DesignPorts<'d>,
+    pub table: &'t KeyTable<'d>,
     pub script: &'d Script,
 }
 

@@ -25,8 +25,7 @@ use crate::results::{Results, find_all};
 use reply_lines::{Reply, error_reply, ok_line, ok_reply, put_counted, text_reply};
 use rtl_bits::{Memory, Steps, Text};
 use rtl_check::Checked;
-use rtl_ir::DesignPorts;
-use script_core::Script;
+use script_core::{KeyTable, Script};
 use std::alloc::Global;
 use std::marker::{Send, Sync};
 use std::sync::Wait;
@@ -157,7 +156,7 @@ pub fn tell<R: Threads + Wait + Sync, G: Gate, L: Send>(
         results.old.seats.items results.new.seats.items meter.old meter.new }
 {
     let alloc = crew.alloc;
-    let table = DesignPorts::of(alloc, design.design())?;
+    let table = KeyTable::of(alloc, design.design())?;
     let keys = Keys {
         design,
         table: &table,

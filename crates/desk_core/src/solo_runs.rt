@@ -29,7 +29,7 @@ use desk_read::SimAsk;
 use reply_lines::{Reply, number_reply, told_reply};
 use result_cache::Seat;
 use rtl_bits::{Bits, Memory, Steps};
-use rtl_ir::DesignPorts;
+use script_core::KeyTable;
 use sim_trace::{StimulusFault, stimulus_of};
 use std::sync::Wait;
 
@@ -62,7 +62,7 @@ fn tell<R: Wait, L>(
         meter.old meter.new }
 {
     let alloc = access.alloc;
-    let table = DesignPorts::of(alloc, present.design.design())?;
+    let table = KeyTable::of(alloc, present.design.design())?;
     let keys = Keys {
         design: &present.design,
         table: &table,

@@ -13,16 +13,11 @@ use Rattle.net_model.specs.Refine.{AreWellDriven, HasOneDriver, IsWellDriven}
 use Rattle.net_model.proofs.WellDriven.{one_driver}
 use Rattle.check_laws.proofs.Accepted.{accepted}
 use Rattle.check_laws.proofs.Readable.{sound}
-use Rattle.pass_laws.specs.Pass.{IsPass}
 use Rattle.script_core.specs.declared.outcome.Outcome.TheVariants.{Done}
 use Rattle.script_core.specs.declared.word.Word.{Word}
-use Rattle.script_core.specs.Built.{unnamed}
-use Rattle.script_core.specs.Cold.{IsNetlist, cold, outcome_of, table_of}
+use Rattle.script_core.specs.Cold.{IsNetlist, cold, outcome_of}
 use Rattle.script_core.specs.Fold.{StartsWithProc}
-use Rattle.script_core.proofs.Given.{given_first}
-use Rattle.script_core.proofs.Renaming.{fold_renamed}
-use Rattle.script_core.proofs.Stepping.{fold_passes}
-use Rattle.script_core.proofs.Tables.{agree}
+use Rattle.script_core.proofs.Refining.{outcome_made}
 use Rattle.rtl_readable.specs.Readable.{IsReadable}
 
 -- modules with the names and ports of others, in which no bit has two drivers over these ports
@@ -32,15 +27,6 @@ record AreDriven (ports : Ports) (bs cs : List Module) : Type 0 where
   driven : (c : Module) → In c cs → IsWellDriven ports c
 
 module _ (d : Design) (readable : IsReadable d) (none : check_faults d.modules ≡ []) (script : List Word) (stage : StartsWithProc script) where
-  pub own_pass : (m : Module) → In m d.modules → (n : Module) → outcome_of script d.modules m ≡ Done n → IsPass (table_of d.modules m) m n
-  own_pass m i n e =
-      fold_passes script (table_of d.modules m) m n stage (given_first d readable none m i m.id)
-      (fold_renamed m.id script (table_of d.modules m) (unnamed m) ∙ e)
-
-  own_driven : (m : Module) → In m d.modules → (n : Module) → outcome_of script d.modules m ≡ Done n → IsWellDriven (design_ports d) n
-  own_driven m i n e =
-      (own_pass m i n e).driven (design_ports d) (agree d.modules m) ((accepted everything d (sound d readable) none).modules m i)
-
   each_driven : (bs cs : List Module) → ((b : Module) → In b bs → In b d.modules) → map (outcome_of script d.modules) bs ≡ map Done cs → AreDriven (design_ports d) bs cs
   each_driven [] [] h e = record { ids = refl; lines = λ name. refl; driven = λ c i. absurd i }
   each_driven [] (c ∷ cs) h e = absurd cc
@@ -50,13 +36,13 @@ module _ (d : Design) (readable : IsReadable d) (none : check_faults d.modules �
       let rest : map (outcome_of script d.modules) bs ≡ map Done cs = cc in
       let later = each_driven bs cs (λ x i. h x (inr i)) rest in
       let here = h b (inl refl) in
-      let pass = own_pass b here c first in
+      let made = outcome_made d readable none script stage b here c first in
       record {
-        ids = λ i. sym pass.id i ∷ later.ids i;
+        ids = λ i. sym made.id i ∷ later.ids i;
         lines = λ name.
-            ap (λ z. ports_or_none (cond (bytes_eq z name) (Some b) (named bs name))) pass.id
-            ∙ (elim (bytes_eq c.id name) as (λ t. ports_or_none (cond t (Some b) (named bs name)) ≡ ports_or_none (cond t (Some c) (named cs name))) [ true ↦ pass.ports | false ↦ later.lines name ]);
-        driven = λ x i. ⊎_elim (λ same. subst (IsWellDriven (design_ports d)) (sym same) (own_driven b here c first)) (λ j. later.driven x j) i;
+            ap (λ z. ports_or_none (cond (bytes_eq z name) (Some b) (named bs name))) made.id
+            ∙ (elim (bytes_eq c.id name) as (λ t. ports_or_none (cond t (Some b) (named bs name)) ≡ ports_or_none (cond t (Some c) (named cs name))) [ true ↦ made.ports | false ↦ later.lines name ]);
+        driven = λ x i. ⊎_elim (λ same. subst (IsWellDriven (design_ports d)) (sym same) made.driven) (λ j. later.driven x j) i;
       }
 
   pub cold_driven : (n : Design) → IsNetlist (cold script d) n → HasOneDriver n

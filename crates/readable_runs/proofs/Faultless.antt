@@ -1,5 +1,5 @@
 -- In the cold run of an accepted design no module has a fault, where it is a netlist.
-use Rattle.std.proofs.Common.{◌≡◌, ⊎_elim, ℕ, Bool, true, false, cond, List, [], ◌∷◌, ◌++◌, Option, Some, None, inl, inr, refl, sym, ◌∙◌, ap, subst}
+use Rattle.std.proofs.Common.{◌≡◌, ◌⊎◌, ⊎_elim, ℕ, Bool, true, false, cond, List, [], ◌∷◌, ◌++◌, Option, Some, None, inl, inr, refl, sym, ◌∙◌, ap, subst}
 use Rattle.std.specs.Prelude.{flat_map, map, not, ◌&&◌, ◌||◌}
 use Rattle.std.specs.List.{list_any}
 use Rattle.std.specs.Option.{option_map}
@@ -17,7 +17,7 @@ use Rattle.rtl_ir.specs.Faults.Processes.{process_faults}
 use Rattle.rtl_ir.specs.Faults.Stores.{store_faults}
 use Rattle.rtl_ir.specs.Faults.Wires.{wire_faults}
 use Rattle.rtl_ir.specs.Flat.Cell.{cell_kind, instance_of, instances, listed}
-use Rattle.rtl_ir.specs.Flat.Place.{Frame}
+use Rattle.rtl_ir.specs.Flat.Place.{Frame, frame}
 use Rattle.rtl_ir.specs.Flat.Tree.{named}
 use Rattle.rtl_ir.specs.Ports.{instantiates, is_library_cell, ports_of}
 use Rattle.rtl_ir.specs.Scope.{everything, without_processes}
@@ -26,49 +26,23 @@ use Rattle.rtl_ir.specs.declared.cell.Cell.{Cell}
 use Rattle.rtl_ir.specs.declared.module.Design.{Design}
 use Rattle.rtl_ir.specs.declared.module.Module.{Module}
 use Rattle.rtl_ir.specs.declared.ports.PortLine.{PortLine}
-use Rattle.rtl_ir.specs.declared.ports.PortTable.{PortTable}
 use Rattle.rtl_ir.specs.declared.wire.Wire.{Wire}
 use Rattle.net_model.specs.Lists.{Distinct, In}
-use Rattle.pass_laws.specs.Pass.{IsPass}
 use Rattle.pass_laws.specs.Ready.{IsReady}
 use Rattle.pass_laws.proofs.Faultless.{plain}
 use Rattle.tech_map.specs.Gates.{HasGatesAlone, is_gate_or_instance}
 use Rattle.script_core.specs.declared.outcome.Outcome.TheVariants.{Done}
 use Rattle.script_core.specs.declared.word.Word.{Word}
-use Rattle.script_core.specs.declared.word.Word.TheVariants.{Proc}
-use Rattle.script_core.specs.Built.{unnamed}
-use Rattle.script_core.specs.Cold.{IsNetlist, cold, outcome_of, table_of}
-use Rattle.script_core.specs.Fold.{MayBeGiven, MayGoOn, MayStart, StartsWithProc, after_word, fold_script, pass_of}
+use Rattle.script_core.specs.Cold.{IsNetlist, cold, outcome_of}
+use Rattle.script_core.specs.Fold.{StartsWithProc}
+use Rattle.script_core.specs.Reached.{table_of}
 use Rattle.script_core.specs.Mapping.{maps_all}
 use Rattle.script_core.proofs.Faultless.{Alike, AreAlike, SamePorts, SameType, named_is, over_others, same_lines}
-use Rattle.script_core.proofs.Gating.{fold_gates}
-use Rattle.script_core.proofs.Given.{given_first}
-use Rattle.script_core.proofs.Renaming.{fold_renamed}
-use Rattle.script_core.proofs.Stepping.{fold_passes, given_word, word_goes}
+use Rattle.script_core.proofs.Refining.{IsMade, outcome_gates, outcome_made}
 use Rattle.script_core.proofs.Tables.{instantiated, same_name, table_instance}
+use Rattle.script_core.proofs.Under.{instance_there, kind_is}
 use Rattle.rtl_readable.specs.Readable.{IsReadable}
 use Rattle.readable_runs.proofs.Recursion.{cold_unrecursive}
-
--- ---- what a script makes of a module may be given to each pass
-
-module _ (table : PortTable) where
-  then_goes : (w : Word) (ws : List Word) (m n : Module) → MayBeGiven table w m
-      → ((k : Module) → MayGoOn table k → fold_script ws table k ≡ Done n → MayGoOn table n)
-      → fold_script (w ∷ ws) table m ≡ Done n → MayGoOn table n
-  then_goes w ws m n given rest e = by (pass_of table w m) refl e
-    where
-      by : (o : Option Module) → pass_of table w m ≡ o → after_word w (fold_script ws table) o ≡ Done n → MayGoOn table n
-      by None f g = absurd cc
-      by (Some k) f g = rest k (word_goes table w m k given f).next g
-
-  goes_from : (ws : List Word) (m n : Module) → MayGoOn table m → fold_script ws table m ≡ Done n → MayGoOn table n
-  goes_from [] m n h e = let same : m ≡ n = cc in subst (MayGoOn table) same h
-  goes_from (w ∷ ws) m n h e = then_goes w ws m n (given_word table w m h) (λ k r f. goes_from ws k n r f) e
-
-fold_goes : (script : List Word) (table : PortTable) (m n : Module) → StartsWithProc script → MayStart table m → fold_script script table m ≡ Done n → MayGoOn table n
-fold_goes [] table m n is h e = absurd is
-fold_goes (w ∷ ws) table m n is h e =
-    then_goes table Proc ws m n (inl h) (λ k r f. goes_from table ws k n r f) (subst (λ (v : Word). fold_script (v ∷ ws) table m ≡ Done n) is e)
 
 -- ---- a cell that is an instance
 
@@ -145,7 +119,7 @@ gates_faultless P m gates e = gates_module P m gates (plain P m e).processes ∙
 record IsBuilt (all : Bool) (modules : List Module) (n : Module) : Type 0 where
   before : Module
   ready : IsReady (table_ports (table_of modules before).modules) n
-  instances : instances before.cells ≡ instances n.cells
+  instances : (instances before.cells ≡ instances n.cells) ⊎ (instances n.cells ≡ [])
   gates : all ≡ true → HasGatesAlone n
 
 -- no module, or two with the same ports, of which the second has no two wires of one name
@@ -181,7 +155,8 @@ module _ (all : Bool) (modules others : List Module) (found : (name : List ℕ) 
       by : (k : Option CellKind) → kind_of c.kind_name ≡ k → Alike (type_by k P (is_unsupported c.kind_name)) (type_by k Q (is_unsupported c.kind_name))
       by (Some kind) e = SameType (Library kind)
       by None e =
-          let here = table_instance modules built.before c.kind_name (instantiated_by built.before.cells n.cells built.instances c i e) in
+          let same : instances built.before.cells ≡ instances n.cells = ⊎_elim (λ k. k) (λ none. absurd (subst (In (frame c.name c.kind_name)) none (instance_there n.cells c i (kind_is c ∙ e)))) built.instances in
+          let here = table_instance modules built.before c.kind_name (instantiated_by built.before.cells n.cells same c i e) in
           let there : Q ≡ option_map (λ (m : Module). port_lines m.wires) (named others c.kind_name) = ap (option_map (λ (m : Module). port_lines m.wires)) (named_is others c.kind_name) in
           subst (λ (x : Option (List PortLine)). Alike (type_by None x (is_unsupported c.kind_name)) (type_by None Q (is_unsupported c.kind_name))) (sym here)
           (subst (λ (y : Option (List PortLine)). Alike (type_by None (option_map (λ (m : Module). ports_of m.wires) (named modules c.kind_name)) (is_unsupported c.kind_name)) (type_by None y (is_unsupported c.kind_name))) (sym there)
@@ -202,21 +177,15 @@ all_none f (x ∷ xs) h = λ j. h x (inl refl) j ++ all_none f xs (λ y i. h y (
 
 module _ (d : Design) (readable : IsReadable d) (none : check_faults d.modules ≡ []) (script : List Word) (stage : StartsWithProc script) where
   module _ (m : Module) (i : In m d.modules) (n : Module) (e : outcome_of script d.modules m ≡ Done n) where
-    start : MayStart (table_of d.modules m) m
-    start = given_first d readable none m i m.id
-
-    fold : fold_script script (table_of d.modules m) m ≡ Done n
-    fold = fold_renamed m.id script (table_of d.modules m) (unnamed m) ∙ e
-
-    pass : IsPass (table_of d.modules m) m n
-    pass = fold_passes script (table_of d.modules m) m n stage start fold
+    made : IsMade d m n
+    made = outcome_made d readable none script stage m i n e
 
     built : IsBuilt (maps_all script) d.modules n
     built = record {
       before = m;
-      ready = (fold_goes script (table_of d.modules m) m n stage start fold).ready;
-      instances = pass.instances;
-      gates = λ all. fold_gates script (table_of d.modules m) m n stage all start fold;
+      ready = made.next.ready;
+      instances = made.instances;
+      gates = λ all. outcome_gates d readable none script stage all m i n e;
     }
 
   each_built : (bs cs : List Module) → ((b : Module) → In b bs → In b d.modules) → map (outcome_of script d.modules) bs ≡ map Done cs → AreBuilt (maps_all script) d.modules bs cs
@@ -229,12 +198,12 @@ module _ (d : Design) (readable : IsReadable d) (none : check_faults d.modules �
       let later = each_built bs cs (λ x i. h x (inr i)) rest in
       let here = h b (inl refl) in
       let own = built b here c first in
-      let made = pass b here c first in
+      let same = made b here c first in
       record {
         each = λ n i. ⊎_elim (λ same. subst (IsBuilt (maps_all script) d.modules) (sym same) own) (λ j. later.each n j) i;
         found = λ name.
-            subst (λ (id : List ℕ). AreFoundAlike (cond (bytes_eq id name) (Some b) (named bs name)) (named (c ∷ cs) name)) (sym made.id)
-            (elim (bytes_eq c.id name) as (λ t. AreFoundAlike (cond t (Some b) (named bs name)) (cond t (Some c) (named cs name))) [ true ↦ (made.ports, own.ready.named) | false ↦ later.found name ]);
+            subst (λ (id : List ℕ). AreFoundAlike (cond (bytes_eq id name) (Some b) (named bs name)) (named (c ∷ cs) name)) (sym same.id)
+            (elim (bytes_eq c.id name) as (λ t. AreFoundAlike (cond t (Some b) (named bs name)) (cond t (Some c) (named cs name))) [ true ↦ (same.ports, own.ready.named) | false ↦ later.found name ]);
       }
 
   module _ (n : Design) (e : IsNetlist (cold script d) n) where

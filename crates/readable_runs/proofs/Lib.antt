@@ -3,6 +3,7 @@ pub mod Lines
 pub mod Fitting
 pub mod Proc
 pub mod Scripts
+pub mod Flat
 pub mod Cold
 pub mod Driven
 pub mod Recursion

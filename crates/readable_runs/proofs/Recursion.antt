@@ -1,7 +1,7 @@
 -- In the cold run of an accepted design no module stands in itself, where it is a netlist.
-use Rattle.std.proofs.Common.{◌≡◌, ℕ, zero, suc, ◌+◌, cond, List, [], ◌∷◌, ◌++◌, length, Option, Some, None, inl, inr, refl, sym, ◌∙◌, ap}
+use Rattle.std.proofs.Common.{◌≡◌, ⊎_elim, ℕ, zero, suc, ◌+◌, ◌==◌, ◌||◌, Bool, true, false, cond, List, [], ◌∷◌, ◌++◌, get_or, length, Option, Some, None, inl, inr, refl, sym, ◌∙◌, ap}
 use Rattle.std.specs.Prelude.{filter_map, flat_map, is_some, map, nat_lt, not, if◌then◌else◌}
-use Rattle.std.specs.List.{cons_option, prefix_len, range_with_len}
+use Rattle.std.specs.List.{cons_option, list_any, prefix_len, range_with_len}
 use Rattle.std.specs.Str.{bytes_eq}
 use Rattle.cell_types.specs.Kind.{kind_of}
 use Rattle.cell_types.specs.declared.kind.CellKind.{CellKind}
@@ -24,7 +24,9 @@ use Rattle.script_core.specs.declared.word.Word.{Word}
 use Rattle.script_core.specs.Cold.{IsNetlist, cold, outcome_of}
 use Rattle.script_core.specs.Fold.{StartsWithProc}
 use Rattle.rtl_readable.specs.Readable.{IsReadable}
-use Rattle.readable_runs.proofs.Driven.{own_pass}
+use Rattle.script_core.specs.Words.{flattens}
+use Rattle.script_core.proofs.FlatRuns.{outcome_leaves}
+use Rattle.script_core.proofs.Refining.{own_pass}
 
 -- ---- modules with the same names and instances
 
@@ -86,20 +88,59 @@ same_recursion ms ns h =
     let count = same_length ms ns h in
     λ j. flat_map (λ at. fault_if (leads_within (graph j) (count j) at at) (Recursion (same_id ms ns h at j))) (range_with_len 0 (count j))
 
+-- ---- modules without instances
+
+no_places : (ms : List Module) (cells : List Cell) → instances cells ≡ [] → instance_places ms cells ≡ []
+no_places ms cells e = by_frames (place_named ms) cells ∙ ap (filter_map (λ (f : Frame). place_named ms f.module_name)) e
+
+no_rows : (all ms : List Module) → ((m : Module) → In m ms → instances m.cells ≡ []) → (at : ℕ) → get_or (map (λ (m : Module). instance_places all m.cells) ms) at [] ≡ []
+no_rows all [] h at = refl
+no_rows all (m ∷ ms) h zero = no_places all m.cells (h m (inl refl))
+no_rows all (m ∷ ms) h (suc at) = no_rows all ms (λ n i. h n (inr i)) at
+
+no_lead : (ms : List Module) → ((m : Module) → In m ms → instances m.cells ≡ []) → (n at : ℕ) → leads_within (map (λ (m : Module). instance_places ms m.cells) ms) n at at ≡ false
+no_lead ms h zero at = refl
+no_lead ms h (suc n) at =
+    ap (list_any (λ k. (k == at) || leads_within (map (λ (m : Module). instance_places ms m.cells) ms) n k at)) (no_rows ms ms h at)
+
+no_recursion : (ms : List Module) → ((m : Module) → In m ms → instances m.cells ≡ []) → recursion_faults ms ≡ []
+no_recursion ms h = all_none (range_with_len 0 (length ms))
+  where
+    all_none : (places : List ℕ) → flat_map (λ at. fault_if (leads_within (map (λ (m : Module). instance_places ms m.cells) ms) (length ms) at at) (Recursion (id_at ms at))) places ≡ []
+    all_none [] = refl
+    all_none (at ∷ places) =
+        λ j. fault_if (no_lead ms h (length ms) at j) (Recursion (id_at ms at)) ++ all_none places j
+
 -- ---- cold runs
 
 module _ (d : Design) (readable : IsReadable d) (none : check_faults d.modules ≡ []) (script : List Word) (stage : StartsWithProc script) where
-  each_alike : (bs cs : List Module) → ((b : Module) → In b bs → In b d.modules) → map (outcome_of script d.modules) bs ≡ map Done cs → HaveSameInstances bs cs
-  each_alike [] [] h e = tt
-  each_alike [] (c ∷ cs) h e = absurd cc
-  each_alike (b ∷ bs) [] h e = absurd cc
-  each_alike (b ∷ bs) (c ∷ cs) h e =
+  each_alike : flattens script ≡ false → (bs cs : List Module) → ((b : Module) → In b bs → In b d.modules) → map (outcome_of script d.modules) bs ≡ map Done cs → HaveSameInstances bs cs
+  each_alike plain [] [] h e = tt
+  each_alike plain [] (c ∷ cs) h e = absurd cc
+  each_alike plain (b ∷ bs) [] h e = absurd cc
+  each_alike plain (b ∷ bs) (c ∷ cs) h e =
       let first : outcome_of script d.modules b ≡ Done c = cc in
       let rest : map (outcome_of script d.modules) bs ≡ map Done cs = cc in
-      let pass = own_pass d readable none script stage b (h b (inl refl)) c first in
-      (pass.id, pass.instances, each_alike bs cs (λ x i. h x (inr i)) rest)
+      let pass = own_pass d readable none script stage plain b (h b (inl refl)) c first in
+      (pass.id, pass.instances, each_alike plain bs cs (λ x i. h x (inr i)) rest)
+
+  each_alone : flattens script ≡ true → (bs cs : List Module) → ((b : Module) → In b bs → In b d.modules) → map (outcome_of script d.modules) bs ≡ map Done cs → (c : Module) → In c cs → instances c.cells ≡ []
+  each_alone flat [] [] h e n i = absurd i
+  each_alone flat [] (c ∷ cs) h e n i = absurd cc
+  each_alone flat (b ∷ bs) [] h e n i = absurd cc
+  each_alone flat (b ∷ bs) (c ∷ cs) h e n i =
+      let first : outcome_of script d.modules b ≡ Done c = cc in
+      let rest : map (outcome_of script d.modules) bs ≡ map Done cs = cc in
+      ⊎_elim
+      (λ same. ap (λ (m : Module). instances m.cells) same ∙ (outcome_leaves d readable none script flat b (h b (inl refl)) c first).1)
+      (λ j. each_alone flat bs cs (λ x k. h x (inr k)) rest n j)
+      i
 
   pub cold_unrecursive : (n : Design) → IsNetlist (cold script d) n → recursion_faults n.modules ≡ []
-  cold_unrecursive n e =
-      sym (same_recursion d.modules n.modules (each_alike d.modules n.modules (λ b i. i) e))
-      ∙ none_right (flat_map (module_faults everything (design_ports d.modules)) d.modules) (recursion_faults d.modules) none
+  cold_unrecursive n e = by (flattens script) refl
+    where
+      by : (t : Bool) → flattens script ≡ t → recursion_faults n.modules ≡ []
+      by true flat = no_recursion n.modules (each_alone flat d.modules n.modules (λ b i. i) e)
+      by false plain =
+          sym (same_recursion d.modules n.modules (each_alike plain d.modules n.modules (λ b i. i) e))
+          ∙ none_right (flat_map (module_faults everything (design_ports d.modules)) d.modules) (recursion_faults d.modules) none

@@ -27,8 +27,8 @@ use Rattle.proc_steps.proofs.Limits as steps
 use Rattle.tech_map.specs.Techmap.{beside, techmap_of}
 use Rattle.script_core.specs.declared.outcome.Outcome.TheVariants.{Done}
 use Rattle.script_core.specs.declared.word.Word.{Word}
-use Rattle.script_core.specs.declared.word.Word.TheVariants.{Proc, OptExpr, OptMerge, OptClean, Opt, Fsm, Memory, Techmap, Muxtree, Reduce, Dff}
-use Rattle.script_core.specs.Fold.{MayBeGiven, MayGoOn, MayStart, StartsWithProc, after_word, fold_script, pass_of, techmap_within}
+use Rattle.script_core.specs.declared.word.Word.TheVariants.{Proc, OptExpr, OptMerge, OptClean, Opt, Fsm, Memory, Techmap, Muxtree, Reduce, Dff, Flatten}
+use Rattle.script_core.specs.Fold.{AreApplicable, MayBeGiven, MayGoOn, MayStart, StartsWithProc, after_word, fold_words, pass_of, techmap_within}
 use Rattle.script_core.proofs.Stepping.{given_word, word_goes}
 use Rattle.rtl_readable.specs.Readable.{IsReadableModule}
 use Rattle.readable_passes.specs.Named.{IsNamed, NamesMemories}
@@ -123,25 +123,32 @@ word_reads table Techmap m n given names is e = techmap_word table m is n e
 word_reads table Muxtree m n given names is e = reads_same table m is (muxtree_of (table_ports table.modules) m) n (muxtree_reads (table_ports table.modules) m is) e
 word_reads table Reduce m n given names is e = reads_same table m is (reduce_of (table_ports table.modules) m) n (reduce_reads (table_ports table.modules) m is) e
 word_reads table Dff m n given names is e = reads_same table m is (dff_of (table_ports table.modules) m) n (dff_reads (table_ports table.modules) m is) e
+word_reads table Flatten m n given names is e = reads_same table m is m n is e
 
 -- words
 module _ (table : PortTable) where
-  then_reads : (w : Word) (ws : List Word) (m n : Module) → MayBeGiven table w m → NamesMemories m → IsReadableModule m → ((k : Module) → MayGoOn table k → IsReadableModule k → fold_script ws table k ≡ Done n → IsReadableModule n) → fold_script (w ∷ ws) table m ≡ Done n → IsReadableModule n
+  then_reads : (w : Word) (ws : List Word) (m n : Module) → MayBeGiven table w m → NamesMemories m → IsReadableModule m → ((k : Module) → MayGoOn table k → IsReadableModule k → fold_words ws table k ≡ Done n → IsReadableModule n) → fold_words (w ∷ ws) table m ≡ Done n → IsReadableModule n
   then_reads w ws m n given names is rest e = by (pass_of table w m) refl e
     where
-      by : (o : Option Module) → pass_of table w m ≡ o → after_word w (fold_script ws table) o ≡ Done n → IsReadableModule n
+      by : (o : Option Module) → pass_of table w m ≡ o → after_word w (fold_words ws table) o ≡ Done n → IsReadableModule n
       by None f g = absurd cc
       by (Some k) f g = rest k (word_goes table w m k given f).next (word_reads table w m k given names is f) g
 
-  reads_on : (ws : List Word) (m n : Module) → MayGoOn table m → IsReadableModule m → fold_script ws table m ≡ Done n → IsReadableModule n
+  reads_on : (ws : List Word) (m n : Module) → MayGoOn table m → IsReadableModule m → fold_words ws table m ≡ Done n → IsReadableModule n
   reads_on [] m n h is e = let same : m ≡ n = cc in subst IsReadableModule same is
   reads_on (w ∷ ws) m n h is e =
       then_reads w ws m n (given_word table w m h) (unwritten m (plain (table_ports table.modules) m h.ready.faultless).processes) is
       (λ k g reads f. reads_on ws k n g reads f) e
 
--- a script
-pub script_reads : (script : List Word) (table : PortTable) (m n : Module) → StartsWithProc script → MayStart table m → NamesMemories m → IsReadableModule m → fold_script script table m ≡ Done n → IsReadableModule n
+  -- words that may be applied
+  pub reads_applied : (words : List Word) (m n : Module) → AreApplicable words table m → NamesMemories m → IsReadableModule m → fold_words words table m ≡ Done n → IsReadableModule n
+  reads_applied [] m n h names is e = let same : m ≡ n = cc in subst IsReadableModule same is
+  reads_applied (w ∷ ws) m n h names is e =
+      then_reads w ws m n h.0 names is (λ k g reads f. reads_on ws k n g reads f) e
+
+-- words that begin with `proc`
+pub script_reads : (script : List Word) (table : PortTable) (m n : Module) → StartsWithProc script → MayStart table m → NamesMemories m → IsReadableModule m → fold_words script table m ≡ Done n → IsReadableModule n
 script_reads [] table m n stage h names is e = absurd stage
 script_reads (w ∷ ws) table m n stage h names is e =
     then_reads table Proc ws m n (inl h) names is (λ k g reads f. reads_on table ws k n g reads f)
-    (subst (λ (v : Word). fold_script (v ∷ ws) table m ≡ Done n) stage e)
+    (subst (λ (v : Word). fold_words (v ∷ ws) table m ≡ Done n) stage e)

@@ -8,13 +8,13 @@ use Rattle.rtl_ir.specs.declared.module.Design.{Design}
 use Rattle.rtl_ir.specs.Faults.{check_faults}
 use Rattle.rtl_readable.specs.Readable.{IsReadable}
 use Rattle.rtl_ir.specs.declared.module.Module.{Module}
-use Rattle.rtl_ir.specs.Ports.{instances_of, ports_by_module, port_table_of}
+use Rattle.rtl_ir.specs.Ports.{cells_at, instances_of, ports_by_module, port_table_of}
 use Rattle.rtl_write.specs.Text.{body_text}
 use Rattle.net_model.specs.Lists.{In}
 use Rattle.script_core.specs.declared.key.Key.{Key}
 use Rattle.script_core.specs.declared.word.Word.{Word}
 use Rattle.script_core.specs.Built.{IsAcceptedKey}
-use Rattle.script_core.specs.Cold.{table_of}
+use Rattle.script_core.specs.Reached.{table_of}
 use Rattle.script_core.specs.Keys.{body_text_at, key_of}
 
 -- the module at a place of a design, with its table
@@ -24,6 +24,7 @@ pub record IsAt (modules : List Module) (at : ℕ) : Type 0 where
   pub there : slice_get modules at ≡ Some m
   pub body : body_text_at modules at ≡ body_text m
   pub ports : port_table_of modules at ≡ (table_of modules m).modules
+  pub cells : cells_at modules at ≡ m.cells
 
 member_at : (ms : List Module) (at : ℕ) → at < length ms → (m : Module) × In m ms × (slice_get ms at ≡ Some m)
 member_at [] at h = absurd (omega arith)
@@ -39,6 +40,7 @@ module_at modules at h =
       there = found.2;
       body = ap (λ (o : Option Module). unwrap_or (option_map body_text o) []) found.2;
       ports = ap (λ (o : Option Module). map ports_by_module (instances_of modules (unwrap_or (option_map (λ (m : Module). m.cells) o) []))) found.2;
+      cells = ap (λ (o : Option Module). unwrap_or (option_map (λ (m : Module). m.cells) o) []) found.2;
     }
 
 -- each module of a readable design is readable

@@ -1,5 +1,5 @@
 -- A module of an accepted design has no fault over its table of ports either, whatever its name is.
-use Rattle.std.proofs.Common.{◌≡◌, ℕ, ◌+◌, List, [], ◌∷◌, ◌++◌, Bool, true, false, cond, Option, Some, None, Ordering, Less, Equal, Greater, length, inl, inr, refl, sym, ap, subst, ◌∙◌}
+use Rattle.std.proofs.Common.{◌≡◌, ℕ, ◌+◌, ◌≤◌, List, [], ◌∷◌, ◌++◌, Bool, true, false, cond, Option, Some, None, Ordering, Less, Equal, Greater, length, inl, inr, refl, sym, ap, subst, ◌∙◌}
 use Rattle.std.specs.Prelude.{ℤ, map, filter, flat_map, not, ◌&&◌, ◌||◌, ◌==◌}
 use Rattle.std.specs.List.{list_any, range_with_len}
 use Rattle.std.specs.Option.{option_map, option_map_or, is_none}
@@ -20,7 +20,7 @@ use Rattle.rtl_ir.specs.declared.ports.PortLine.{PortLine}
 use Rattle.rtl_ir.specs.declared.process.Process.{Process}
 use Rattle.rtl_ir.specs.declared.store.Store.{Store}
 use Rattle.rtl_ir.specs.declared.wire.Wire.{Wire}
-use Rattle.rtl_ir.specs.Drivers.{Drive, FromCell, drives_of, port_drives, places_by, pin_drives, cell_drives, link_drives, tree_drives, rule_drives}
+use Rattle.rtl_ir.specs.Drivers.{Drive, FromCell, drive_count, drives_of, port_drives, places_by, pin_drives, cell_drives, link_drives, tree_drives, rule_drives}
 use Rattle.rtl_ir.specs.Fault.{Fault, Width, BadParameterOrPort, BadPort, BadProcess, BadMemory, TooWide, UnsupportedCell, Spot, spot, link_spot, fault_if}
 use Rattle.rtl_ir.specs.Faults.{check_faults, module_faults, faults_within}
 use Rattle.rtl_ir.specs.Faults.Bits.{has_two, faults_of_two, bit_faults, bits_faults}
@@ -37,7 +37,7 @@ use Rattle.rtl_ir.specs.Flat.Tree.{named}
 use Rattle.rtl_ir.specs.Outputs.{drives_pin, is_output}
 use Rattle.rtl_ir.specs.Ports.{is_port, place_wire, in_number_order, line_of, ports_of}
 use Rattle.rtl_ir.specs.Rules.{has_item}
-use Rattle.rtl_ir.specs.Scope.{Scope, everything}
+use Rattle.rtl_ir.specs.Scope.{Scope, everything, without_processes}
 use Rattle.rtl_ir.specs.Signals.{has_constant}
 use Rattle.rtl_ir.specs.WritePorts.{write_lines}
 use Rattle.rtl_ir.specs.Types.{Ports, CellType, Library, Instance, Unsupported, Unknown, port_lines, module_named, design_ports, table_ports, port_named, type_by, cell_type}
@@ -45,12 +45,13 @@ use Rattle.rtl_readable.specs.Readable.{IsReadable}
 use Rattle.net_model.specs.Lists.{In, Distinct}
 use Rattle.net_model.specs.Within.{Each}
 use Rattle.net_model.proofs.Members.{In-map, In-mapped}
+use Rattle.pass_laws.specs.Ready.{IsReady}
 use Rattle.pass_laws.proofs.Faultless.{no_faults}
 use Rattle.check_laws.specs.Sound.{IsSoundModule}
 use Rattle.check_laws.proofs.Counting.{none_parts, none_each}
 use Rattle.check_laws.proofs.Named.{ordered_lines, lines_distinct, ports_distinct, port_found}
 use Rattle.check_laws.proofs.Readable.{sound}
-use Rattle.script_core.specs.Cold.{table_of}
+use Rattle.script_core.specs.Reached.{table_of}
 use Rattle.script_core.proofs.Tables.{same_name, table_instance, instantiated}
 use Rattle.rtl_check.proofs.Testing.{bad_same}
 
@@ -185,7 +186,7 @@ module _ (P Q : Ports) where
   drives_over cell (c ∷ cs) h =
       (λ i. pins_over (cell_type P c.kind_name) (cell_type Q c.kind_name) (h c (inl refl)) cell 0 c.pins i ++ drives_over (cell + 1) cs (λ d j. h d (inr j)) i)
 
-  all_over : (m : Module) → AreAlike P Q m.cells → drives_of P m ≡ drives_of Q m
+  pub all_over : (m : Module) → AreAlike P Q m.cells → drives_of P m ≡ drives_of Q m
   all_over m h = ap (λ (z : List Drive). port_drives 0 m.wires ++ z ++ link_drives m.links ++ tree_drives 0 m.processes ++ rule_drives 0 m.processes) (drives_over 0 m.cells h)
 
 -- what is combinational is so over both
@@ -366,6 +367,27 @@ over_others scope P Q m name h e =
     (processes_none scope P Q m name (bad_same P Q m (kinds_alike P Q m.cells h) (drives_over P Q 0 m.cells h)) [] m.processes three.second))
     (links_none m.id name 1 m.links four.second))
     (bits_none m.id name (drives_of Q m) 0 m.wires (ap (λ (ds : List Drive). bits_faults m.id ds 0 m.wires) (sym (all_over P Q m h)) ∙ five.second))
+
+-- an instance of a module that both name, with ports that are found alike; and one of a module that neither names
+pub present_alike : (P Q : Ports) (k : List ℕ) → kind_of k ≡ None → (p q : List PortLine) → P k ≡ Some p → Q k ≡ Some q → ((name : List ℕ) → port_named p name ≡ port_named q name) → Alike (cell_type P k) (cell_type Q k)
+unfolding cell_type
+present_alike P Q k e p q f g same =
+    subst (λ t. Alike t (cell_type Q k)) (λ i. type_by (sym e i) (sym f i) (is_unsupported k))
+    (subst (λ t. Alike (Instance p) t) (λ i. type_by (sym e i) (sym g i) (is_unsupported k)) (SamePorts p q same))
+
+pub absent_alike : (P Q : Ports) (k : List ℕ) → P k ≡ None → Q k ≡ None → Alike (cell_type P k) (cell_type Q k)
+unfolding cell_type
+absent_alike P Q k f g =
+    subst (Alike (cell_type P k)) (ap (λ o. type_by (kind_of k) o (is_unsupported k)) (f ∙ sym g)) (SameType (cell_type P k))
+
+-- a module that a pass may be given may be given to it over ports that are found alike, under any name
+pub ready_over : (P Q : Ports) (m : Module) (name : List ℕ) → AreAlike P Q m.cells → IsReady P m → IsReady Q (record m { id = name })
+ready_over P Q m name h ready = record {
+  faultless = over_others without_processes P Q m name h ready.faultless;
+  named = ready.named;
+  within = record { cells = ready.within.cells; links = ready.within.links; processes = ready.within.processes };
+  once = λ b. subst (λ (ds : List Drive). drive_count ds b ≤ 1) (all_over P Q m h) (ready.once b);
+}
 
 -- so over the ports of its table
 pub faultless_under : (scope : Scope) (d : Design) → IsReadable d → faults_within scope d.modules ≡ [] → (m : Module) → In m d.modules → (name : List ℕ) → module_faults scope (table_ports (table_of d.modules m).modules) (record m { id = name }) ≡ []

@@ -1,18 +1,18 @@
 -- Words one after another.
-use Rattle.std.proofs.Common.{◌≡◌, ℕ, ◌+◌, ◌<◌, ◌≤◌, List, ◌∷◌, length, drop, get_or, Bool, Some, None, Result, Ok, Err, sym, ap, subst, ◌∙◌, add-one, cond}
+use Rattle.std.proofs.Common.{◌≡◌, ℕ, ◌+◌, ◌-◌, ◌<◌, List, ◌∷◌, length, take, drop, get_or, Bool, true, false, Some, None, Result, Ok, Err, sym, ap, subst, ◌∙◌, add-one, arith, cond}
 use Rattle.std.specs.Prelude.{IfOk, OnOk}
 use Rattle.std.proofs.Math.Seq.{drop-cons}
-use Rattle.std.proofs.lemmas.List.{drop_all}
+use Rattle.std.proofs.lemmas.List.{length-drop, take_all}
 use Rattle.rtl_ir.specs.declared.module.Module.{Module}
 use Rattle.rtl_ir.specs.declared.ports.PortTable.{PortTable}
 use Rattle.net_index.specs.declared.builder_fault.PassFault.{PassFault}
 use Rattle.net_index.specs.declared.builder_fault.PassFault.TheVariants as faults
 use Rattle.net_index.specs.Builder.{IsInLimits}
 use Rattle.tech_map.specs.Techmap.{TechmapPassesLimit, beside, techmap_of}
-use Rattle.script_core.specs.declared.outcome.Outcome.TheVariants.{Done, Over}
 use Rattle.script_core.specs.declared.word.Word.{Word}
+use Rattle.script_core.specs.Words.{flattens}
 use Rattle.proc_steps.proofs.Limits.{limits_passed, limits_within}
-use Rattle.script_core.specs.Fold.{techmap_within, pass_of, after_word, fold_script, MayBeGiven, AfterWord, AreApplicable}
+use Rattle.script_core.specs.Fold.{techmap_within, fold_flat, fold_script, fold_words, MayBeGiven, AreApplicable, AreFlatApplicable, IsApplicable}
 
 -- what `techmap` gives
 pub mapped : (m : Module) (r : Result Module PassFault) → IfOk r (λ after. after ≡ techmap_of m) → OnOk r (IsInLimits (beside m)) → IfOk r (λ after. techmap_within m ≡ Some after)
@@ -30,20 +30,21 @@ module _ (words : List Word) (at : ℕ) (d word : Word) (inside : at < length wo
   left : drop at words ≡ word ∷ drop (at + 1) words
   left = words_left words at d word inside is
 
-  -- a word that gave a module
-  pub fold_next : (after : Module) → pass_of table word m ≡ Some after → fold_script (drop at words) table m ≡ fold_script (drop (at + 1) words) table after
-  fold_next after e = ap (λ (ws : List Word). fold_script ws table m) left ∙ ap (after_word word (fold_script (drop (at + 1) words) table)) e
-
-  -- a word that passed a limit
-  pub fold_over : pass_of table word m ≡ None → fold_script (drop at words) table m ≡ Over word
-  fold_over e = ap (λ (ws : List Word). fold_script ws table m) left ∙ ap (after_word word (fold_script (drop (at + 1) words) table)) e
-
   pub applicable_now : AreApplicable (drop at words) table m → MayBeGiven table word m
   applicable_now h = (subst (λ (ws : List Word). AreApplicable ws table m) left h).0
 
-  pub applicable_next : (after : Module) → pass_of table word m ≡ Some after → AreApplicable (drop at words) table m → AreApplicable (drop (at + 1) words) table after
-  applicable_next after e h = subst (AfterWord (AreApplicable (drop (at + 1) words) table)) e (subst (λ (ws : List Word). AreApplicable ws table m) left h).1
+-- a script that does not flatten takes its words one by one
+pub fold_plain : (script : List Word) (table : PortTable) (below : List Module) (m : Module) → flattens script ≡ false → fold_script script table below m ≡ fold_words script table m
+fold_plain script table below m plain = ap (λ (t : Bool). cond t (fold_flat (drop 2 script) table below m) (fold_words script table m)) plain
 
--- no word is left
-pub fold_end : (words : List Word) (at : ℕ) (table : PortTable) (m : Module) → length words ≤ at → fold_script (drop at words) table m ≡ Done m
-fold_end words at table m h = ap (λ (ws : List Word). fold_script ws table m) (drop_all at words h)
+-- what a script may be applied to, by whether it flattens
+module _ (script : List Word) (table : PortTable) (below : List Module) (m : Module) where
+  pub applicable_flat : flattens script ≡ true → IsApplicable script table below m → AreFlatApplicable (drop 2 script) table below m
+  applicable_flat flat h = subst (λ (t : Bool). cond t (AreFlatApplicable (drop 2 script) table below m) (AreApplicable script table m)) flat h
+
+  pub applicable_plain : flattens script ≡ false → IsApplicable script table below m → AreApplicable script table m
+  applicable_plain plain h = subst (λ (t : Bool). cond t (AreFlatApplicable (drop 2 script) table below m) (AreApplicable script table m)) plain h
+
+-- the words after the second one, taken to the last
+pub behind_two : (script : List Word) → take (length script - 2) (drop 2 script) ≡ drop 2 script
+behind_two script = take_all (length script - 2) (drop 2 script) (omega (arith, length-drop 2 script))

@@ -34,7 +34,7 @@ use Rattle.check_laws.proofs.Readable.{sound}
 use Rattle.check_laws.specs.Sound.{IsSoundModule}
 use Rattle.pass_laws.proofs.Agreeing.{agree_sym, driven_agree}
 use Rattle.pass_laws.proofs.Faultless.{no_faults}
-use Rattle.script_core.specs.Cold.{table_of}
+use Rattle.script_core.specs.Reached.{table_of}
 use Rattle.proc_laws.proofs.Taking.{accepted_faultless}
 use Rattle.script_core.specs.Fold.{MayStart}
 use Rattle.sync_laws.specs.Lines.{WritesHaveBits}

@@ -8,7 +8,7 @@ use Rattle.std.proofs.lemmas.List.Elements.{All-head, All-tail}
 use Rattle.rtl_write.proofs.Marks.{Lacks, number_lacks}
 use Rattle.script_core.specs.declared.key.Key.{Key}
 use Rattle.script_core.specs.declared.word.Word.{Word}
-use Rattle.script_core.specs.declared.word.Word.TheVariants.{Proc, OptExpr, OptMerge, OptClean, Opt, Fsm, Memory, Techmap, Muxtree, Reduce, Dff}
+use Rattle.script_core.specs.declared.word.Word.TheVariants.{Proc, OptExpr, OptMerge, OptClean, Opt, Fsm, Memory, Techmap, Muxtree, Reduce, Dff, Flatten}
 use Rattle.script_core.specs.Words.{letter_of}
 use Rattle.script_core.specs.Keys.{part_text, key_text}
 
@@ -63,7 +63,8 @@ word_of n =
     else if n == 116 then Techmap
     else if n == 120 then Muxtree
     else if n == 114 then Reduce
-    else Dff
+    else if n == 100 then Dff
+    else Flatten
 
 word_back : (w : Word) → word_of (letter_of w) ≡ w
 word_back Proc = refl
@@ -77,6 +78,7 @@ word_back Techmap = refl
 word_back Muxtree = refl
 word_back Reduce = refl
 word_back Dff = refl
+word_back Flatten = refl
 
 words_back : (ws : List Word) → map word_of (map letter_of ws) ≡ ws
 words_back [] = refl
@@ -92,19 +94,30 @@ part_short part rest n h =
     let behind = length-append part rest in
     (omega arith, omega arith)
 
-key_parts : (k : Key) → key_text k ≡ part_text k.body ++ (part_text k.ports ++ map letter_of k.script)
+-- what stands behind the ports, and behind the body
+abbrev behind_ports : Key → List ℕ
+behind_ports k = part_text k.below ++ map letter_of k.script
+
+abbrev behind_body : Key → List ℕ
+behind_body k = part_text k.ports ++ behind_ports k
+
+key_parts : (k : Key) → key_text k ≡ part_text k.body ++ behind_body k
 unfolding key_text
-key_parts k = append_assoc (part_text k.body) (part_text k.ports) (map letter_of k.script)
+key_parts k =
+    append_assoc (part_text k.body ++ part_text k.ports) (part_text k.below) (map letter_of k.script)
+    ∙ append_assoc (part_text k.body) (part_text k.ports) (behind_ports k)
 
 -- a text that is shorter than 2 to the 64 is that of one key
 pub key_once : (k o : Key) → length (key_text k) < 2 ^ 64 → key_text o ≡ key_text k → o ≡ k
 key_once k o h e =
-    let k_rest : List ℕ = part_text k.ports ++ map letter_of k.script in
-    let o_rest : List ℕ = part_text o.ports ++ map letter_of o.script in
-    let k_parts = part_short k.body k_rest (2 ^ 64) (subst (λ (l : List ℕ). length l < 2 ^ 64) (key_parts k) h) in
-    let o_parts = part_short o.body o_rest (2 ^ 64) (subst (λ (l : List ℕ). length l < 2 ^ 64) (sym e ∙ key_parts o) h) in
-    let first = part_once o.body k.body o_rest k_rest o_parts.0 k_parts.0 (sym (key_parts o) ∙ e ∙ key_parts k) in
-    let second = part_once o.ports k.ports (map letter_of o.script) (map letter_of k.script)
-    (part_short o.ports (map letter_of o.script) (2 ^ 64) o_parts.1).0 (part_short k.ports (map letter_of k.script) (2 ^ 64) k_parts.1).0 first.1 in
-    let third = words_once o.script k.script second.1 in
-    (λ i. record { body = first.0 i; ports = second.0 i; script = third i })
+    let k_body = part_short k.body (behind_body k) (2 ^ 64) (subst (λ (l : List ℕ). length l < 2 ^ 64) (key_parts k) h) in
+    let o_body = part_short o.body (behind_body o) (2 ^ 64) (subst (λ (l : List ℕ). length l < 2 ^ 64) (sym e ∙ key_parts o) h) in
+    let k_ports = part_short k.ports (behind_ports k) (2 ^ 64) k_body.1 in
+    let o_ports = part_short o.ports (behind_ports o) (2 ^ 64) o_body.1 in
+    let k_below = part_short k.below (map letter_of k.script) (2 ^ 64) k_ports.1 in
+    let o_below = part_short o.below (map letter_of o.script) (2 ^ 64) o_ports.1 in
+    let first = part_once o.body k.body (behind_body o) (behind_body k) o_body.0 k_body.0 (sym (key_parts o) ∙ e ∙ key_parts k) in
+    let second = part_once o.ports k.ports (behind_ports o) (behind_ports k) o_ports.0 k_ports.0 first.1 in
+    let third = part_once o.below k.below (map letter_of o.script) (map letter_of k.script) o_below.0 k_below.0 second.1 in
+    let fourth = words_once o.script k.script third.1 in
+    (λ i. record { body = first.0 i; ports = second.0 i; script = fourth i; below = third.0 i })

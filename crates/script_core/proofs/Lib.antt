@@ -2,6 +2,7 @@ pub mod ScriptLemmas
 pub mod ParseLemmas
 pub mod KeyLemmas
 pub mod FoldLemmas
+pub mod EachProc
 pub mod Tables
 pub mod Faultless
 pub mod BuildLemmas
@@ -12,3 +13,15 @@ pub mod Stepping
 pub mod Renaming
 pub mod Gating
 pub mod Refining
+pub mod BelowReadable
+pub mod BelowTexts
+pub mod Chains
+pub mod Instancing
+pub mod Leading
+pub mod Searches
+pub mod SearchingFinds
+pub mod Unrecursive
+pub mod Under
+pub mod Processed
+pub mod FlatRuns
+pub mod Flattening

@@ -1,7 +1,8 @@
 -- The words of a text, one by one.
 use Rattle.std.proofs.Common.{◌≡◌, ◌≢◌, ℕ, ◌+◌, ◌==◌, ◌<◌, ◌≤◌, Bool, true, false, not, ◌&&◌, ◌||◌, List, [], ◌∷◌, ◌++◌, Option, Some, None, Ok, Err, length, take, drop, get_or, refl, sym, ap, subst, ◌∙◌, arith, cond}
 use Rattle.std.specs.Prelude.{filter_map, slice_get, codes}
-use Rattle.std.specs.List.{cons_option}
+use Rattle.std.specs.List.{cons_option, list_any}
+use Rattle.std.proofs.lemmas.Bool.Decides.{nat_tests}
 use Rattle.std.specs.Option.{is_some, option_map_or}
 use Rattle.std.specs.Str.{bytes_eq}
 use Rattle.std.specs.Iterator.{Yields}
@@ -10,8 +11,8 @@ use Rattle.std.proofs.lemmas.Iterator.Consumers.{YieldsList-turn, YieldsList-end
 use Rattle.std.proofs.lemmas.List.{at_drop_more, at_drop_all, length_push, take_more, take_all}
 use Rattle.std.proofs.lemmas.List.Elements.{filter_map-append}
 use Rattle.script_core.specs.declared.word.Word.{Word}
-use Rattle.script_core.specs.declared.word.Word.TheVariants.{Proc}
-use Rattle.script_core.specs.Words.{IsScript, bad_from, first_bad, is_bad, script_of, word_at, word_of, words_of}
+use Rattle.script_core.specs.declared.word.Word.TheVariants.{Proc, OptExpr, OptMerge, OptClean, Opt, Fsm, Memory, Techmap, Muxtree, Reduce, Dff, Flatten}
+use Rattle.script_core.specs.Words.{IsScript, bad_from, first_bad, is_bad, is_flatten, is_misplaced, script_of, word_at, word_of, words_of}
 
 -- so many words are read: none of them is bad, and what they mean is kept
 pub record AreRead (all : List (List ℕ)) (count : ℕ) (words : List Word) : Type 0 where
@@ -30,34 +31,34 @@ known number s w e = by (is_bad number s) (word_of s) refl e
 
 -- a word that gives none is bad
 unknown : (number : ℕ) (s : List ℕ) → None ≡ word_at number s → is_bad number s ≡ true
-unknown number s e = by (word_of s) ((number == 1) && not (bytes_eq s (codes "proc"))) (number == 65) e
+unknown number s e = by (word_of s) (is_misplaced number s) e
   where
-    by : (o : Option Word) (first last : Bool) → None ≡ cond ((not (is_some o) || first) || last) None o → ((not (is_some o) || first) || last) ≡ true
-    by None first last e = refl
-    by (Some w) true last e = refl
-    by (Some w) false true e = refl
-    by (Some w) false false e = absurd cc
+    by : (o : Option Word) (misplaced : Bool) → None ≡ cond (not (is_some o) || misplaced) None o → (not (is_some o) || misplaced) ≡ true
+    by None misplaced e = refl
+    by (Some w) true e = refl
+    by (Some w) false e = absurd cc
 
 -- a word that is not bad is not the 65th
 not_last : (k : ℕ) (s : List ℕ) → is_bad (k + 1) s ≡ false → k ≢ 64
-not_last k s fine same = by (word_of s) (subst (λ n. is_bad (n + 1) s ≡ false) same fine)
+not_last k s fine same = by (word_of s) (bytes_eq s (codes "flatten")) (subst (λ n. is_bad (n + 1) s ≡ false) same fine)
   where
-    by : (o : Option Word) → ((not (is_some o) || false) || true) ≡ false → ⊥
-    by None e = absurd cc
-    by (Some w) e = absurd cc
+    by : (o : Option Word) (flat : Bool) → (not (is_some o) || (flat || true)) ≡ false → ⊥
+    by None flat e = absurd cc
+    by (Some w) true e = absurd cc
+    by (Some w) false e = absurd cc
 
 -- the first word is `proc`, or bad
 first_good : (s : List ℕ) → is_bad 1 s ≡ false → word_of s ≡ Some Proc
-first_good s e = chosen _ _ _ (by (word_of s) (bytes_eq s (codes "proc")) e)
+first_good s e = chosen _ _ _ (by (word_of s) (bytes_eq s (codes "proc")) (bytes_eq s (codes "flatten")) e)
   where
     chosen : (b : Bool) (o p : Option Word) → b ≡ true → cond b o p ≡ o
     chosen true o p e = refl
     chosen false o p e = absurd cc
 
-    by : (o : Option Word) (b : Bool) → ((not (is_some o) || not b) || false) ≡ false → b ≡ true
-    by None b e = absurd cc
-    by (Some w) true e = refl
-    by (Some w) false e = absurd cc
+    by : (o : Option Word) (b flat : Bool) → (not (is_some o) || ((not b || flat) || false)) ≡ false → b ≡ true
+    by None b flat e = absurd cc
+    by (Some w) true flat e = refl
+    by (Some w) false flat e = absurd cc
 
 -- the words from a place on begin with the word there
 bad_here : (all : List (List ℕ)) (k : ℕ) (s : List ℕ) → (k < length all) × (s ≡ get_or all k s) → bad_from (k + 1) (drop k all) ≡ bad_from (k + 1) (s ∷ drop (k + 1) all)
@@ -116,6 +117,74 @@ few n (s ∷ all) le e =
     by None le = omega (arith, le)
     by (Some w) le = omega (arith, le)
 
+-- a word that is not bad is one
+one : (n : ℕ) (s : List ℕ) → is_bad n s ≡ false → (w : Word) × (word_of s ≡ Some w)
+one n s e = by (word_of s) e
+  where
+    by : (o : Option Word) → (not (is_some o) || is_misplaced n s) ≡ false → (w : Word) × (o ≡ Some w)
+    by None e = absurd cc
+    by (Some w) e = (w, refl)
+
+-- a word that may be there is `flatten`
+abbrev may_flatten : Option Word → Bool
+may_flatten o = option_map_or is_flatten o false
+
+chosen_plain : (b : Bool) (w : Word) (rest : Option Word) → is_flatten w ≡ false → may_flatten rest ≡ false → may_flatten (cond b (Some w) rest) ≡ false
+chosen_plain true w rest e f = e
+chosen_plain false w rest e f = f
+
+-- another spelling is of another word
+plain : (s : List ℕ) → bytes_eq s (codes "flatten") ≡ false → may_flatten (word_of s) ≡ false
+plain s e =
+    chosen_plain (bytes_eq s (codes "proc")) Proc _ refl
+    (chosen_plain (bytes_eq s (codes "opt_expr")) OptExpr _ refl
+    (chosen_plain (bytes_eq s (codes "opt_merge")) OptMerge _ refl
+    (chosen_plain (bytes_eq s (codes "opt_clean")) OptClean _ refl
+    (chosen_plain (bytes_eq s (codes "clean")) OptClean _ refl
+    (chosen_plain (bytes_eq s (codes "opt")) Opt _ refl
+    (chosen_plain (bytes_eq s (codes "fsm")) Fsm _ refl
+    (chosen_plain (bytes_eq s (codes "memory")) Memory _ refl
+    (chosen_plain (bytes_eq s (codes "techmap")) Techmap _ refl
+    (chosen_plain (bytes_eq s (codes "opt_muxtree")) Muxtree _ refl
+    (chosen_plain (bytes_eq s (codes "opt_reduce")) Reduce _ refl
+    (chosen_plain (bytes_eq s (codes "opt_dff")) Dff _ refl
+    (ap (λ (t : Bool). may_flatten (cond t (Some Flatten) None)) e))))))))))))
+
+-- from the third on a word that is not bad is another than `flatten`
+not_flat : (n : ℕ) (s : List ℕ) → 2 < n → is_bad n s ≡ false → may_flatten (word_of s) ≡ false
+not_flat n s late e = plain s (by (word_of s) ((n == 1) && not (bytes_eq s (codes "proc"))) (n == 2) (bytes_eq s (codes "flatten")) (n == 65) third e)
+  where
+    third : (n == 2) ≡ false
+    third = grind (arith, nat_tests)
+
+    by : (o : Option Word) (first second flat last : Bool) → second ≡ false → (not (is_some o) || ((first || (not second && flat)) || last)) ≡ false → flat ≡ false
+    by None first second flat last f e = absurd cc
+    by (Some w) first second false last f e = refl
+    by (Some w) first true true last f e = absurd cc
+    by (Some w) true false true last f e = absurd cc
+    by (Some w) false false true last f e = absurd cc
+
+flat_later : (n : ℕ) (all : List (List ℕ)) → 2 < n → bad_from n all ≡ None → list_any is_flatten (filter_map word_of all) ≡ false
+flat_later n [] late e = refl
+flat_later n (s ∷ all) late e =
+    let at = front n s all e in
+    by (word_of s) (not_flat n s late at.0) (flat_later (n + 1) all (omega (arith, late)) at.1)
+  where
+    by : (o : Option Word) → may_flatten o ≡ false → list_any is_flatten (filter_map word_of all) ≡ false → list_any is_flatten (cons_option o (filter_map word_of all)) ≡ false
+    by None e f = f
+    by (Some w) e f = (λ i. e i || f i)
+
+-- only the second word is `flatten`
+flat_second : (s : List ℕ) (all : List (List ℕ)) → bad_from 1 (s ∷ all) ≡ None → list_any is_flatten (drop 2 (filter_map word_of (s ∷ all))) ≡ false
+flat_second s all e = ap (λ ws. list_any is_flatten (drop 2 ws)) (starts s all e) ∙ by all (front 1 s all e).1
+  where
+    by : (all : List (List ℕ)) → bad_from 2 all ≡ None → list_any is_flatten (drop 1 (filter_map word_of all)) ≡ false
+    by [] e = refl
+    by (t ∷ all) e =
+        let at = front 2 t all e in
+        let w = one 2 t at.0 in
+        ap (λ o. list_any is_flatten (drop 1 (cons_option o (filter_map word_of all)))) w.1 ∙ flat_later 3 all (omega arith) at.1
+
 -- a text without a word
 pub no_script : (text : List ℕ) → bad_from 1 (words_of text) ≡ None → length (filter_map word_of (words_of text)) ≡ 0 → script_of text ≡ Err 1
 no_script text e empty = by (words_of text) e empty
@@ -146,7 +215,11 @@ are_script all words is e some = subst IsScript (sym is) (by all e (subst (λ ws
   where
     by : (all : List (List ℕ)) → bad_from 1 all ≡ None → 0 < length (filter_map word_of all) → IsScript (filter_map word_of all)
     by [] e some = absurd (omega (arith, some))
-    by (s ∷ all) e some = record { first = ap (λ ws. slice_get ws 0) (starts s all e); count = omega (arith, few 0 (s ∷ all) (omega arith) e) }
+    by (s ∷ all) e some = record {
+      first = ap (λ ws. slice_get ws 0) (starts s all e);
+      count = omega (arith, few 0 (s ∷ all) (omega arith) e);
+      flat = flat_second s all e;
+    }
 
 -- a turn of a loop over words, and its end
 pub turn : {S A B : Type 0} {steps : S → Option A → S → Type 0} {v : A → B} {s : S} {all : List B} (xs : List A) (t : S) (y : Yields steps s xs t) → (r : Option A) (u : S) (x : A) → r ≡ Some x → steps t r u → YieldsList steps v s all → (length xs < length all) × (v x ≡ get_or all (length xs) (v x))

@@ -15,13 +15,18 @@ use Rattle.map_laws.specs.Expansion.{cells_added}
 use Rattle.tech_map.proofs.Renaming.{expand_renamed}
 use Rattle.tech_map.specs.Techmap.{taken_kind, with_gates, stand_in, with_all_gates, stand_ins, beside, techmap_of}
 use Rattle.script_core.specs.declared.word.Word as words
-use Rattle.script_core.specs.declared.word.Word.TheVariants.{Proc, OptExpr, OptMerge, OptClean, Opt, Fsm, Memory, Techmap, Muxtree, Reduce, Dff}
+use Rattle.script_core.specs.declared.word.Word.TheVariants.{Proc, OptExpr, OptMerge, OptClean, Opt, Fsm, Memory, Techmap, Muxtree, Reduce, Dff, Flatten}
 use Rattle.script_core.specs.Cold.{named}
 use Rattle.proc_steps.specs.Limits.{is_within}
 use Rattle.fsm_steps.proofs.Renaming.{fsm_renamed}
 use Rattle.mem_steps.proofs.Renaming.{memory_renamed}
 use Rattle.proc_steps.proofs.Renaming.{proc_renamed}
-use Rattle.script_core.specs.Fold.{techmap_within, pass_of, after_word, fold_script}
+use Rattle.flat_pass.proofs.Renaming as flat
+use Rattle.flat_pass.specs.Flat.{flat_of}
+use Rattle.std.specs.Prelude.{drop, option_and_then}
+use Rattle.script_core.specs.declared.outcome.Outcome.{Outcome}
+use Rattle.script_core.specs.Words.{flattens}
+use Rattle.script_core.specs.Fold.{techmap_within, pass_of, after_word, each_proc, fold_flat, fold_script, fold_words}
 
 module _ (id : List ℕ) where
   -- a module under the name, and one that is added to
@@ -84,7 +89,7 @@ module _ (id : List ℕ) where
   unfolding opt_of
   opt_renamed P m = rounds_renamed P 32 m
 
-  pass_renamed : (table : PortTable) (word : words.Word) (m : Module) → pass_of table word (under m) ≡ option_map under (pass_of table word m)
+  pub pass_renamed : (table : PortTable) (word : words.Word) (m : Module) → pass_of table word (under m) ≡ option_map under (pass_of table word m)
   pass_renamed table Proc m = proc_renamed id (table_ports table.modules) m m.processes
   pass_renamed table OptExpr m = refl
   pass_renamed table OptMerge m = refl
@@ -96,11 +101,37 @@ module _ (id : List ℕ) where
   pass_renamed table Muxtree m = refl
   pass_renamed table Reduce m = refl
   pass_renamed table Dff m = refl
+  pass_renamed table Flatten m = refl
 
-  pub fold_renamed : (ws : List words.Word) (table : PortTable) (m : Module) → fold_script ws table (under m) ≡ named id (fold_script ws table m)
-  fold_renamed [] table m = refl
-  fold_renamed (w ∷ ws) table m = ap (after_word w (fold_script ws table)) (pass_renamed table w m) ∙ by (λ n. fold_renamed ws table n) (pass_of table w m)
+  pub words_renamed : (ws : List words.Word) (table : PortTable) (m : Module) → fold_words ws table (under m) ≡ named id (fold_words ws table m)
+  words_renamed [] table m = refl
+  words_renamed (w ∷ ws) table m = ap (after_word w (fold_words ws table)) (pass_renamed table w m) ∙ by (λ n. words_renamed ws table n) (pass_of table w m)
     where
-      by : ((n : Module) → fold_script ws table (under n) ≡ named id (fold_script ws table n)) → (o : Option Module) → after_word w (fold_script ws table) (option_map under o) ≡ named id (after_word w (fold_script ws table) o)
+      by : ((n : Module) → fold_words ws table (under n) ≡ named id (fold_words ws table n)) → (o : Option Module) → after_word w (fold_words ws table) (option_map under o) ≡ named id (after_word w (fold_words ws table) o)
       by ih None = refl
       by ih (Some n) = ih n
+
+  -- `flatten` over modules of `proc`, and what follows it
+  flat_renamed : (ws : List words.Word) (table : PortTable) (below : List Module) (m : Module) → fold_flat ws table below (under m) ≡ named id (fold_flat ws table below m)
+  flat_renamed ws table below m =
+      ap (λ o. after_word Proc rest (option_and_then (λ body. option_map (λ all. (body, all)) (each_proc below below)) o)) (pass_renamed table Proc m)
+      ∙ by (pass_of table Proc m) (each_proc below below)
+    where
+      rest : Module × List Module → Outcome
+      rest r = after_word Flatten (fold_words ws table) (flat_of r.1 r.0)
+
+      behind : (o : Option Module) → after_word Flatten (fold_words ws table) (option_map under o) ≡ named id (after_word Flatten (fold_words ws table) o)
+      behind None = refl
+      behind (Some n) = words_renamed ws table n
+
+      by : (o : Option Module) (a : Option (List Module)) → after_word Proc rest (option_and_then (λ body. option_map (λ all. (body, all)) a) (option_map under o)) ≡ named id (after_word Proc rest (option_and_then (λ body. option_map (λ all. (body, all)) a) o))
+      by None a = refl
+      by (Some body) None = refl
+      by (Some body) (Some all) = ap (after_word Flatten (fold_words ws table)) (flat.flat_renamed id all body) ∙ behind (flat_of all body)
+
+  pub fold_renamed : (script : List words.Word) (table : PortTable) (below : List Module) (m : Module) → fold_script script table below (under m) ≡ named id (fold_script script table below m)
+  fold_renamed script table below m = by (flattens script)
+    where
+      by : (t : Bool) → cond t (fold_flat (drop 2 script) table below (under m)) (fold_words script table (under m)) ≡ named id (cond t (fold_flat (drop 2 script) table below m) (fold_words script table m))
+      by true = flat_renamed (drop 2 script) table below m
+      by false = words_renamed script table m

@@ -38,9 +38,9 @@ use Rattle.tech_map.proofs.Promised.{techmap_passes}
 use Rattle.tech_map.proofs.Standing.{swapped_is}
 use Rattle.script_core.specs.declared.outcome.Outcome.TheVariants.{Done}
 use Rattle.script_core.specs.declared.word.Word.{Word}
-use Rattle.script_core.specs.declared.word.Word.TheVariants.{Proc, OptExpr, OptMerge, OptClean, Opt, Fsm, Memory, Techmap, Muxtree, Reduce, Dff}
+use Rattle.script_core.specs.declared.word.Word.TheVariants.{Proc, OptExpr, OptMerge, OptClean, Opt, Fsm, Memory, Techmap, Muxtree, Reduce, Dff, Flatten}
 use Rattle.script_core.specs.Words.{IsScript}
-use Rattle.script_core.specs.Fold.{pass_of, after_word, fold_script, AfterWord, AreApplicable, StartsWithProc, MayBeGiven, MayGoOn, MayStart}
+use Rattle.script_core.specs.Fold.{pass_of, after_word, fold_words, AfterWord, AreApplicable, StartsWithProc, MayBeGiven, MayGoOn, MayStart}
 use Rattle.proc_steps.specs.Limits.{is_within}
 use Rattle.proc_steps.specs.Steps.{proc_result, proc_within}
 use Rattle.proc_steps.proofs.Limits.{within_limits}
@@ -161,6 +161,7 @@ word_goes table Reduce m n h e =
     goes_to table m (reduce_of (table_ports table.modules) m) n (goes table m _ h (reduce_is_pass table m h.ready) refl) e
 word_goes table Dff m n h e =
     goes_to table m (dff_of (table_ports table.modules) m) n (goes table m _ h (dff_is_pass table m h.ready) refl) e
+word_goes table Flatten m n h e = goes_to table m m n (record { pass = IsPass_refl table m; next = h; stores = inl refl }) e
 word_goes table Techmap m n h e = by (is_within (beside m)) refl e
   where
     by : (t : Bool) → is_within (beside m) ≡ t → cond t (Some (techmap_of m)) None ≡ Some n → GoesOn table m n
@@ -180,6 +181,7 @@ given_word table Techmap m h = h
 given_word table Muxtree m h = h
 given_word table Reduce m h = h
 given_word table Dff m h = h
+given_word table Flatten m h = h
 
 -- words may be applied to a module that may be given to each pass, and make of it what one pass could
 module _ (table : PortTable) where
@@ -190,22 +192,34 @@ module _ (table : PortTable) where
       by None e = tt
       by (Some n) e = rest n (word_goes table w m n given e).next
 
-  applicable_from : (words : List Word) (m : Module) → MayGoOn table m → AreApplicable words table m
+  pub applicable_from : (words : List Word) (m : Module) → MayGoOn table m → AreApplicable words table m
   applicable_from [] m h = tt
   applicable_from (w ∷ ws) m h = (given_word table w m h, behind w ws m (given_word table w m h) (λ n k. applicable_from ws n k))
 
-  then_pass : (w : Word) (ws : List Word) (m n : Module) → MayBeGiven table w m → ((k : Module) → MayGoOn table k → fold_script ws table k ≡ Done n → IsPass table k n) → fold_script (w ∷ ws) table m ≡ Done n → IsPass table m n
+  then_pass : (w : Word) (ws : List Word) (m n : Module) → MayBeGiven table w m → ((k : Module) → MayGoOn table k → fold_words ws table k ≡ Done n → IsPass table k n) → fold_words (w ∷ ws) table m ≡ Done n → IsPass table m n
   then_pass w ws m n given rest e = by (pass_of table w m) refl e
     where
-      by : (o : Option Module) → pass_of table w m ≡ o → after_word w (fold_script ws table) o ≡ Done n → IsPass table m n
+      by : (o : Option Module) → pass_of table w m ≡ o → after_word w (fold_words ws table) o ≡ Done n → IsPass table m n
       by None f g = absurd cc
       by (Some k) f g =
           let first = word_goes table w m k given f in
           IsPass_trans table m k n first.pass (rest k first.next g)
 
-  passes_from : (words : List Word) (m n : Module) → MayGoOn table m → fold_script words table m ≡ Done n → IsPass table m n
+  pub passes_from : (words : List Word) (m n : Module) → MayGoOn table m → fold_words words table m ≡ Done n → IsPass table m n
   passes_from [] m n h e = let same : m ≡ n = cc in subst (IsPass table m) same (IsPass_refl table m)
   passes_from (w ∷ ws) m n h e = then_pass w ws m n (given_word table w m h) (λ k r f. passes_from ws k n r f) e
+
+  -- and may still be given to each pass
+  then_leaves : (w : Word) (ws : List Word) (m n : Module) → MayBeGiven table w m → ((k : Module) → MayGoOn table k → fold_words ws table k ≡ Done n → MayGoOn table n) → fold_words (w ∷ ws) table m ≡ Done n → MayGoOn table n
+  then_leaves w ws m n given rest e = by (pass_of table w m) refl e
+    where
+      by : (o : Option Module) → pass_of table w m ≡ o → after_word w (fold_words ws table) o ≡ Done n → MayGoOn table n
+      by None f g = absurd cc
+      by (Some k) f g = rest k (word_goes table w m k given f).next g
+
+  pub leaves_from : (words : List Word) (m n : Module) → MayGoOn table m → fold_words words table m ≡ Done n → MayGoOn table n
+  leaves_from [] m n h e = let same : m ≡ n = cc in subst (MayGoOn table) same h
+  leaves_from (w ∷ ws) m n h e = then_leaves w ws m n (given_word table w m h) (λ k r f. leaves_from ws k n r f) e
 
 -- a script starts with `proc`
 pub starts : (words : List Word) → IsScript words → StartsWithProc words
@@ -219,7 +233,13 @@ stage_applicable (w ∷ ws) table m is h =
     subst (λ (v : Word). AreApplicable (v ∷ ws) table m) (sym is) (inl h, behind table Proc ws m (inl h) (λ n k. applicable_from table ws n k))
 
 -- what it makes of the module is what one pass could
-pub fold_passes : (script : List Word) (table : PortTable) (m n : Module) → StartsWithProc script → MayStart table m → fold_script script table m ≡ Done n → IsPass table m n
+pub fold_passes : (script : List Word) (table : PortTable) (m n : Module) → StartsWithProc script → MayStart table m → fold_words script table m ≡ Done n → IsPass table m n
 fold_passes [] table m n is h e = absurd is
 fold_passes (w ∷ ws) table m n is h e =
-    then_pass table Proc ws m n (inl h) (λ k r f. passes_from table ws k n r f) (subst (λ (v : Word). fold_script (v ∷ ws) table m ≡ Done n) is e)
+    then_pass table Proc ws m n (inl h) (λ k r f. passes_from table ws k n r f) (subst (λ (v : Word). fold_words (v ∷ ws) table m ≡ Done n) is e)
+
+-- and may be given to each pass
+pub fold_leaves : (script : List Word) (table : PortTable) (m n : Module) → StartsWithProc script → MayStart table m → fold_words script table m ≡ Done n → MayGoOn table n
+fold_leaves [] table m n is h e = absurd is
+fold_leaves (w ∷ ws) table m n is h e =
+    then_leaves table Proc ws m n (inl h) (λ k r f. leaves_from table ws k n r f) (subst (λ (v : Word). fold_words (v ∷ ws) table m ≡ Done n) is e)

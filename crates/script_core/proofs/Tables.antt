@@ -19,7 +19,7 @@ use Rattle.rtl_ir.specs.Ports.{place_module, in_name_order, is_library_cell, ins
 use Rattle.rtl_ir.specs.Types.{table_ports}
 use Rattle.net_model.specs.Lists.{In}
 use Rattle.net_model.specs.Refine.{AgreeOn}
-use Rattle.script_core.specs.Cold.{table_of}
+use Rattle.script_core.specs.Reached.{table_of}
 
 -- equal names
 pub same_name : (x y : List ℕ) → bytes_eq x y ≡ true → x ≡ y

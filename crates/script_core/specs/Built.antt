@@ -6,7 +6,7 @@ use Rattle.rtl_ir.specs.declared.ports.PortTable.{PortTable}
 use Rattle.rtl_ir.specs.Faults.{check_faults}
 use Rattle.rtl_readable.specs.Readable.{IsReadable, IsReadableModule}
 use Rattle.rtl_write.specs.PortTables.{ArePorts}
-use Rattle.rtl_write.specs.Text.{body_text}
+use Rattle.rtl_write.specs.Text.{body_text, text_of}
 use Rattle.rtl_write.specs.Ports.{ports_text}
 use Rattle.script_core.specs.declared.key.Key.{Key}
 use Rattle.script_core.specs.declared.outcome.Outcome.{Outcome}
@@ -21,11 +21,13 @@ body_name = 92 ∷ 109 ∷ []
 abbrev pub unnamed : Module → Module
 unnamed m = record m { id = body_name }
 
--- an outcome is the value of a key: what the key's script makes of each module and table of ports whose texts are the key's
+-- an outcome is the value of a key: what the key's script makes of each module, table of ports and modules that are reached whose
+-- texts are the key's
 pub record IsValueOf (key : Key) (outcome : Outcome) : Type 0 where
   pub value :
-      (m : Module) (table : PortTable) → IsReadableModule m → m.id ≡ body_name → ArePorts table →
-      body_text m ≡ key.body → ports_text table ≡ key.ports → outcome ≡ fold_script key.script table m
+      (m : Module) (table : PortTable) (below : List Module) → IsReadableModule m → m.id ≡ body_name → ArePorts table →
+      IsReadable (record { modules = below }) → body_text m ≡ key.body → ports_text table ≡ key.ports →
+      text_of (record { modules = below }) ≡ key.below → outcome ≡ fold_script key.script table below m
 
 -- the key is that of a module of a design that a text can give and that has no fault
 pub record IsAcceptedKey (key : Key) : Type 0 where

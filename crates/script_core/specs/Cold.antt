@@ -2,26 +2,22 @@
 use Rattle.std.specs.Prelude.{◌≡◌, ℕ, List, map}
 use Rattle.rtl_ir.specs.declared.module.Design.{Design}
 use Rattle.rtl_ir.specs.declared.module.Module.{Module}
-use Rattle.rtl_ir.specs.declared.ports.PortTable.{PortTable}
-use Rattle.rtl_ir.specs.Ports.{instances_of, ports_by_module}
 use Rattle.script_core.specs.declared.outcome.Outcome.{Outcome}
 use Rattle.script_core.specs.declared.outcome.Outcome.TheVariants.{Done, Over}
 use Rattle.script_core.specs.declared.word.Word.{Word}
 use Rattle.script_core.specs.Built.{unnamed}
 use Rattle.script_core.specs.Fold.{fold_script}
+use Rattle.script_core.specs.Reached.{below_of, table_of}
 
 -- an outcome under a name
 abbrev pub named : List ℕ → Outcome → Outcome
 named id (Done m) = Done (record m { id = id })
 named id (Over word) = Over word
 
--- the ports of the modules of a list that a module instantiates
-abbrev pub table_of : List Module → Module → PortTable
-table_of modules m = record { modules = map ports_by_module (instances_of modules m.cells) }
-
 -- the outcome of a module of a list: that of its body, with its own name put back
 abbrev pub outcome_of : List Word → List Module → Module → Outcome
-outcome_of script modules m = named m.id (fold_script script (table_of modules m) (unnamed m))
+outcome_of script modules m =
+    named m.id (fold_script script (table_of modules m) (below_of script modules m.cells) (unnamed m))
 
 -- the cold run of a script over a design: the outcome of each module, in order
 abbrev pub cold : List Word → Design → List Outcome

@@ -1,4 +1,6 @@
 pub mod Words
+pub mod Reached
+pub mod Searching
 pub mod Keys
 pub mod Fold
 pub mod Built

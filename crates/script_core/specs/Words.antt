@@ -1,15 +1,26 @@
 -- The words of scripts.
-use Rattle.std.specs.Prelude.{◌≡◌, ◌≤◌, ◌+◌, ◌==◌, ℕ, Bool, not, ◌&&◌, ◌||◌, List, [], ◌∷◌, codes, filter, filter_map, length, slice_get, Option, Some, None, Result, Ok, Err, if◌then◌else◌}
-use Rattle.std.specs.List.{slice_split}
+use Rattle.std.specs.Prelude.{◌≡◌, ◌≤◌, ◌+◌, ◌==◌, ℕ, Bool, true, false, not, ◌&&◌, ◌||◌, List, [], ◌∷◌, codes, drop, filter, filter_map, length, slice_get, Option, Some, None, Result, Ok, Err, if◌then◌else◌}
+use Rattle.std.specs.List.{list_any, slice_split}
 use Rattle.std.specs.Option.{is_some, option_map_or}
 use Rattle.std.specs.Str.{bytes_eq}
 use Rattle.script_core.specs.declared.word.Word.{Word}
-use Rattle.script_core.specs.declared.word.Word.TheVariants.{Proc, OptExpr, OptMerge, OptClean, Opt, Fsm, Memory, Techmap, Muxtree, Reduce, Dff}
+use Rattle.script_core.specs.declared.word.Word.TheVariants.{Proc, OptExpr, OptMerge, OptClean, Opt, Fsm, Memory, Techmap, Muxtree, Reduce, Dff, Flatten}
 
--- a script has at most 64 words, and the first is `proc`
+-- a word is `flatten`
+abbrev pub is_flatten : Word → Bool
+is_flatten Flatten = true
+is_flatten word = false
+
+-- the second word is `flatten`
+abbrev pub flattens : List Word → Bool
+flattens [] = false
+flattens (first ∷ words) = option_map_or is_flatten (slice_get words 0) false
+
+-- a script has at most 64 words, the first is `proc`, and `flatten` is no other word than the second
 pub record IsScript (words : List Word) : Type 0 where
   pub first : slice_get words 0 ≡ Some Proc
   pub count : length words ≤ 64
+  pub flat : list_any is_flatten (drop 2 words) ≡ false
 
 -- the default script
 abbrev pub default_script : List Word
@@ -30,6 +41,7 @@ word_of spelling =
     else if bytes_eq spelling (codes "opt_muxtree") then Some Muxtree
     else if bytes_eq spelling (codes "opt_reduce") then Some Reduce
     else if bytes_eq spelling (codes "opt_dff") then Some Dff
+    else if bytes_eq spelling (codes "flatten") then Some Flatten
     else None
 
 -- a space, a tab or a semicolon
@@ -40,9 +52,15 @@ is_separator byte = (byte == 32) || (byte == 9) || (byte == 59)
 abbrev pub words_of : List ℕ → List (List ℕ)
 words_of text = filter (λ word. not (length word == 0)) (slice_split is_separator text)
 
--- the word with this number, from 1, is bad: it is unknown, or the first and not `proc`, or the 65th
+-- the word with this number, from 1, is at a place that is not its own: it is the first and not `proc`, or `flatten` and not the
+-- second, or the 65th
+abbrev pub is_misplaced : ℕ → List ℕ → Bool
+is_misplaced number word =
+    ((number == 1) && not (bytes_eq word (codes "proc"))) || (not (number == 2) && bytes_eq word (codes "flatten")) || (number == 65)
+
+-- the word with this number is bad: it is unknown, or misplaced
 abbrev pub is_bad : ℕ → List ℕ → Bool
-is_bad number word = not (is_some (word_of word)) || ((number == 1) && not (bytes_eq word (codes "proc"))) || (number == 65)
+is_bad number word = not (is_some (word_of word)) || is_misplaced number word
 
 -- the word with this number, where it is not bad
 abbrev pub word_at : ℕ → List ℕ → Option Word
@@ -75,6 +93,7 @@ spelling_of Techmap = codes "techmap"
 spelling_of Muxtree = codes "opt_muxtree"
 spelling_of Reduce = codes "opt_reduce"
 spelling_of Dff = codes "opt_dff"
+spelling_of Flatten = codes "flatten"
 
 -- the letter that stands for a word in the text of a key
 abbrev pub letter_of : Word → ℕ
@@ -89,3 +108,4 @@ letter_of Techmap = 116
 letter_of Muxtree = 120
 letter_of Reduce = 114
 letter_of Dff = 100
+letter_of Flatten = 108

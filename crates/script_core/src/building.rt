@@ -1,24 +1,29 @@
 //! Builds.
 
-ghost use Rattle.std.specs.Prelude.{◌≡◌, ◌<◌, IfOk, Some, length, slice_get};
+ghost use Rattle.std.specs.Prelude.{◌≡◌, ◌<◌, IfOk, Some, length, map, slice_get};
 ghost use Rattle.rtl_bits.specs.Counts.{risen};
+ghost use Rattle.rtl_ir.specs.declared.module.Design.{Design};
 ghost use Rattle.rtl_ir.specs.declared.module.Module.{Module};
 ghost use Rattle.rtl_ir.specs.declared.ports.PortTable.{PortTable};
 ghost use Rattle.rtl_write.specs.Ports.{ports_text};
 ghost use Rattle.rtl_write.specs.PortTables.{ArePorts};
 ghost use Rattle.rtl_readable.specs.Readable.{IsReadable, IsReadableModule};
-ghost use Rattle.rtl_write.specs.Text.{body_text};
+ghost use Rattle.rtl_write.specs.Text.{body_text, text_of};
 ghost use Rattle.script_core.specs.Built.{IsAcceptedKey, IsValueOf, unnamed};
+ghost use Rattle.rtl_ir.specs.Ports.{cells_at};
 ghost use Rattle.script_core.specs.Keys.{key_of};
+ghost use Rattle.script_core.specs.Reached.{below_of};
 
 use crate::built::Built;
 use crate::fold::fold;
 use crate::key::{Key, key_by};
+use crate::key_table::KeyTable;
 use crate::outcome::Outcome;
 use crate::script::Script;
-use rtl_bits::{Copied, Memory, Steps, Text};
+use rtl_bits::{Copied, Memory, Seq, Steps, Text};
 use rtl_check::Checked;
-use rtl_ir::{DesignPorts, Module, PortTable};
+use rtl_ir::{Design, Module, PortTable};
+use rtl_read::read;
 use rtl_write::{read_body, read_ports};
 use std::alloc::Global;
 
@@ -41,6 +46,17 @@ fn ports_of(alloc: Global, ports: &Text) -> Result<PortTable, Memory>
     read_ports(alloc, ports.as_slice())
 }
 
+/// The modules of this text. A text that gives none, which no accepted key has, is taken for want of memory.
+fn modules_of(alloc: Global, below: &Text) -> Result<Design, Memory>
+    ensures round_trip { (design : Design) → IsReadable design → below.now ≡ text_of design →
+        IfOk result (λ read. read ≡ design) }
+{
+    match read(alloc, below.as_slice()) {
+        Ok(design) => Ok(design),
+        Err(_) => Err(Memory),
+    }
+}
+
 /// What the passes of the key's script make of the key's module.
 fn outcome_of(alloc: Global, key: &Key) -> Result<Outcome, Memory>
     requires accepted { IsAcceptedKey key.now }
@@ -48,7 +64,8 @@ fn outcome_of(alloc: Global, key: &Key) -> Result<Outcome, Memory>
 {
     let module = module_of(alloc, &key.body)?;
     let ports = ports_of(alloc, &key.ports)?;
-    fold(alloc, key.script.as_slice(), module, &ports)
+    let below = modules_of(alloc, &key.below)?;
+    fold(alloc, &key.script, module, &ports, &below)
 }
 
 /// Builds the key: its module, read of its texts, is given to the passes of its script, in order. The module
@@ -75,11 +92,35 @@ fn body_at(alloc: Global, design: &Checked, module: u32) -> Result<Module, Memor
     Ok(body)
 }
 
+/// Copies of these modules.
+fn copies(alloc: Global, modules: &[&Module]) -> Result<Design, Memory>
+    ensures value { IfOk result (λ copies. copies.modules ≡ map (λ m. m.now) modules.now) }
+{
+    let mut all = Seq::make(alloc);
+    for module in modules {
+        all.push(module.copy()?)?;
+    }
+    Ok(Design { modules: all })
+}
+
+/// Copies of the modules that the module at this place reaches, where the script flattens, else none.
+fn below_at(alloc: Global, table: &KeyTable, module: u32, script: &Script) -> Result<Design, Memory>
+    requires in_range { «module» < length table.now.modules.now }
+    ensures value { IfOk result (λ below. below.modules ≡
+        below_of script.now table.now.modules.now (cells_at table.now.modules.now «module»)) }
+{
+    if script.flattens() {
+        copies(alloc, table.reached(alloc, module)?.as_slice())
+    } else {
+        copies(alloc, &[])
+    }
+}
+
 /// What the passes of the script make of the module at this place.
 fn outcome_at(
     alloc: Global,
     design: &Checked,
-    table: &DesignPorts,
+    table: &KeyTable,
     module: u32,
     script: &Script,
 ) -> Result<Outcome, Memory>
@@ -90,8 +131,9 @@ fn outcome_at(
         IsValueOf (key_of design.now.design.modules «module» script.now) outcome) }
 {
     let body = body_at(alloc, design, module)?;
-    let ports = table.table_of(alloc, module)?;
-    fold(alloc, script.as_slice(), body, &ports)
+    let ports = table.ports_of(alloc, module)?;
+    let below = below_at(alloc, table, module, script)?;
+    fold(alloc, script, body, &ports, &below)
 }
 
 /// Builds the key of the module at this place of the design, under the script. The module is copied and no text of it is
@@ -100,7 +142,7 @@ fn outcome_at(
 pub fn build_by<L>(
     alloc: Global,
     design: &Checked,
-    table: &DesignPorts,
+    table: &KeyTable,
     module: u32,
     script: &Script,
     meter: &mut Steps<L>,

@@ -1,14 +1,33 @@
 //! The passes of a script, in order.
 
 ghost use Rattle.std.specs.Prelude.{◌≡◌, Err, IfOk, None, Some};
-ghost use Rattle.script_core.specs.Fold.{AreApplicable, MayBeGiven, fold_script, pass_of, techmap_within};
-ghost use Rattle.script_core.specs.declared.word.Word.TheVariants.{Proc, Techmap};
+ghost use Rattle.flat_pass.specs.Flat.{flat_of};
+ghost use Rattle.script_core.specs.Fold.{
+  AfterWord,
+  AreApplicable,
+  AreFlatApplicable,
+  IsApplicable,
+  MayBeGiven,
+  MayEachStart,
+  after_word,
+  all_proc,
+  each_proc,
+  fold_flat,
+  fold_script,
+  fold_words,
+  pass_of,
+  techmap_within,
+};
+ghost use Rattle.script_core.specs.Words.{IsScript};
+ghost use Rattle.script_core.specs.declared.word.Word.TheVariants.{Flatten, Proc, Techmap};
 
 use crate::outcome::Outcome;
+use crate::script::Script;
 use crate::word::Word;
+use flat_pass::flatten;
 use net_index::PassFault;
-use rtl_bits::Memory;
-use rtl_ir::{Module, PortTable};
+use rtl_bits::{Copied, Memory, Seq};
+use rtl_ir::{Design, DesignPorts, Module, PortTable};
 use std::alloc::Global;
 
 /// The module without processes. `Over` where what stands for them would pass a limit.
@@ -50,21 +69,23 @@ fn pass(alloc: Global, word: Word, module: Module, ports: &PortTable) -> Result<
         Word::Muxtree => Ok(opt_more::muxtree(alloc, &module, ports)?),
         Word::Reduce => Ok(opt_more::reduce(alloc, &module, ports)?),
         Word::Dff => Ok(opt_more::dff(alloc, &module, ports)?),
+        // It acts in scripts that flatten, as the second word.
+        Word::Flatten => Ok(module),
     }
 }
 
 /// What the words make of the module, in order, up to the first word whose result would pass a limit.
-pub(crate) fn fold(
+fn fold_words(
     alloc: Global,
-    script: &[Word],
+    words: &[Word],
     module: Module,
     ports: &PortTable,
 ) -> Result<Outcome, Memory>
-    requires applicable { AreApplicable script.now ports.now «module» }
-    ensures exact { IfOk result (λ outcome. outcome ≡ fold_script script.now ports.now «module») }
+    requires applicable { AreApplicable words.now ports.now «module» }
+    ensures exact { IfOk result (λ outcome. outcome ≡ fold_words words.now ports.now «module») }
 {
     let mut module = module;
-    for word in script {
+    for word in words {
         match pass(alloc, *word, module, ports) {
             Ok(after) => module = after,
             Err(PassFault::Over) => return Ok(Outcome::Over(*word)),
@@ -72,4 +93,96 @@ pub(crate) fn fold(
         }
     }
     Ok(Outcome::Done(module))
+}
+
+/// Each of the modules without processes. `Over` where what stands for those of one would pass a limit.
+fn each_without_processes(alloc: Global, design: &Design) -> Result<Seq<Module>, PassFault>
+    requires ready { MayEachStart design.now.modules }
+    ensures exact { IfOk result (λ all. each_proc design.now.modules design.now.modules ≡ Some all) }
+    ensures over { result ≡ Err PassFault.Over → each_proc design.now.modules design.now.modules ≡ None }
+{
+    let tables = DesignPorts::of(alloc, design)?;
+    let modules = design.modules.as_slice();
+    let mut all = Seq::make(alloc);
+    for at in 0..modules.len() {
+        let place = u32::try_from(at).ok().ok_or(Memory)?;
+        let ports = tables.table_of(alloc, place)?;
+        let module = modules[at].copy()?;
+        let after = without_processes(alloc, module, &ports)?;
+        all.push(after)?;
+    }
+    Ok(all)
+}
+
+/// The module and each of those that it reaches without processes. `Over` where one would pass a limit.
+fn all_without_processes(
+    alloc: Global,
+    module: Module,
+    ports: &PortTable,
+    below: &Design,
+) -> Result<(Module, Seq<Module>), PassFault>
+    requires given { MayBeGiven ports.now Proc «module» }
+    requires below { MayEachStart below.now.modules }
+    ensures exact { IfOk result (λ all. all_proc ports.now below.now.modules «module» ≡ Some all) }
+    ensures over { result ≡ Err PassFault.Over → all_proc ports.now below.now.modules «module» ≡ None }
+{
+    let body = without_processes(alloc, module, ports)?;
+    let all = each_without_processes(alloc, below)?;
+    Ok((body, all))
+}
+
+/// What `flatten` and the words after it make of a module without processes, over those that it reaches.
+fn flatten_and_fold(
+    alloc: Global,
+    words: &[Word],
+    body: &Module,
+    ports: &PortTable,
+    all: &[Module],
+) -> Result<Outcome, Memory>
+    requires applicable { AfterWord (AreApplicable words.now ports.now) (flat_of all.now body.now) }
+    ensures exact { IfOk result (λ outcome.
+        outcome ≡ after_word Flatten (fold_words words.now ports.now) (flat_of all.now body.now)) }
+{
+    match flatten(alloc, body, all) {
+        Ok(flat) => fold_words(alloc, words, flat, ports),
+        Err(PassFault::Over) => Ok(Outcome::Over(Word::Flatten)),
+        Err(PassFault::Memory) => Err(Memory),
+    }
+}
+
+/// What `proc`, `flatten` and then the words make of the module, over those that it reaches.
+fn fold_flat(
+    alloc: Global,
+    words: &[Word],
+    module: Module,
+    ports: &PortTable,
+    below: &Design,
+) -> Result<Outcome, Memory>
+    requires applicable { AreFlatApplicable words.now ports.now below.now.modules «module» }
+    ensures exact { IfOk result (λ outcome. outcome ≡ fold_flat words.now ports.now below.now.modules «module») }
+{
+    match all_without_processes(alloc, module, ports, below) {
+        Ok((body, all)) => flatten_and_fold(alloc, words, &body, ports, all.as_slice()),
+        Err(PassFault::Over) => Ok(Outcome::Over(Word::Proc)),
+        Err(PassFault::Memory) => Err(Memory),
+    }
+}
+
+/// What a script makes of the module, over the ports of those that it instantiates and, where the script flattens, over
+/// those that it reaches.
+pub(crate) fn fold(
+    alloc: Global,
+    script: &Script,
+    module: Module,
+    ports: &PortTable,
+    below: &Design,
+) -> Result<Outcome, Memory>
+    requires applicable { IsScript script.now → IsApplicable script.now ports.now below.now.modules «module» }
+    ensures exact { IfOk result (λ outcome. outcome ≡ fold_script script.now ports.now below.now.modules «module») }
+{
+    if script.flattens() {
+        fold_flat(alloc, &script.as_slice()[2..], module, ports, below)
+    } else {
+        fold_words(alloc, script.as_slice(), module, ports)
+    }
 }

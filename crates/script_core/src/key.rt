@@ -2,27 +2,32 @@
 
 ghost use Rattle.std.specs.Prelude.{◌≡◌, ◌<◌, ◌^◌, ◌++◌, IfOk, OnOk, length, map};
 ghost use Rattle.rtl_ir.specs.Faults.{faults_within};
+ghost use Rattle.rtl_write.specs.Text.{text_of};
 ghost use Rattle.rtl_readable.specs.Readable.{IsReadable};
 ghost use Rattle.script_core.specs.declared.key.Key.{Key};
 ghost use Rattle.script_core.specs.Built.{IsAcceptedKey};
-ghost use Rattle.script_core.specs.Keys.{key_of, key_text, part_text};
+ghost use Rattle.script_core.specs.Keys.{below_text_at, key_of, key_text, part_text};
 ghost use Rattle.script_core.specs.Words.{letter_of};
 
+use crate::key_table::KeyTable;
 use crate::script::Script;
 use crate::word::Word;
 use rtl_bits::{Copied, Memory, Text};
 use rtl_check::Checked;
-use rtl_ir::{Design, DesignPorts};
-use rtl_write::{body_text, ports_text};
+use rtl_ir::{Design, Module};
+use rtl_write::{body_text, module_text, ports_text};
 use std::alloc::Global;
 
 /// All that the result of a script over a module depends on: the text of the module without its name, the
-/// text of the ports of the modules that it instantiates, and the script.
+/// text of the ports of the modules that it instantiates, the script, and where that flattens the text of the modules
+/// that it reaches, in order of their names.
 #[derive(Drop)]
 pub struct Key {
     pub body: Text,
     pub ports: Text,
     pub script: Script,
+    /// Empty where the script does not flatten.
+    pub below: Text,
 }
 
 impl Copied for Key {
@@ -31,6 +36,7 @@ impl Copied for Key {
             body: self.body.copy()?,
             ports: self.ports.copy()?,
             script: self.script.copy()?,
+            below: self.below.copy()?,
         })
     }
 }
@@ -42,7 +48,7 @@ pub fn key_of(alloc: Global, design: &Checked, module: u32, script: &Script) -> 
     ensures exact { IfOk result (λ key. key ≡ key_of design.now.design.modules «module» script.now) }
     ensures accepted { IsReadable design.now.design → IfOk result IsAcceptedKey }
 {
-    let table = DesignPorts::of(alloc, design.design())?;
+    let table = KeyTable::of(alloc, design.design())?;
     key_by(alloc, design, &table, module, script)
 }
 
@@ -50,7 +56,7 @@ pub fn key_of(alloc: Global, design: &Checked, module: u32, script: &Script) -> 
 pub fn key_by(
     alloc: Global,
     design: &Checked,
-    table: &DesignPorts,
+    table: &KeyTable,
     module: u32,
     script: &Script,
 ) -> Result<Key, Memory>
@@ -66,7 +72,7 @@ pub fn key_by(
 fn key_in(
     alloc: Global,
     design: &Design,
-    table: &DesignPorts,
+    table: &KeyTable,
     module: u32,
     script: &Script,
 ) -> Result<Key, Memory>
@@ -74,12 +80,41 @@ fn key_in(
     requires table { table.now.modules.now ≡ design.now.modules }
     ensures exact { IfOk result (λ key. key ≡ key_of design.now.modules «module» script.now) }
 {
-    let ports = table.table_of(alloc, module)?;
+    let ports = table.ports_of(alloc, module)?;
     Ok(Key {
         body: body_text(alloc, &design.modules.as_slice()[module as usize])?,
         ports: ports_text(alloc, &ports)?,
         script: script.copy()?,
+        below: below_text(alloc, table, module, script)?,
     })
+}
+
+/// The text of the modules that the module at this place reaches, where the script flattens, else no text.
+pub fn below_text(
+    alloc: Global,
+    table: &KeyTable,
+    module: u32,
+    script: &Script,
+) -> Result<Text, Memory>
+    requires in_range { «module» < length table.now.modules.now }
+    ensures exact { IfOk result (λ text. text ≡ below_text_at script.now table.now.modules.now «module») }
+{
+    if script.flattens() {
+        modules_text(alloc, table.reached(alloc, module)?.as_slice())
+    } else {
+        Ok(Text::make(alloc))
+    }
+}
+
+/// The text of these modules, one after another.
+fn modules_text(alloc: Global, modules: &[&Module]) -> Result<Text, Memory>
+    ensures exact { IfOk result (λ text. text ≡ text_of (record { modules = map (λ m. m.now) modules.now })) }
+{
+    let mut out = Text::make(alloc);
+    for module in modules {
+        out.extend(module_text(alloc, module)?.as_slice())?;
+    }
+    Ok(out)
 }
 
 /// Writes how long a part is, and the part.
@@ -123,6 +158,7 @@ impl Key {
         let mut out = Text::make(alloc);
         put_part(&mut out, self.body.as_slice())?;
         put_part(&mut out, self.ports.as_slice())?;
+        put_part(&mut out, self.below.as_slice())?;
         put_words(&mut out, self.script.as_slice())?;
         Ok(whole(out))
     }

@@ -1,6 +1,6 @@
 //! Laws of tables of ports, of builds and of cold runs. Each is the contract of a function that does nothing.
 
-ghost use Rattle.std.specs.Prelude.{◌≡◌, ℕ, List, [], Some, slice_get, true};
+ghost use Rattle.std.specs.Prelude.{◌≡◌, ℕ, List, [], Some, false, slice_get, true};
 ghost use Rattle.rtl_ir.specs.declared.module.Design.{Design};
 ghost use Rattle.rtl_ir.specs.declared.module.Module.{Module};
 ghost use Rattle.rtl_ir.specs.declared.ports.PortTable.{PortTable};
@@ -10,12 +10,14 @@ ghost use Rattle.rtl_ir.specs.Flat.Tree.{design_ports, table_ports};
 ghost use Rattle.rtl_readable.specs.Readable.{IsReadable};
 ghost use Rattle.net_model.specs.Gates.{is_gate_netlist};
 ghost use Rattle.net_model.specs.Lists.{In};
-ghost use Rattle.net_model.specs.Refine.{AgreeOn, Refines, RefinesIn};
+ghost use Rattle.net_model.specs.Refine.{AgreeOn, ModuleBelow, Refines, RefinesIn};
 ghost use Rattle.script_core.specs.declared.outcome.Outcome.{Outcome};
 ghost use Rattle.script_core.specs.declared.outcome.Outcome.TheVariants.{Done};
 ghost use Rattle.script_core.specs.declared.word.Word.{Word};
 ghost use Rattle.script_core.specs.Built.{IsValueOf, unnamed};
-ghost use Rattle.script_core.specs.Cold.{IsNetlist, cold, named, outcome_of, table_of};
+ghost use Rattle.script_core.specs.Cold.{IsNetlist, cold, named, outcome_of};
+ghost use Rattle.script_core.specs.Reached.{table_of};
+ghost use Rattle.script_core.specs.Words.{flattens};
 ghost use Rattle.script_core.specs.Fold.{StartsWithProc, MayStart, fold_script};
 ghost use Rattle.script_core.specs.Keys.{key_of};
 ghost use Rattle.script_core.specs.Mapping.{maps_all};
@@ -32,8 +34,8 @@ pub fn tables_have_the_ports()
 /// No pass looks at the name of a module: what a script makes of it under a name is what it makes of it
 /// otherwise, under that name.
 pub fn folds_keep_names()
-    ensures { (script : List Word) (table : PortTable) (m : Module) (id : List ℕ) →
-        fold_script script table (record m { id = id }) ≡ named id (fold_script script table m) }
+    ensures { (script : List Word) (table : PortTable) (below : List Module) (m : Module) (id : List ℕ) →
+        fold_script script table below (record m { id = id }) ≡ named id (fold_script script table below m) }
 {}
 
 /// The value of the key of a module is the module's outcome in the cold run, once it has its own name.
@@ -44,12 +46,18 @@ pub fn values_are_outcomes()
 {}
 
 /// Where the value of the key of a module of an accepted design is a module, this refines it, under every
-/// name that both have.
+/// name that both have, over the ports of the modules that it instantiates. Where the script flattens, no known output
+/// bit of the module in its design is lost in whatever design the value stands, under the module's own name.
 pub fn build_refines()
-    ensures { (d : Design) (at : ℕ) (before after : Module) (script : List Word) →
+    ensures ports { (d : Design) (at : ℕ) (before after : Module) (script : List Word) →
         IsReadable d → check_faults d.modules ≡ [] → slice_get d.modules at ≡ Some before → StartsWithProc script →
-        IsValueOf (key_of d.modules at script) (Done after) → (name : List ℕ) →
+        flattens script ≡ false → IsValueOf (key_of d.modules at script) (Done after) → (name : List ℕ) →
         RefinesIn (record before { id = name }) (record after { id = name }) (table_of d.modules before) }
+    ensures below { (d netlist : Design) (at : ℕ) (before after : Module) (script : List Word) →
+        IsReadable d → check_faults d.modules ≡ [] → slice_get d.modules at ≡ Some before →
+        flattens script ≡ true → IsValueOf (key_of d.modules at script) (Done after) →
+        In (record after { id = before.id }) netlist.modules →
+        ModuleBelow d netlist before (record after { id = before.id }) }
 {}
 
 /// Where the cold run of an accepted design is a netlist, this refines the design.

@@ -1,7 +1,7 @@
 //! Scripts, read of their texts.
 
 ghost use Rattle.std.specs.Prelude.{◌≡◌, ℕ, Err, IfOk, None, Ok, Some, filter_map};
-ghost use Rattle.script_core.specs.Words.{bad_from, is_separator, script_of, word_at, word_of, words_of};
+ghost use Rattle.script_core.specs.Words.{bad_from, is_misplaced, is_separator, script_of, word_at, word_of, words_of};
 
 use crate::script::Script;
 use crate::word::Word;
@@ -12,8 +12,8 @@ use thiserror::Error;
 /// Why a text gives no script.
 #[derive(Clone, Copy, Debug, PartialEq, Eq, Error)]
 pub enum ScriptFault {
-    /// The number, from 1, of the first word that is unknown, or that is the first and not `proc`, or that is
-    /// the 65th. It is 1 where there is no word.
+    /// The number, from 1, of the first word that is unknown, or that is the first and not `proc`, or that is `flatten`
+    /// and not the second, or that is the 65th. It is 1 where there is no word.
     #[error("word {0} of the script is bad")]
     Bad(u32),
     #[error("out of memory")]
@@ -38,11 +38,20 @@ fn is_separator(byte: u8) -> bool
     matches!(byte, b' ' | b'\t' | b';')
 }
 
+/// Whether the word with this number, from 1, is the first and not `proc`, or `flatten` and not the second, or the 65th.
+fn is_misplaced(number: u32, spelling: &[u8]) -> bool
+    ensures value { result ≡ is_misplaced number spelling.now }
+{
+    number == 1 && spelling != b"proc".as_slice()
+        || number != 2 && spelling == b"flatten".as_slice()
+        || number == 65
+}
+
 /// The word with this number, from 1, of a script. None where it is bad.
 fn word_at(number: u32, spelling: &[u8]) -> Option<Word>
     ensures value { result ≡ word_at number spelling.now }
 {
-    if number == 65 || number == 1 && spelling != b"proc".as_slice() {
+    if is_misplaced(number, spelling) {
         return None;
     }
     Word::of(spelling)

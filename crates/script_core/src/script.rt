@@ -2,14 +2,15 @@
 
 ghost use Rattle.std.specs.Prelude.{◌≡◌, [], ◌∷◌, ◌++◌, IfOk, OnErr, OnOk};
 ghost use Rattle.script_core.specs.declared.word.Word.TheVariants.{Proc};
-ghost use Rattle.script_core.specs.Words.{IsScript, default_script};
+ghost use Rattle.script_core.specs.Words.{IsScript, default_script, flattens};
 
 use crate::word::Word;
 use rtl_bits::{Copied, Memory, Seq};
 use std::alloc::Global;
 use std::marker::Model;
 
-/// The words of a script, in order: 1 to 64 words, of which the first is `proc`. Contracts see the list.
+/// The words of a script, in order: 1 to 64 words, of which the first is `proc`, and no other than the second is
+/// `flatten`. Contracts see the list.
 #[derive(Drop)]
 pub struct Script {
     words: Seq<Word>,
@@ -53,6 +54,13 @@ impl Script {
         ensures err { OnErr result (self.new ≡ self.old) }
     {
         self.words.push(word)
+    }
+
+    /// Whether the second word is `flatten`.
+    pub fn flattens(&self) -> bool
+        ensures value { result ≡ flattens self.now }
+    {
+        self.words.as_slice().get(1) == Some(&Word::Flatten)
     }
 
     /// The words in order.

@@ -19,6 +19,7 @@ pub enum Word {
     Muxtree,
     Reduce,
     Dff,
+    Flatten,
 }
 
 impl Copied for Word {
@@ -56,6 +57,8 @@ impl Word {
             Some(Word::Reduce)
         } else if spelling == b"opt_dff".as_slice() {
             Some(Word::Dff)
+        } else if spelling == b"flatten".as_slice() {
+            Some(Word::Flatten)
         } else {
             None
         }
@@ -77,6 +80,7 @@ impl Word {
             Word::Muxtree => b"opt_muxtree",
             Word::Reduce => b"opt_reduce",
             Word::Dff => b"opt_dff",
+            Word::Flatten => b"flatten",
         }
     }
 
@@ -96,6 +100,7 @@ impl Word {
             Word::Muxtree => b'x',
             Word::Reduce => b'r',
             Word::Dff => b'd',
+            Word::Flatten => b'l',
         }
     }
 }

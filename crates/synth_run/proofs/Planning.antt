@@ -22,7 +22,7 @@ pub record IsSound (plan : Plan) : Type 0 where
   pub script : IsScript plan.script
 
 default_is : IsScript default_script
-default_is = record { first = refl; count = omega arith }
+default_is = record { first = refl; count = omega arith; flat = refl }
 
 ok_is : (r : Result (List Word) ℕ) (words : List Word) → result_ok r ≡ Some words → r ≡ Ok words
 ok_is (Ok found) words e = let same : found ≡ words = cc in ap Ok same

@@ -33,12 +33,12 @@ synthesis s g e =
     record {
       faultless = g.faultless;
       run = run;
-      again = λ short. reads_design n (cold_reads s.design g.readable short g.faultless s.script stage n run);
+      again = λ short bytes. reads_design n (cold_reads s.design g.readable short g.faultless s.script stage bytes n run);
       one_driver = cold_driven s.design g.readable g.faultless s.script stage n run;
       no_faults = cold_faultless s.design g.readable g.faultless s.script stage n run;
       accepted = λ all. cold_accepted s.design g.readable g.faultless s.script stage n run all;
       refines = cold_refines s.design g.readable g.faultless s.script stage n run;
-      gates = λ all. cold_gates s.design g.readable g.faultless s.script stage all n run;
+      gates = λ all. cold_gates s.design g.readable g.faultless s.script stage n run all;
     }
 
 -- the reply to `print`, where it is no error

@@ -22,7 +22,7 @@ use Rattle.rtl_check.specs.Finds.{first_answer}
 use Rattle.rtl_readable.specs.Readable.{IsReadable, IsReadableModule}
 use Rattle.rtl_write.proofs.Kept.{readable}
 use Rattle.script_core.specs.declared.word.Word.{Word}
-use Rattle.script_core.specs.Words.{IsScript, bad_from, first_bad, is_bad, script_of, word_of, words_of}
+use Rattle.script_core.specs.Words.{IsScript, bad_from, first_bad, is_bad, is_misplaced, script_of, word_of, words_of}
 use Rattle.script_core.proofs.ParseLemmas.{are_script}
 use Rattle.desk_read.specs.declared.command.Command.{Command}
 use Rattle.desk_read.specs.declared.command.Command.TheVariants.{Load, Edit, Remove, Script, Run, Print, Show, SimSource, SimNetlist, Quit, Bad, Unclosed}
@@ -90,7 +90,7 @@ first_word word more none = by (word_of word) refl
   where
     by : (o : Option Word) → word_of word ≡ o → 0 < length (filter_map word_of (word ∷ more))
     by None e =
-        let bad : is_bad 1 word ≡ true = ap (λ (o : Option Word). not (is_some o) || ((1 == 1) && not (bytes_eq word (codes "proc"))) || (1 == 65)) e in
+        let bad : is_bad 1 word ≡ true = ap (λ (o : Option Word). not (is_some o) || is_misplaced 1 word) e in
         let first : bad_from 1 (word ∷ more) ≡ Some 1 = ap (λ (t : Bool). if t then Some 1 else bad_from 2 more) bad in
         absurd cc
     by (Some w) e = rw e (omega arith)

@@ -1,8 +1,8 @@
 use Rattle.std.proofs.Common.{◌≡◌, ◌+◌, ◌≤◌, ◌<◌, Global, Option, Vec, length, sym, ap, subst, arith}
 use Rattle.std.specs.Prelude.{IfSome}
 use Rattle.rtl_ir.specs.declared.module.Design.{Design}
-use Rattle.rtl_ir.specs.declared.table.DesignPorts.{DesignPorts}
 use Rattle.script_core.specs.declared.built.Built.{Built}
+use Rattle.script_core.specs.declared.key_table.KeyTable.{KeyTable}
 use Rattle.desk_core.specs.Beside.{SeesOwn}
 use Rattle.desk_core.proofs.Staying.{AreSeenBelow, ok_some, seen_all, seen_goes, seen_stays}
 use Rattle.desk_core.proofs.beside.let_go_unseen.Goals.{then-not-stays+in-Some-1, then-not-stays+in-None-1, else-not-stays}
@@ -11,8 +11,8 @@ use Rattle.desk_core.proofs.beside.let_go_unseen.Goals as goal
 pub loop-at-preserved : goal.loop-at-preserved
 loop-at-preserved c =
     let given = c.design.result.now.modules in
-    let table : IfSome c.ok-table.result (λ (ports : DesignPorts). ports.modules.now ≡ given) =
-    ok_some c.of.result c.ok-table.result (λ (ports : DesignPorts). ports.modules.now ≡ given) c.ok-table.ensures.value c.of.ensures.value in
+    let table : IfSome c.ok-table.result (λ (known : KeyTable). known.modules.now ≡ given) =
+    ok_some c.of.result c.ok-table.result (λ (known : KeyTable). known.modules.now ≡ given) c.ok-table.ensures.value c.of.ensures.value in
     let within : c.loop-at.at < length c.loop-at.found.items = omega arith in
     elim c.if-not-stays.branch [
       | then-not-stays+in-Some-1 w ↦ seen_goes c.if-not-stays.found.items within (ap (λ (v : Vec (Option Built) Global). v.items) w.found-is) c.loop-at.invariant
