@@ -1,14 +1,17 @@
 -- Tokens in which no line ends.
-use Rattle.std.proofs.Common.{◌≡◌, ℕ, suc, ◌+◌, Bool, true, false, not, cond, List, [], ◌∷◌, take, drop, Option, Some, None, refl, sym, ap, ◌∙◌, arith, add-one}
+use Rattle.std.proofs.Common.{◌≡◌, ℕ, zero, suc, ◌+◌, Bool, true, false, not, cond, List, [], ◌∷◌, take, drop, Option, Some, None, refl, sym, ap, ◌∙◌, arith, add-one}
 use Rattle.std.specs.Prelude.{◌&&◌, ◌==◌, ◌||◌, option_map, slice_index}
 use Rattle.std.specs.List.{prefix_len}
+use Rattle.std.proofs.Math.Seq.{take-add}
 use Rattle.std.proofs.lemmas.Bool.Decides.{nat_tests}
+use Rattle.std.proofs.lemmas.List.Folds.{list_all-append}
 use Rattle.rtl_lex.specs.declared.token.TokenKind.{TokenKind}
 use Rattle.rtl_lex.specs.declared.token.TokenKind.TheVariants.{Word, Mark, Id, Value, Int, Chars, Line}
-use Rattle.rtl_lex.specs.Bytes.{is_digit, is_end, is_lower, is_mark, is_name, is_sigil}
-use Rattle.rtl_lex.specs.Gaps.{gap}
+use Rattle.rtl_lex.specs.Bytes.{is_bit, is_blank, is_digit, is_end, is_lower, is_mark, is_name, is_sigil}
+use Rattle.rtl_lex.specs.Gaps.{gap, note_after}
 use Rattle.rtl_lex.specs.Place.{is_flat}
 use Rattle.rtl_lex.specs.Strings.{string_len}
+use Rattle.rtl_lex.specs.Values.{sign_len}
 use Rattle.rtl_lex.specs.Tokens.{front, is_plain, minus_front, name_front, number_front, string_front, tail_len}
 
 -- the bytes that pass a test which no end of line passes
@@ -38,9 +41,57 @@ end_apart b e = by (b == 10) e
     by true f = f
     by false f = refl
 
+bit_apart : (b : ℕ) → is_bit b ≡ true → (b == 10) ≡ false
+bit_apart b e = grind (arith, nat_tests)
+
 -- a byte before bytes
 one_more : (b n : ℕ) (bs : List ℕ) → (b == 10) ≡ false → is_flat (take n bs) ≡ true → is_flat (take (n + 1) (b ∷ bs)) ≡ true
 one_more b n bs e so = ap (λ k. is_flat (take k (b ∷ bs))) (add-one n) ∙ ap (λ t. not t && is_flat (take n bs)) e ∙ so
+
+-- the bytes of a gap within a line
+pub flat_gap : (note : Bool) (bytes : List ℕ) → is_flat (take (gap false note bytes) bytes) ≡ true
+flat_gap note [] = refl
+flat_gap note (b ∷ bs) = by (is_end b) refl (note || is_blank b || b == 35) (flat_gap (note_after note b) bs)
+  where
+    by : (t : Bool) → is_end b ≡ t → (u : Bool) → is_flat (take (gap false (note_after note b) bs) bs) ≡ true
+        → is_flat (take (cond (cond t false u) (gap false (note_after note b) bs + 1) 0) (b ∷ bs)) ≡ true
+    by true e u so = refl
+    by false e true so = one_more b (gap false (note_after note b) bs) bs (end_apart b e) so
+    by false e false so = refl
+
+-- bytes behind bytes
+both_flat : (m n : ℕ) (bytes : List ℕ) → is_flat (take m bytes) ≡ true → is_flat (take n (drop m bytes)) ≡ true → is_flat (take (m + n) bytes) ≡ true
+both_flat m n bytes e f =
+    ap is_flat (take-add m n bytes) ∙ list_all-append (λ b. not (b == 10)) (take m bytes) (take n (drop m bytes)) ∙ ap (λ t. t && is_flat (take n (drop m bytes))) e ∙ f
+
+-- one byte that passes a test which no end of line passes
+one_flat : (q : ℕ → Bool) → ((b : ℕ) → q b ≡ true → (b == 10) ≡ false) → (k : ℕ) (bytes : List ℕ) → q (slice_index bytes k) ≡ true → is_flat (take 1 (drop k bytes)) ≡ true
+one_flat q apart zero [] e = refl
+one_flat q apart (suc k) [] e = refl
+one_flat q apart zero (b ∷ bs) e = ap (λ t. not t && true) (apart b e)
+one_flat q apart (suc k) (b ∷ bs) e = one_flat q apart k bs e
+
+mark_apart : (b : ℕ) → (b == 39) ≡ true → (b == 10) ≡ false
+mark_apart b e = grind (arith, nat_tests)
+
+sign_apart : (b : ℕ) → (b == 115) ≡ true → (b == 10) ≡ false
+sign_apart b e = grind (arith, nat_tests)
+
+sign_flat : (bytes : List ℕ) → is_flat (take (sign_len bytes) bytes) ≡ true
+sign_flat bytes = by (slice_index bytes 0 == 115) refl
+  where
+    by : (t : Bool) → (slice_index bytes 0 == 115) ≡ t → is_flat (take (cond t 1 0) bytes) ≡ true
+    by true e = one_flat (λ b. b == 115) sign_apart 0 bytes e
+    by false e = refl
+
+tail_flat : (bytes : List ℕ) → is_flat (take (tail_len bytes) bytes) ≡ true
+tail_flat bytes =
+    both_flat (sign_len bytes) (prefix_len is_bit (drop (sign_len bytes) bytes)) bytes (sign_flat bytes) (prefix_flat is_bit bit_apart (drop (sign_len bytes) bytes))
+
+-- digits, an apostrophe, and what stands behind it
+value_flat : (k : ℕ) (bytes : List ℕ) → (slice_index bytes k == 39) ≡ true → is_flat (take k bytes) ≡ true → is_flat (take (k + 1 + tail_len (drop (k + 1) bytes)) bytes) ≡ true
+value_flat k bytes e so =
+    both_flat (k + 1) (tail_len (drop (k + 1) bytes)) bytes (both_flat k 1 bytes so (one_flat (λ b. b == 39) mark_apart k bytes e)) (tail_flat (drop (k + 1) bytes))
 
 -- what a token is and how long it is
 abbrev sized : TokenKind → ℕ → TokenKind × ℕ
@@ -65,11 +116,11 @@ module _ (kind : TokenKind) (n : ℕ) (plain : is_plain kind ≡ true) where
     long k m e so = ap (λ z. is_flat (take z (b ∷ bs))) (sym (same_length k kind m n e)) ∙ so
 
     digits : (k : ℕ) → cond (slice_index (b ∷ bs) k == 39) (sized Value (k + 1 + tail_len (drop (k + 1) (b ∷ bs)))) (sized Int k) ≡ sized kind n → is_flat (take k (b ∷ bs)) ≡ true → Flat
-    digits k e so = by (slice_index (b ∷ bs) k == 39) e
+    digits k e so = by (slice_index (b ∷ bs) k == 39) refl e
       where
-        by : (t : Bool) → cond t (sized Value (k + 1 + tail_len (drop (k + 1) (b ∷ bs)))) (sized Int k) ≡ sized kind n → Flat
-        by true f = absurd (other Value (k + 1 + tail_len (drop (k + 1) (b ∷ bs))) refl (ap Some f))
-        by false f = long Int k (ap Some f) so
+        by : (t : Bool) → (slice_index (b ∷ bs) k == 39) ≡ t → cond t (sized Value (k + 1 + tail_len (drop (k + 1) (b ∷ bs)))) (sized Int k) ≡ sized kind n → Flat
+        by true m f = long Value (k + 1 + tail_len (drop (k + 1) (b ∷ bs))) (ap Some f) (value_flat k (b ∷ bs) m so)
+        by false m f = long Int k (ap Some f) so
 
     module _ (apart : (b == 10) ≡ false) where
       behind : (k : TokenKind) (q : ℕ → Bool) → ((c : ℕ) → q c ≡ true → (c == 10) ≡ false) → cond (prefix_len q bs == 0) None (Some (sized k (prefix_len q bs + 1))) ≡ Some (sized kind n) → Flat

@@ -54,6 +54,7 @@ abbrev pub is_plain : TokenKind → Bool
 is_plain Word = true
 is_plain Mark = true
 is_plain Id = true
+is_plain Value = true
 is_plain Int = true
 is_plain kind = false
 

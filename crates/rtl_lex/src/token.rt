@@ -137,8 +137,8 @@ fn is_plain(kind: TokenKind) -> bool
     ensures value { result ≡ is_plain kind }
 {
     match kind {
-        TokenKind::Word | TokenKind::Mark | TokenKind::Id | TokenKind::Int => true,
-        TokenKind::Value | TokenKind::Chars | TokenKind::Line => false,
+        TokenKind::Chars | TokenKind::Line => false,
+        _ => true,
     }
 }
 
@@ -171,7 +171,7 @@ pub fn next_token(text: &[u8], from: Place) -> Result<Token<'_>, LexFault>
 {
     let bytes = &text[from.at as usize..];
     let skip = gap(bytes, false);
-    let place = forward(text, from, skip);
+    let place = along(text, from, skip);
     let bytes = &bytes[skip..];
     let Some((kind, length)) = front(bytes) else {
         return Err(LexFault::Lex(place));
