@@ -32,7 +32,8 @@ fn with_name(alloc: Global, name: &[u8], text: &[u8]) -> Result<Vec<u8>, Memory>
     ensures value { IfOk result (λ named. named.items ≡ with_name name.now text.now) }
 {
     let at = text.len().min(line_at(b'm', text) + 6);
-    let mut named = Vec::with_capacity(alloc, text.len())?;
+    let room = text.len().saturating_add(name.len()).saturating_add(1);
+    let mut named = Vec::with_capacity(alloc, room)?;
     named.extend_from_slice(&text[..at])?;
     named.push(b' ')?;
     named.extend_from_slice(name)?;
