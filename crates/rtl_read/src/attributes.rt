@@ -35,6 +35,9 @@ fn put_at(at: usize, attribute: Attribute, items: Seq<Attribute>) -> Result<Seq<
     if at < items.len() {
         items[at] = attribute;
     } else {
+        if items.is_empty() {
+            items.reserve_exact(1)?;
+        }
         items.push(attribute)?;
     }
     Ok(Seq::from_vec(items))

@@ -122,6 +122,9 @@ fn all_fixed(alloc: Global, bits: &[Bit]) -> Result<SigSpec, Memory>
 pub(crate) fn fixed(alloc: Global, value: &Value) -> Result<SigSpec, Memory>
     ensures { IfOk result (λ sig. sig ≡ fixed value.now) }
 {
+    if let Value::Bits(bits, _) = value {
+        return all_fixed(alloc, bits.as_slice());
+    }
     let bits = constant_bits(alloc, value)?;
     all_fixed(alloc, bits.as_slice())
 }

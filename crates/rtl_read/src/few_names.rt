@@ -1,11 +1,11 @@
 //! The names of the parts of one item.
 
-ghost use Rattle.std.specs.Prelude.{◌≡◌, [], ◌++◌, IfOk, OnOk, is_some};
+ghost use Rattle.std.specs.Prelude.{◌≡◌, [], ◌++◌, IfOk, OnOk, is_some, not};
 ghost use Rattle.std.specs.List.{position};
 ghost use Rattle.std.specs.Str.{bytes_eq};
 ghost use Rattle.rtl_sig.specs.Names.{next_number_of, number_of, with_name};
 
-use rtl_bits::{Memory, Text};
+use rtl_bits::{Copied, Memory, Text};
 use rtl_sig::Names;
 use std::alloc::Global;
 use std::marker::Model;
@@ -48,14 +48,21 @@ impl FewNames {
         self.others = Names::make(alloc);
     }
 
-    /// Whether the name is one of these.
-    pub(crate) fn has(&self, name: &[u8]) -> bool
-        ensures value { result ≡ is_some (number_of self.now name.now) }
+    /// Puts the name last where it is new, and tells whether it was.
+    pub(crate) fn put_new(&mut self, name: &Text) -> Result<bool, Memory>
+        ensures new { IfOk result (λ new. new ≡ not (is_some (number_of self.old name.now))) }
+        ensures names { OnOk result (self.new ≡ with_name self.old name.now) }
     {
-        match place_of(self.first.as_slice(), name) {
-            Some(_at) => true,
-            None => self.others.find(name).is_some(),
+        let bytes = name.as_slice();
+        if let Some(_at) = place_of(self.first.as_slice(), bytes) {
+            return Ok(false);
         }
+        if self.first.len() < FEW && self.others.count() == 0 {
+            self.first.push(name.copy()?)?;
+            return Ok(true);
+        }
+        let new = put_new(&mut self.others, bytes)?;
+        Ok(new)
     }
 
     /// The number of the name, which is put last where it is new.
@@ -74,6 +81,16 @@ impl FewNames {
         let id = self.others.intern(name)?;
         count.checked_add(id.index).ok_or(Memory)
     }
+}
+
+/// Puts the name last where it is new, and tells whether it was.
+pub(crate) fn put_new(names: &mut Names, name: &[u8]) -> Result<bool, Memory>
+    ensures new { IfOk result (λ new. new ≡ not (is_some (number_of names.old name.now))) }
+    ensures names { OnOk result (names.new ≡ with_name names.old name.now) }
+{
+    let known = names.count();
+    let id = names.intern(name)?;
+    Ok(id.index >= known)
 }
 
 /// The place of the name among these.

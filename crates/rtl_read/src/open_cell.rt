@@ -1,6 +1,6 @@
 //! The cell that is open.
 
-ghost use Rattle.std.specs.Prelude.{◌≡◌, [], OnOk};
+ghost use Rattle.std.specs.Prelude.{◌≡◌, [], IfOk, OnOk};
 ghost use Rattle.rtl_lex.specs.Items.{as_seen};
 ghost use Rattle.rtl_read.specs.Gives.{Sets};
 ghost use Rattle.rtl_read.specs.Meaning.Cell.{
@@ -14,7 +14,7 @@ ghost use Rattle.rtl_read.specs.Meaning.Cell.{
 };
 
 use crate::few_names::FewNames;
-use crate::fitted::fitted;
+use crate::fitted::{clear, take_items};
 use crate::read_fault::ReadFault;
 use rtl_bits::{Memory, Seq, Text};
 use rtl_ir::{Attribute, Cell, CellParam, Pin, Value};
@@ -66,25 +66,39 @@ impl OpenCell {
     pub(crate) fn begin(&mut self, alloc: Global, attributes: Seq<Attribute>)
         ensures { self.new ≡ plain_cell attributes }
     {
-        self.take(alloc);
+        self.clear_names(alloc);
+        self.cell.kind_name = Text::make(alloc);
+        self.cell.name = Text::make(alloc);
+        clear(alloc, &mut self.cell.params);
+        clear(alloc, &mut self.cell.pins);
         self.cell.attributes = attributes;
     }
 
-    /// The cell, which is whole. What is open has nothing in it after that.
-    pub(crate) fn take(&mut self, alloc: Global) -> Cell
-        ensures cell { result ≡ self.old.cell }
-        ensures none { self.new ≡ plain_cell [] }
+    /// No name of a parameter or pin is known or open.
+    fn clear_names(&mut self, alloc: Global)
+        ensures { self.new ≡ record (plain_cell []) { cell = self.old.cell } }
     {
         self.params.clear(alloc);
         self.pins.clear(alloc);
         self.name = Text::make(alloc);
         self.signed = false;
-        let cell = mem::replace(&mut self.cell, no_cell(alloc));
-        Cell {
-            params: fitted(cell.params),
-            pins: fitted(cell.pins),
-            ..cell
-        }
+    }
+
+    /// The cell, which is whole. What is open has nothing in it after that, but for the room of its lists.
+    pub(crate) fn take(&mut self, alloc: Global) -> Result<Cell, Memory>
+        ensures cell { IfOk result (λ cell. cell ≡ self.old.cell) }
+        ensures none { OnOk result (self.new ≡ plain_cell []) }
+    {
+        self.clear_names(alloc);
+        let params = take_items(alloc, &mut self.cell.params)?;
+        let pins = take_items(alloc, &mut self.cell.pins)?;
+        Ok(Cell {
+            kind_name: mem::replace(&mut self.cell.kind_name, Text::make(alloc)),
+            name: mem::replace(&mut self.cell.name, Text::make(alloc)),
+            params,
+            pins,
+            attributes: mem::replace(&mut self.cell.attributes, Seq::make(alloc)),
+        })
     }
 
     /// Its type.
@@ -107,11 +121,10 @@ impl OpenCell {
     pub(crate) fn param_name(&mut self, alloc: Global, item: &Item<'_>) -> Result<(), ReadFault>
         ensures { Sets result self.new (with_param_name (as_seen item.now) self.old) }
     {
-        if self.params.has(item.text) {
+        self.name = Text::from_slice(alloc, item.text)?;
+        if !self.params.put_new(&self.name)? {
             return Err(ReadFault::Duplicate(item.place));
         }
-        self.params.intern(alloc, item.text)?;
-        self.name = Text::from_slice(alloc, item.text)?;
         Ok(())
     }
 
@@ -119,11 +132,10 @@ impl OpenCell {
     pub(crate) fn pin_name(&mut self, alloc: Global, item: &Item<'_>) -> Result<(), ReadFault>
         ensures { Sets result self.new (with_pin_name (as_seen item.now) self.old) }
     {
-        if self.pins.has(item.text) {
+        self.name = Text::from_slice(alloc, item.text)?;
+        if !self.pins.put_new(&self.name)? {
             return Err(ReadFault::Duplicate(item.place));
         }
-        self.pins.intern(alloc, item.text)?;
-        self.name = Text::from_slice(alloc, item.text)?;
         Ok(())
     }
 

@@ -1,7 +1,6 @@
 //! The module that is open.
 
-ghost use Rattle.std.specs.Prelude.{◌≡◌, IfOk, OnOk, Ok, is_some, not};
-ghost use Rattle.rtl_sig.specs.Names.{number_of, with_name};
+ghost use Rattle.std.specs.Prelude.{◌≡◌, OnOk};
 ghost use Rattle.rtl_lex.specs.Items.{as_seen};
 ghost use Rattle.rtl_read.specs.Gives.{Sets};
 ghost use Rattle.rtl_read.specs.Meaning.Module.{
@@ -15,6 +14,7 @@ ghost use Rattle.rtl_read.specs.Meaning.Module.{
   with_link,
 };
 
+use crate::few_names::put_new;
 use crate::read_fault::ReadFault;
 use crate::signal::find;
 use rtl_bits::{Memory, Seq, Text};
@@ -55,16 +55,6 @@ pub(crate) fn fresh_module(alloc: Global, id: Text, attributes: Seq<Attribute>) 
         other_names: Names::make(alloc),
         bits: 0,
     }
-}
-
-/// Puts the name last where it is new, and tells whether it was.
-fn put_new(names: &mut Names, name: &[u8]) -> Result<bool, Memory>
-    ensures new { IfOk result (λ new. new ≡ not (is_some (number_of names.old name.now))) }
-    ensures names { OnOk result (names.new ≡ with_name names.old name.now) }
-{
-    let known = names.count();
-    let id = names.intern(name)?;
-    Ok(id.index >= known)
 }
 
 impl OpenModule {

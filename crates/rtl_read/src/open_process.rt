@@ -21,6 +21,7 @@ ghost use Rattle.rtl_read.specs.Meaning.Process.{
   process_of,
 };
 
+use crate::fitted::fitted;
 use crate::tree::{OpenTree, case_of, plain_tree};
 use rtl_bits::{Memory, Seq, Text};
 use rtl_ir::{Attribute, Event, Link, Process, SyncRule, Value, WriteLine};
@@ -125,7 +126,7 @@ pub(crate) fn process_of(process: OpenProcess) -> Process
     Process {
         name,
         root: case_of(case),
-        syncs,
+        syncs: fitted(syncs),
         attributes,
     }
 }
@@ -159,7 +160,11 @@ impl OpenProcess {
         ensures { OnOk result (self.new ≡ close_rule self.old) }
     {
         let rule = mem::replace(&mut self.rule, plain_rule(alloc, Event::Always));
-        self.syncs.push(rule)
+        self.syncs.push(SyncRule {
+            updates: fitted(rule.updates),
+            writes: fitted(rule.writes),
+            ..rule
+        })
     }
 
     pub(crate) fn add_update(&mut self, link: Link) -> Result<(), Memory>

@@ -32,6 +32,7 @@ use rtl_ir::limits::{MAX_BITS, MAX_DEPTH};
 use rtl_lex::{Item, Place, Sort};
 use rtl_sig::{Names, SigBit, SigSpec};
 use std::alloc::Global;
+use std::mem;
 
 /// The signal that is being read.
 #[derive(Drop)]
@@ -122,6 +123,19 @@ pub(crate) fn some_bits(part: SigSpec, item: &Item<'_>) -> Result<SigSpec, ReadF
 }
 
 impl OpenSignal {
+    /// The part that was read. Nothing is left, but for the room of the braces.
+    pub(crate) fn take(&mut self, alloc: Global) -> Part
+        ensures part { result ≡ self.old.part }
+        ensures left { self.new ≡ no_signal }
+    {
+        self.place = Place::start();
+        self.braces.clear();
+        self.bracket = Place::start();
+        self.high = 0;
+        self.low = 0;
+        mem::replace(&mut self.part, Part::of(SigSpec::make(alloc)))
+    }
+
     /// A signal begins.
     pub(crate) fn begin(
         &mut self,

@@ -56,6 +56,15 @@ impl<T> Stack<T> {
         self.items.pop()
     }
 
+    /// Takes all items off. Their room stays.
+    pub(crate) fn clear(&mut self)
+    where
+        T: Drop,
+        ensures value { self.new ≡ [] }
+    {
+        self.items.clear();
+    }
+
     /// The items from the top down, without taking memory.
     pub(crate) fn into_vec(self) -> Vec<T>
         ensures value { result.items ≡ self }

@@ -16,6 +16,7 @@ ghost use Rattle.rtl_read.specs.Meaning.Tree.{
   with_assign,
 };
 
+use crate::fitted::fitted;
 use crate::read_fault::ReadFault;
 use crate::stack::Stack;
 use rtl_bits::{Memory, Seq};
@@ -88,9 +89,9 @@ pub(crate) fn case_of(case: OpenCase) -> Case
         attributes,
     } = case;
     Case {
-        patterns,
-        assigns,
-        switches: switches.into_vec(),
+        patterns: fitted(patterns),
+        assigns: fitted(assigns),
+        switches: fitted(switches).into_vec(),
         attributes,
     }
 }
@@ -165,7 +166,7 @@ impl OpenTree {
             } = switch;
             case.switches.push(Switch {
                 signal,
-                cases: cases.into_vec(),
+                cases: fitted(cases).into_vec(),
                 attributes,
             })?;
             self.case = case;

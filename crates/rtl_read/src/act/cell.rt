@@ -46,7 +46,7 @@ impl Draft {
         ensures { Sets result self.new (Ok (act_cell_body item.now.sort self.old)) }
     {
         if item.sort == Sort::End {
-            let cell = self.cell.take(alloc);
+            let cell = self.cell.take(alloc)?;
             self.current.add_cell(cell)?;
         }
         Ok(())

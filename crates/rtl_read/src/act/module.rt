@@ -59,6 +59,7 @@ impl Draft {
         self.modules.push(Module {
             wires: fitted(body.wires),
             cells: fitted(body.cells),
+            processes: fitted(body.processes),
             links: fitted(body.links),
             ..body
         })

@@ -19,12 +19,11 @@ ghost use Rattle.rtl_read.specs.Act.Signal.{
 
 use crate::draft::Draft;
 use crate::read_fault::ReadFault;
-use crate::signal::{no_signal, some_bits};
+use crate::signal::some_bits;
 use rtl_bits::Memory;
 use rtl_lex::Item;
 use rtl_sig::SigSpec;
 use std::alloc::Global;
-use std::mem;
 
 impl Draft {
     /// A signal begins.
@@ -54,8 +53,7 @@ impl Draft {
         ensures signal { IfOk result (λ sig. sig ≡ self.old.signal.part) }
         ensures left { self.new ≡ without_signal self.old }
     {
-        let signal = mem::replace(&mut self.signal, no_signal(alloc));
-        signal.part.into_sig(alloc)
+        self.signal.take(alloc).into_sig(alloc)
     }
 
     /// The signal that was read, which may not be empty; none is left.
