@@ -16,7 +16,7 @@ use crate::stack::Stack;
 use rtl_bits::{Memory, Seq};
 use rtl_grammar::{Expect, after};
 use rtl_ir::Design;
-use rtl_lex::{Item, Place, Sort, next_item};
+use rtl_lex::{Item, Next, Place, Sort, next_item};
 use std::alloc::Global;
 use std::mem;
 
@@ -76,11 +76,11 @@ impl Reader {
     {
         let mut at = Some((Place::start(), false));
         while let Some((from, line)) = at {
-            let next = next_item(text, from, line);
-            if let Err(fault) = self.take(alloc, &next.item) {
+            let Next { item, rest } = next_item(text, from, line);
+            if let Err(fault) = self.take(alloc, &item) {
                 return Err(fault);
             }
-            at = next.rest;
+            at = rest;
         }
         Ok(())
     }
