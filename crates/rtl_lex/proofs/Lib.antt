@@ -4,5 +4,6 @@ pub mod Spelling
 pub mod Filling
 pub mod TokenLemmas
 pub mod FlatTokens
+pub mod Spaces
 pub mod CommonWords
 pub mod ItemLemmas

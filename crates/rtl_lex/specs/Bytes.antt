@@ -1,6 +1,10 @@
 -- Which bytes are which.
 use Rattle.std.specs.Prelude.{ℕ, Bool, ◌==◌, ◌&&◌, ◌||◌, nat_lt, nat_le}
 
+-- a space
+abbrev pub is_space : ℕ → Bool
+is_space b = b == 32
+
 -- space and tab
 abbrev pub is_blank : ℕ → Bool
 is_blank b = b == 32 || b == 9

@@ -2,7 +2,7 @@
 
 ghost use Rattle.std.specs.Prelude.{◌≡◌, ◌≤◌, length, false};
 ghost use Rattle.std.specs.List.{prefix_len};
-ghost use Rattle.rtl_lex.specs.Bytes.{is_lower, is_digit, is_name, is_bit};
+ghost use Rattle.rtl_lex.specs.Bytes.{is_space, is_lower, is_digit, is_name, is_bit};
 ghost use Rattle.rtl_lex.specs.Gaps.{gap, in_gap, note_after};
 
 /// How many lower-case letters stand first.
@@ -72,8 +72,16 @@ fn note_after(note: bool, byte: u8) -> bool
     }
 }
 
+/// How many spaces stand first.
+fn spaces(bytes: &[u8]) -> usize
+    ensures run { result ≡ prefix_len is_space bytes.now }
+    ensures within { result ≤ length bytes.now }
+{
+    bytes.iter().take_while(|b| **b == b' ').count()
+}
+
 /// How many bytes of blanks and comments stand at the front; with `over` ends of lines too.
-pub fn gap(bytes: &[u8], over: bool) -> usize
+fn any_gap(bytes: &[u8], over: bool) -> usize
     ensures gap { result ≡ gap over false bytes.now }
     ensures within { result ≤ length bytes.now }
 {
@@ -85,4 +93,13 @@ pub fn gap(bytes: &[u8], over: bool) -> usize
         note = note_after(note, *byte);
     }
     bytes.len()
+}
+
+/// How many bytes of blanks and comments stand at the front; with `over` ends of lines too. Most gaps are spaces alone.
+pub fn gap(bytes: &[u8], over: bool) -> usize
+    ensures gap { result ≡ gap over false bytes.now }
+    ensures within { result ≤ length bytes.now }
+{
+    let count = spaces(bytes);
+    count + any_gap(&bytes[count..], over)
 }
