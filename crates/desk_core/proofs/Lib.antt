@@ -11,7 +11,6 @@ pub mod Starting
 pub mod Showing
 pub mod Simulating
 pub mod Staying
-pub mod Naming
 pub mod Shaping
 pub mod Sending
 pub mod OwnCalls

@@ -16,7 +16,6 @@ mod key_order;
 mod keys;
 pub mod laws;
 mod modules;
-mod named;
 mod needed;
 mod netlist;
 mod own_results;

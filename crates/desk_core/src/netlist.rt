@@ -10,11 +10,11 @@ ghost use Rattle.desk_core.specs.Netlist.{done_modules};
 ghost use Rattle.desk_core.specs.Results.{outcome_beside, outcomes_of, over_beside, over_of};
 
 use crate::kept::Kept;
-use crate::named::put_named;
 use flat_net::Titled;
 use reply_lines::put_counted;
 use rtl_bits::{Memory, Text};
 use rtl_ir::Module;
+use rtl_write::put_named;
 use script_core::{Outcome, Word};
 use std::alloc::Global;
 
@@ -120,7 +120,7 @@ fn put_beside(out: &mut Text, module: &Module, found: &Option<Kept>) -> Result<(
         return Ok(());
     };
     match kept.built().outcome() {
-        Outcome::Done(done) => put_named(out, &module.id, done),
+        Outcome::Done(done) => put_named(out, module.id.as_slice(), done),
         Outcome::Over(_) => Ok(()),
     }
 }

@@ -17,4 +17,4 @@ pub use bodies::read_body;
 pub use laws::{bodies_have_their_texts, reads_again, tables_of_readable_designs};
 pub use port_table::read_ports;
 pub use ports::ports_text;
-pub use whole::{body_text, module_text, write};
+pub use whole::{body_text, module_text, put_named, write};

@@ -88,16 +88,23 @@ fn put_inner(out: &mut Text, module: &Module) -> Result<(), Memory>
     put_links(out, module.wires.as_slice(), module.links.as_slice())
 }
 
-#[tactic(auto, unfolding(crate::specs::Text::module_text))]
-fn put_module(out: &mut Text, module: &Module) -> Result<(), Memory>
-    ensures ok { OnOk result (out.new ≡ out.old ++ module_text «module».now) }
+/// Appends the canonical text of one module, under this name in place of its own.
+#[tactic(auto, unfolding(crate::specs::Text::module_text, crate::specs::Text::inner_text))]
+pub fn put_named(out: &mut Text, id: &[u8], module: &Module) -> Result<(), Memory>
+    ensures ok { OnOk result (out.new ≡ out.old ++ module_text (record «module».now { id = id.now })) }
 {
     put_attributes(out, b"", module.attributes.as_slice())?;
     out.extend(b"module ")?;
-    out.extend(module.id.as_slice())?;
+    out.extend(id)?;
     out.push(b'\n')?;
     put_inner(out, module)?;
     out.extend(b"end\n")
+}
+
+fn put_module(out: &mut Text, module: &Module) -> Result<(), Memory>
+    ensures ok { OnOk result (out.new ≡ out.old ++ module_text «module».now) }
+{
+    put_named(out, module.id.as_slice(), module)
 }
 
 /// The canonical text of the design: one statement a line, two blanks a level, defaults left out.
