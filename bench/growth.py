@@ -148,6 +148,23 @@ def modules(count):
         yield 'end\n'
 
 
+def instances(count):
+    """A module with so many instances of one module of 100 gates, each of which reads the one before it: for `flatten`."""
+    yield 'module \\part\n  wire input 1 \\a\n  wire input 2 \\b\n  wire output 3 \\y\n'
+    for k in range(1, 100):
+        yield '  wire \\n%d\n' % k
+    for k in range(100):
+        yield ('  cell $_XOR_ $g%d\n    connect \\A %s\n    connect \\B \\b\n    connect \\Y %s\n  end\n'
+               % (k, '\\n%d' % k if k else '\\a', '\\n%d' % (k + 1) if k < 99 else '\\y'))
+    yield 'end\nmodule \\top\n  wire input 1 \\a\n  wire input 2 \\b\n  wire output 3 \\y\n'
+    for k in range(1, count):
+        yield '  wire \\w%d\n' % k
+    for k in range(count):
+        yield ('  cell \\part \\u%d\n    connect \\a %s\n    connect \\b \\b\n    connect \\y %s\n  end\n'
+               % (k, '\\w%d' % k if k else '\\a', '\\w%d' % (k + 1) if k < count - 1 else '\\y'))
+    yield 'end\n'
+
+
 FAMILIES = {
     'gates': (gates, (10_000, 100_000, 1_000_000)),
     'adders': (adders, (60, 600, 6_000)),
@@ -159,7 +176,12 @@ FAMILIES = {
     'coder': (coder, (64, 256, 1_024)),
     'memories': (memories, (1, 4, 16, 64)),
     'modules': (modules, (100, 400, 1_600, 4_096)),
+    'instances': (instances, (250, 1_000, 4_000)),
 }
+
+
+# The scripts of families that are not for the default script.
+SCRIPTS = {'instances': 'proc flatten'}
 
 
 # The words of the default script after which there may be more cells than at its end.
@@ -186,9 +208,10 @@ def least(program, text):
     return min(runs)
 
 
-def between(program, text):
-    """The cells of the greatest design between two passes of the default script."""
-    return max(run([*program, '--script', words], text)[4] for words in BEFORE)
+def between(program, text, script):
+    """The cells of the greatest design between two passes of the script."""
+    scripts = [script] if script else BEFORE
+    return max(run([*program, '--script', words], text)[4] for words in scripts)
 
 
 def slope(points):
@@ -202,14 +225,16 @@ def slope(points):
 def measure(program, most, family):
     """Prints a line for each member of a family, and the family's two exponents."""
     made, sizes = FAMILIES[family]
+    script = SCRIPTS.get(family)
+    words = [*program, '--script', script] if script else program
     points, others = [], []
     for size in sizes:
         with tempfile.NamedTemporaryFile('w', suffix='.il') as text:
             text.writelines(made(size))
             text.flush()
             length = os.path.getsize(text.name)
-            user, wall, memory, status, cells = least(program, text.name)
-            greatest = max(cells, between(program, text.name))
+            user, wall, memory, status, cells = least(words, text.name)
+            greatest = max(cells, between(program, text.name, script))
         print('| %s | %s | %s | %s | %s | %.2f s | %.1f MB |%s' % (
             family, f'{size:,}', f'{length:,}', f'{cells:,}', f'{greatest:,}', user, memory / 1000,
             '' if status == 0 else ' status %d' % status), flush=True)
