@@ -4,15 +4,14 @@ use crate::kept::Kept;
 use crate::keys::Keys;
 use build_crew::Order;
 use rtl_bits::{Memory, Steps, Text};
-use script_core::Key;
 use std::alloc::Global;
 
-/// The module at a place, the result of whose key is asked for.
+/// The module at a place, the result of whose key is asked for. A result that stands beside the module tells the key.
 #[derive(Clone, Copy)]
 pub struct KeyOrder<'a> {
     pub alloc: Global,
     pub keys: &'a Keys<'a, 'a>,
-    pub key: &'a Key,
+    pub beside: &'a Option<Kept>,
     pub at: u32,
 }
 
@@ -31,13 +30,14 @@ impl Order for KeyOrder<'_> {
     ghost is_answer = { λ order built. (built.key ≡ asked_key order) × IsValueOf built.key built.outcome };
 
     fn text(&self) -> Result<Text, Memory> {
-        self.key.text()
+        match self.beside {
+            Some(kept) => kept.built().key().text(self.alloc),
+            None => self.keys.key_at(self.alloc, self.at)?.text(self.alloc),
+        }
     }
 
     fn build<L>(&self, meter: &mut Steps<L>) -> Result<Kept, Memory> {
-        let built = self
-            .keys
-            .build_at(self.alloc, self.at, self.key, meter)?;
+        let built = self.keys.build_at(self.alloc, self.at, meter)?;
         Kept::make(self.alloc, built)
     }
 }

@@ -11,11 +11,11 @@ ghost use Rattle.build_crew.specs.Forgetting.{without};
 ghost use Rattle.build_crew.specs.Kept.{HasStill};
 ghost use Rattle.build_crew.specs.Rises.{RisesUpTo};
 ghost use Rattle.script_core.specs.Built.{IsValueOf};
-ghost use Rattle.script_core.specs.Keys.{key_of, key_text};
+ghost use Rattle.script_core.specs.Keys.{key_text};
 ghost use Rattle.desk_core.specs.Asked.{IsAsked, asked_key};
 ghost use Rattle.desk_core.specs.Netlist.{key_text_at, key_texts};
 ghost use Rattle.desk_core.specs.Needed.{ages_after};
-ghost use Rattle.desk_core.specs.Results.{AreFound, AreKeys};
+ghost use Rattle.desk_core.specs.Results.{AreFound};
 ghost use Rattle.desk_core.specs.Solo.{AreOwn, Builds, HoldsNoOther, IsFoundAt};
 
 use crate::ages::Ages;
@@ -28,7 +28,6 @@ use build_crew::{Order, find};
 use result_cache::laws::shards_are_sound;
 use result_cache::{Claim, Keyed, Seat, Shard, SharedCache, Ticket};
 use rtl_bits::{Memory, Steps, Text};
-use script_core::Key;
 use std::alloc::Global;
 use std::sync::Wait;
 
@@ -149,7 +148,6 @@ fn find_at<R: Wait, L>(
     access: &Access<R>,
     keys: &Keys,
     at: u32,
-    key: &Key,
     results: &mut OwnResults,
     seat: &mut Seat,
     meter: &mut Steps<L>,
@@ -157,7 +155,6 @@ fn find_at<R: Wait, L>(
     requires table { keys.now.table.now.modules.now ≡ keys.now.design.now.design.modules }
     requires own { AreOwn keys.now.design.now.design keys.now.script.now results.old }
     requires in_range { at < length keys.now.design.now.design.modules }
-    requires key { key.now ≡ key_of keys.now.design.now.design.modules at keys.now.script.now }
     requires idle { IsIdle access.now.cache.now.table.shared.table_id seat.old }
     ensures own { AreOwn keys.now.design.now.design keys.now.script.now results.new }
     ensures idle { IsIdle access.now.cache.now.table.shared.table_id seat.new }
@@ -175,22 +172,22 @@ fn find_at<R: Wait, L>(
     if results.found[at as usize].is_some() {
         return Ok(());
     }
-    let order = keys.order(access.alloc, at, key);
+    let nothing = None;
+    let order = keys.order(access.alloc, at, &nothing);
     let result = take(access, &mut results.shard, &order, seat, meter)?;
     results.found[at as usize] = Some(result);
     Ok(())
 }
 
-/// Finds the result of each module, by its key. The ages of the keys stay.
+/// Finds the result of each module. The ages of the keys stay.
 pub fn find_own<R: Wait, L>(
     access: &Access<R>,
     keys: &Keys,
-    all: &[Key],
     results: &mut OwnResults,
     seat: &mut Seat,
     meter: &mut Steps<L>,
 ) -> Result<(), Memory>
-    requires keys { AreKeys keys.now.design.now.design keys.now.table.now.modules.now keys.now.script.now all.now }
+    requires table { keys.now.table.now.modules.now ≡ keys.now.design.now.design.modules }
     requires own { AreOwn keys.now.design.now.design keys.now.script.now results.old }
     requires idle { IsIdle access.now.cache.now.table.shared.table_id seat.old }
     ensures own { AreOwn keys.now.design.now.design keys.now.script.now results.new }
@@ -207,7 +204,7 @@ pub fn find_own<R: Wait, L>(
         meter.old meter.new }
 {
     for at in 0..module_count(keys.design) {
-        find_at(access, keys, at, &all[at as usize], results, seat, meter)?;
+        find_at(access, keys, at, results, seat, meter)?;
     }
     Ok(())
 }

@@ -12,7 +12,7 @@ ghost use Rattle.script_core.specs.declared.built.Built.{Built};
 ghost use Rattle.desk_core.specs.Builds.{BuildsOrReturns, HasClaims};
 ghost use Rattle.desk_core.specs.Needed.{ages_after};
 ghost use Rattle.desk_core.specs.Netlist.{key_texts};
-ghost use Rattle.desk_core.specs.Results.{AreAnswers, AreFound, AreSeated, AreSound, AreKeys};
+ghost use Rattle.desk_core.specs.Results.{AreAnswers, AreFound, AreSeated, AreSound, TellKeys};
 ghost use Rattle.desk_core.specs.Standing.{StandsFor};
 
 use crate::ages::Ages;
@@ -24,7 +24,6 @@ use crate::needed::Needed;
 use build_crew::Found;
 use result_cache::{Seat, SharedCache};
 use rtl_bits::{Memory, Steps, Text};
-use script_core::Key;
 use std::marker::{Send, Sync};
 use std::sync::Wait;
 use std::thread::Threads;
@@ -51,17 +50,18 @@ fn put_beside(found: &mut [Option<Kept>], items: Vec<Found<Kept>>)
     }
 }
 
-/// Finds the result of each key by a crew with a worker for each of the cache's seats.
+/// Finds the result of each key by a crew with a worker for each of the cache's seats. A result that stands beside a
+/// module tells its key.
 fn found_by<R: Threads + Wait + Sync, G: Gate, L: Send>(
     crew: &Crew<R, G>,
     keys: &Keys,
-    all: &[Key],
     cache: &SharedCache<Kept>,
+    found: &[Option<Kept>],
     seats: &mut [Seat],
     meter: &mut Steps<L>,
 ) -> Result<Vec<Found<Kept>>, Memory>
     requires seats { AreSeated cache.now.table.shared.table_id cache.now.shards seats.old }
-    requires keys { AreKeys keys.now.design.now.design keys.now.table.now.modules.now keys.now.script.now all.now }
+    requires keys { TellKeys keys.now.design.now.design keys.now.table.now.modules.now keys.now.script.now found.now }
     ensures seats { AreSeated cache.now.table.shared.table_id cache.now.shards seats.new }
     ensures count { IfOk result (λ items. length items.items ≡ length keys.now.design.now.design.modules) }
     ensures answers { IfOk result (λ items.
@@ -76,20 +76,19 @@ fn found_by<R: Threads + Wait + Sync, G: Gate, L: Send>(
         alloc: crew.alloc,
         cache,
         keys,
-        all,
+        found,
     };
     jobs.run(crew.gate, seats, meter)
 }
 
-/// Finds the result of each module, by its key: what the cache does not have is built.
+/// Finds the result of each module: what the cache does not have is built.
 pub fn find_all<R: Threads + Wait + Sync, G: Gate, L: Send>(
     crew: &Crew<R, G>,
     keys: &Keys,
-    all: &[Key],
     results: &mut Results,
     meter: &mut Steps<L>,
 ) -> Result<(), Memory>
-    requires keys { AreKeys keys.now.design.now.design keys.now.table.now.modules.now keys.now.script.now all.now }
+    requires table { keys.now.table.now.modules.now ≡ keys.now.design.now.design.modules }
     requires sound { AreSound keys.now.design.now.design keys.now.script.now results.old }
     ensures sound { AreSound keys.now.design.now.design keys.now.script.now results.new }
     ensures ages { results.new.ages ≡ results.old.ages }
@@ -108,8 +107,8 @@ pub fn find_all<R: Threads + Wait + Sync, G: Gate, L: Send>(
     let items = found_by(
         crew,
         keys,
-        all,
         &results.cache,
+        results.found.as_slice(),
         results.seats.as_mut_slice(),
         meter,
     )?;

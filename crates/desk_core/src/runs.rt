@@ -162,9 +162,8 @@ pub fn tell<R: Threads + Wait + Sync, G: Gate, L: Send>(
         table: &table,
         script,
     };
-    let all = keys.all(alloc, results.found.as_slice())?;
-    let needed = needed_by(alloc, all.as_slice(), &mut results.ages)?;
-    find_all(crew, &keys, all.as_slice(), results, meter)?;
+    let needed = needed_by(alloc, &keys, results.found.as_slice(), &mut results.ages)?;
+    find_all(crew, &keys, results, meter)?;
     let told = tell_found(alloc, design, results.found.as_slice(), needed.built)?;
     Ok((told, needed))
 }

@@ -68,9 +68,8 @@ fn tell<R: Wait, L>(
         table: &table,
         script: &present.script,
     };
-    let all = keys.all(alloc, results.found.as_slice())?;
-    let needed = needed_by(alloc, all.as_slice(), &mut results.ages)?;
-    find_own(access, &keys, all.as_slice(), results, seat, meter)?;
+    let needed = needed_by(alloc, &keys, results.found.as_slice(), &mut results.ages)?;
+    find_own(access, &keys, results, seat, meter)?;
     let told = tell_found(
         alloc,
         &present.design,

@@ -88,13 +88,11 @@ impl<T: Copy + Drop> Stack<T> {
     }
 
     /// Puts these items on top, one after another.
-    #[tactic(auto, using(crate::proofs::Stacks::reverse_more))]
+    #[tactic(auto, using(crate::proofs::Stacks::reverse_both))]
     pub(crate) fn raise(&mut self, items: &[T]) -> Result<(), Memory>
         ensures ok { OnOk result (self.new ≡ reverse items.now ++ self.old) }
     {
-        for item in items {
-            self.push(*item)?;
-        }
+        self.items.extend_from_slice(items)?;
         Ok(())
     }
 }

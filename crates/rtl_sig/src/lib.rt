@@ -4,7 +4,6 @@
 mod fault;
 mod names;
 mod sig;
-mod sought;
 
 pub use fault::SigFault;
 pub use names::{NameId, Names};

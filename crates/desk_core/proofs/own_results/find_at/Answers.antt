@@ -1,8 +1,9 @@
 use Rattle.std.proofs.Common.{[], ◌∷◌, Some, refl, sym, ap, subst, ◌∙◌}
 use Rattle.result_cache.specs.Filled.{filled_keys, new_count, with_key}
 use Rattle.build_crew.specs.Rises.{RisesUpTo}
+use Rattle.script_core.specs.declared.key.Key.{Key}
 use Rattle.script_core.specs.Built.{IsValueOf}
-use Rattle.script_core.specs.Keys.{KeyParts, key_text}
+use Rattle.script_core.specs.Keys.{key_text}
 use Rattle.desk_core.specs.Netlist.{key_text_at}
 use Rattle.desk_core.specs.Solo.{Builds}
 use Rattle.desk_core.proofs.Lists.{set_got}
@@ -36,24 +37,24 @@ returns-in_err-result-clause-own g c =
 
 pub returns-in_err-result-clause-ticks : goal.returns-in_err-result-clause-ticks
 returns-in_err-result-clause-ticks g c =
-    subst (λ (k : KeyParts). RisesUpTo (new_count (filled_keys c.args.results.now.shard) (key_text k ∷ [])) c.args.meter.now c.take.new.meter) c.order-order.ensures.key c.take.ensures.ticks
+    subst (λ (k : Key). RisesUpTo (new_count (filled_keys c.args.results.now.shard) (key_text k ∷ [])) c.args.meter.now c.take.new.meter) c.order-order.ensures.key c.take.ensures.ticks
 
 pub returns-clause-own : goal.returns-clause-own
 returns-clause-own g c =
     let same = c.order-order.ensures.key in
     let own = c.in_ok-result.ensures.key in
     own_found c.args.keys.now.design.now.design c.args.keys.now.script.now c.args.results.now _ c.requires.own c.take.ensures.free refl c.args.at c.in_ok-result.result c.requires.in_range refl
-    (c.in_ok-result.ensures.filled ∙ ap (λ (k : KeyParts). with_key (key_text k) (filled_keys c.args.results.now.shard)) same)
+    (c.in_ok-result.ensures.filled ∙ ap (λ (k : Key). with_key (key_text k) (filled_keys c.args.results.now.shard)) same)
     (own ∙ same)
-    (subst (λ (k : KeyParts). IsValueOf k c.in_ok-result.result.outcome) (sym own) c.in_ok-result.ensures.value)
+    (subst (λ (k : Key). IsValueOf k c.in_ok-result.result.outcome) (sym own) c.in_ok-result.ensures.value)
 
 pub returns-clause-found : goal.returns-clause-found
 returns-clause-found g c = (c.in_ok-result.result, refl)
 
 pub returns-clause-built : goal.returns-clause-built
 returns-clause-built g c =
-    subst (λ (k : KeyParts). Builds (filled_keys c.args.results.now.shard) (key_text k ∷ []) c.args.seat.now c.take.new.seat c.args.meter.now c.take.new.meter) c.order-order.ensures.key c.in_ok-result.ensures.built
+    subst (λ (k : Key). Builds (filled_keys c.args.results.now.shard) (key_text k ∷ []) c.args.seat.now c.take.new.seat c.args.meter.now c.take.new.meter) c.order-order.ensures.key c.in_ok-result.ensures.built
 
 pub returns-clause-ticks : goal.returns-clause-ticks
 returns-clause-ticks g c =
-    subst (λ (k : KeyParts). RisesUpTo (new_count (filled_keys c.args.results.now.shard) (key_text k ∷ [])) c.args.meter.now c.take.new.meter) c.order-order.ensures.key c.take.ensures.ticks
+    subst (λ (k : Key). RisesUpTo (new_count (filled_keys c.args.results.now.shard) (key_text k ∷ [])) c.args.meter.now c.take.new.meter) c.order-order.ensures.key c.take.ensures.ticks

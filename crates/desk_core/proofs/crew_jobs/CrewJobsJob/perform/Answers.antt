@@ -1,17 +1,22 @@
 use denote.Param.Send.{sendable}
+use Rattle.std.proofs.Common.{◌≡◌, ◌<◌, Option, Some, None, length, get_or, refl, arith}
+use Rattle.std.specs.Prelude.{IfSome}
+use Rattle.script_core.specs.declared.built.Built.{Built}
 use Rattle.script_core.specs.Keys.{key_of}
 use Rattle.desk_core.specs.Asked.{asked_key}
-use Rattle.desk_core.proofs.Finding.{found_does, found_fits, key_there, keys_within}
+use Rattle.desk_core.proofs.Finding.{beside_own, found_does, found_fits}
 use Rattle.desk_core.proofs.Sending.{kept_send}
 use Rattle.desk_core.proofs.crew_jobs.CrewJobsJob.perform.Goals as goal
 
 pub bounds-self-number : goal.bounds-self-number
-bounds-self-number g c = keys_within c.args.self.now.keys.now.design.now.design _ _ c.args.self.now.all.now c.args.number c.requires.job.0 c.requires.job.1
+bounds-self-number g c = let tells = c.requires.job.0 in let inside = c.requires.job.1 in let e = tells.beside in omega (arith, e, inside)
 
 pub order-order-requires-clause-own : goal.order-order-requires-clause-own
 order-order-requires-clause-own g c =
     let keys = c.args.self.now.keys.now in
-    key_there keys.design.now.design keys.table.now.modules.now keys.script.now c.args.self.now.all.now c.args.number c.index-self-number.result c.requires.job.0 c.requires.job.1
+    let other = c.index-self-number.result in
+    beside_own keys.design.now.design keys.table.now.modules.now keys.script.now c.args.self.now.found.now c.args.number other
+    (get_or c.args.self.now.found.now c.args.number other) c.requires.job.0 c.requires.job.1 refl
 
 pub find-requires-send-O-Value : goal.find-requires-send-O-Value
 find-requires-send-O-Value g c κs = search (sendable, kept_send)
