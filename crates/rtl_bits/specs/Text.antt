@@ -1,5 +1,6 @@
 -- Where a text keeps its bytes.
 use Rattle.std.specs.Prelude.{ℕ, List}
+use Rattle.std.specs.Arc.{arc_value}
 use Rattle.rtl_bits.specs.declared.text.Bytes.{Bytes}
 use Rattle.rtl_bits.specs.declared.text.Bytes.TheVariants.{Inline, Boxed, Listed}
 
@@ -7,4 +8,4 @@ use Rattle.rtl_bits.specs.declared.text.Bytes.TheVariants.{Inline, Boxed, Listed
 abbrev pub bytes_of : Bytes → List ℕ
 bytes_of (Inline short) = short
 bytes_of (Boxed short) = short.value
-bytes_of (Listed bytes) = bytes.value.items
+bytes_of (Listed bytes) = (arc_value bytes).items

@@ -1,13 +1,20 @@
 //! Texts.
 
-ghost use Rattle.std.specs.Prelude.{◌≡◌, ◌+◌, ◌<◌, ◌≤◌, [], ◌∷◌, ◌++◌, IfOk, OnErr, OnOk, length};
+ghost use Rattle.std.specs.Prelude.{◌≡◌, ◌+◌, ◌<◌, ◌≤◌, [], ◌∷◌, ◌++◌, IfOk, OnErr, OnOk, length, if◌then◌else◌};
+ghost use Rattle.std.proofs.Common.{ap};
+ghost use Rattle.std.specs.Arc.{arc_value};
+ghost use Rattle.std.specs.Cmp.{partial_equiv_from_equiv};
+ghost use Rattle.std.specs.Cmp.Lexicographic.{bytes_decides, nat_list_eq_equiv};
+ghost use Rattle.std.specs.Str.{bytes_eq};
 ghost use Rattle.rtl_bits.specs.Text.{bytes_of};
 
 use crate::memory::Memory;
 use crate::seq::Copied;
 use crate::short::Short;
 use std::alloc::Global;
+use std::hash::{Hash, Hasher};
 use std::marker::Model;
+use std::sync::Arc;
 
 /// The most bytes that lie in the value itself.
 const INLINE: usize = 14;
@@ -15,8 +22,8 @@ const INLINE: usize = 14;
 /// The most bytes that lie in a box of this size.
 const BOXED: usize = 39;
 
-/// A text, as its bytes. Up to 14 of them lie in the value itself, up to 39 in a box, more in a list on the heap. It
-/// keeps the allocator that it was made with.
+/// A text, as its bytes. Up to 14 of them lie in the value itself, up to 39 in a box, more in a list on the heap, which
+/// the copies of the text share. It keeps the allocator that it was made with.
 #[derive(Drop)]
 pub struct Text {
     alloc: Global,
@@ -28,7 +35,7 @@ pub struct Text {
 enum Bytes {
     Inline(Short<INLINE>),
     Boxed(Box<Short<BOXED>>),
-    Listed(Box<Vec<u8>>),
+    Listed(Arc<Vec<u8>, Global>),
 }
 
 impl Model for Text {
@@ -54,7 +61,7 @@ impl Bytes {
         }
         let mut bytes = Vec::from_slice(alloc, first)?;
         bytes.extend_from_slice(second)?;
-        Ok(Bytes::Listed(Box::new(alloc, bytes)?))
+        Ok(Bytes::Listed(Arc::new(alloc, bytes)?))
     }
 
     /// The bytes in order.
@@ -66,6 +73,24 @@ impl Bytes {
             Bytes::Boxed(short) => short.as_slice(),
             Bytes::Listed(bytes) => bytes.as_slice(),
         }
+    }
+
+    /// Appends the bytes where these lie, or answers `false`: there is no room, or these are shared.
+    fn extend_in_place(&mut self, more: &[u8]) -> Result<bool, Memory>
+        ensures done { IfOk result (λ done.
+            bytes_of self.new ≡ (if done then bytes_of self.old ++ more.now else bytes_of self.old)) }
+        ensures err { OnErr result (bytes_of self.new ≡ bytes_of self.old) }
+    {
+        match self {
+            Bytes::Inline(short) if short.has_room(more.len()) => short.extend(more),
+            Bytes::Boxed(short) if short.has_room(more.len()) => short.extend(more),
+            Bytes::Listed(bytes) => match Arc::get_mut(bytes) {
+                Some(own) => own.extend_from_slice(more)?,
+                None => return Ok(false),
+            },
+            _ => return Ok(false),
+        }
+        Ok(true)
     }
 }
 
@@ -79,6 +104,16 @@ fn both<const N: usize>(first: &[u8], second: &[u8]) -> Short<N>
     short.extend(first);
     short.extend(second);
     short
+}
+
+/// The bytes, which are copied only where they are shared.
+fn owned(alloc: Global, bytes: Arc<Vec<u8>, Global>) -> Result<Vec<u8>, Memory>
+    ensures value { IfOk result (λ own. own.items ≡ (arc_value bytes).items) }
+{
+    match Arc::try_unwrap(bytes) {
+        Ok(own) => Ok(own),
+        Err(shared) => Ok(Vec::from_slice(alloc, shared.as_slice())?),
+    }
 }
 
 impl Text {
@@ -112,17 +147,17 @@ impl Text {
         }
         Ok(Text {
             alloc,
-            bytes: Bytes::Listed(Box::new(alloc, bytes)?),
+            bytes: Bytes::Listed(Arc::new(alloc, bytes)?),
         })
     }
 
-    /// The bytes. A text of more than 39 takes no memory for that.
+    /// The bytes. A text of more than 39 takes no memory for that, unless a copy of it shares them.
     pub fn into_vec(self) -> Result<Vec<u8>, Memory>
         ensures value { IfOk result (λ bytes. bytes.items ≡ self) }
     {
         let Text { alloc, bytes } = self;
         match bytes {
-            Bytes::Listed(bytes) => Ok(Box::into_inner(bytes)),
+            Bytes::Listed(bytes) => owned(alloc, bytes),
             short => Ok(Vec::from_slice(alloc, short.as_slice())?),
         }
     }
@@ -147,15 +182,11 @@ impl Text {
         ensures ok { OnOk result (self.new ≡ self.old ++ more.now) }
         ensures err { OnErr result (self.new ≡ self.old) }
     {
-        match &mut self.bytes {
-            Bytes::Listed(bytes) => bytes.extend_from_slice(more)?,
-            Bytes::Inline(short) if short.has_room(more.len()) => short.extend(more),
-            Bytes::Boxed(short) if short.has_room(more.len()) => short.extend(more),
-            full => {
-                let longer = Bytes::of(self.alloc, full.as_slice(), more)?;
-                self.bytes = longer;
-            }
+        if self.bytes.extend_in_place(more)? {
+            return Ok(());
         }
+        let longer = Bytes::of(self.alloc, self.as_slice(), more)?;
+        self.bytes = longer;
         Ok(())
     }
 
@@ -167,12 +198,36 @@ impl Text {
 
 impl Copied for Text {
     fn copy(&self) -> Result<Text, Memory> {
-        if let Bytes::Inline(short) = &self.bytes {
-            return Ok(Text {
-                alloc: self.alloc,
-                bytes: Bytes::Inline(short.copy()),
-            });
-        }
-        Text::from_slice(self.alloc, self.as_slice())
+        let alloc = self.alloc;
+        let bytes = match &self.bytes {
+            Bytes::Inline(short) => Bytes::Inline(short.copy()),
+            Bytes::Boxed(short) => Bytes::Boxed(Box::new(alloc, short.copy())?),
+            Bytes::Listed(bytes) => Bytes::Listed(Arc::try_clone(bytes)?),
+        };
+        Ok(Text { alloc, bytes })
+    }
+}
+
+impl PartialEq for Text {
+    ghost eq = { bytes_eq };
+
+    ghost laws = { partial_equiv_from_equiv nat_list_eq_equiv };
+
+    fn eq(&self, other: &Text) -> bool {
+        self.as_slice() == other.as_slice()
+    }
+}
+
+impl Eq for Text {
+    ghost laws = { nat_list_eq_equiv };
+}
+
+impl Hash for Text {
+    ghost hash_input = { λ text. text ∷ [] };
+
+    ghost respects_eq = { λ x y same. ap (λ bytes. bytes ∷ []) ((bytes_decides x y).0 same) };
+
+    fn hash<H: Hasher>(&self, state: &mut H) {
+        state.write(self.as_slice());
     }
 }

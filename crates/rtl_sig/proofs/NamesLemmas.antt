@@ -1,39 +1,17 @@
--- Tests of the texts that keys hold, and where a name stands.
-use Rattle.std.proofs.Common.{◌≡◌, ℕ, ◌+◌, Bool, true, false, not, cond, ◌||◌, List, [], ◌∷◌, ◌++◌, Some, None, Vec, Global, map, length, position, nat_lt, slice_get, refl, sym, ◌∙◌, ap, subst, arith, true≢false}
-use Rattle.std.proofs.lemmas.List.{length-map, map-append, append-nil, append_assoc}
+-- Where a name stands.
+use Rattle.std.proofs.Common.{◌≡◌, ℕ, Bool, true, false, ◌||◌, List, [], ◌∷◌, ◌++◌, Some, None, length, nat_lt, slice_get, refl, sym, ◌∙◌, ap, subst, arith, true≢false}
+use Rattle.std.proofs.lemmas.List.{append-nil, append_assoc}
 use Rattle.std.proofs.lemmas.List.Folds.{list_any-append}
 use borrow.Author.Tests.{ltb-true}
-use Rattle.indexmap.specs.IndexSet.{insert_key}
 use Rattle.std.proofs.lemmas.Grind.{common_steps}
 use Rattle.std.proofs.lemmas.Slice.Eq.{bytes_eq-Decides}
-use Rattle.std.specs.List.{list_any, position_or_len, IsDistinct, AllByRecursion}
+use Rattle.std.specs.List.{list_any, IsDistinct, AllByRecursion}
 use Rattle.std.specs.Str.{bytes_eq}
 use Rattle.rtl_sig.specs.Names.{number_of, next_number_of, with_name}
 
 or-false : (b : Bool) → (b || false) ≡ b
 or-false true = refl
 or-false false = refl
-
-module _ {A B : Type 0} (g : A → B) where
-  pub position_or_len-map : (f : B → Bool) (xs : List A) → position_or_len (λ x. f (g x)) xs ≡ position_or_len f (map g xs)
-  position_or_len-map f [] = refl
-  position_or_len-map f (x ∷ xs) = ap (λ n. cond (not (f (g x))) (1 + n) 0) (position_or_len-map f xs)
-
-  pub position-map : (f : B → Bool) (xs : List A) → position (λ x. f (g x)) xs ≡ position f (map g xs)
-  position-map f xs = rw (position_or_len-map f xs, length-map xs g) refl
-
-  pub list_any-map : (f : B → Bool) (xs : List A) → list_any (λ x. f (g x)) xs ≡ list_any f (map g xs)
-  list_any-map f [] = refl
-  list_any-map f (x ∷ xs) = ap (λ b. f (g x) || b) (list_any-map f xs)
-
-  AllByRecursion-map : (P : B → Type 0) (xs : List A) → AllByRecursion (λ x. P (g x)) xs → AllByRecursion P (map g xs)
-  AllByRecursion-map P [] h = h
-  AllByRecursion-map P (x ∷ xs) h = (h.0, AllByRecursion-map P xs h.1)
-
-  pub IsDistinct-map : (e : B → B → Bool) (xs : List A) → IsDistinct (λ x y. e (g x) (g y)) xs → IsDistinct e (map g xs)
-  unfolding IsDistinct
-  IsDistinct-map e [] h = h
-  IsDistinct-map e (x ∷ xs) h = (AllByRecursion-map (λ y. e (g x) y ≡ false) xs h.0, IsDistinct-map e xs h.1)
 
 -- a known name stands at its number
 pub slice_get-known : (name : List ℕ) (names : List (List ℕ)) → list_any (bytes_eq name) names ≡ true → slice_get names (next_number_of names name) ≡ Some name
@@ -54,34 +32,17 @@ next_number_of-new name (x ∷ xs) h = by (bytes_eq name x) refl (next_number_of
     by true e ih = absurd (true≢false (rw e at h))
     by false e ih = rw e (let new : list_any (bytes_eq name) xs ≡ false = rw e at h in let n = ih new in omega arith)
 
-slice_get-end : (names : List (List ℕ)) (name : List ℕ) → slice_get (names ++ name ∷ []) (length names) ≡ Some name
-slice_get-end [] name = refl
-slice_get-end (x ∷ xs) name = slice_get-end xs name
-
--- a name that was seen stands at its number
-pub slice_get-with_name : (names : List (List ℕ)) (name : List ℕ) → slice_get (with_name names name) (next_number_of names name) ≡ Some name
-slice_get-with_name names name = by (list_any (bytes_eq name) names) refl
+-- a name that has a number stands there
+pub slice_get-number_of : (name : List ℕ) (names : List (List ℕ)) (index : ℕ) → Some index ≡ number_of names name → slice_get names index ≡ Some name
+slice_get-number_of name names index h = by (list_any (bytes_eq name) names) refl (nat_lt (next_number_of names name) (length names)) refl
   where
-    by : (b : Bool) → list_any (bytes_eq name) names ≡ b → slice_get (with_name names name) (next_number_of names name) ≡ Some name
-    by true e = rw e (slice_get-known name names e)
-    by false e = rw (e, next_number_of-new name names e) (slice_get-end names name)
-
--- what the number of a known name says
-pub record IsKnownAt (names : List (List ℕ)) (name : List ℕ) (index : ℕ) : Type 0 where
-  pub number : index ≡ next_number_of names name
-  pub stays : names ≡ with_name names name
-  pub text : slice_get names index ≡ Some name
-
-pub IsKnownAt-number_of : (names : List (List ℕ)) (name : List ℕ) (index : ℕ) → Some index ≡ number_of names name → IsKnownAt names name index
-IsKnownAt-number_of names name index h = by (list_any (bytes_eq name) names) refl (nat_lt (next_number_of names name) (length names)) refl
-  where
-    by : (b : Bool) → list_any (bytes_eq name) names ≡ b → (t : Bool) → nat_lt (next_number_of names name) (length names) ≡ t → IsKnownAt names name index
+    by : (b : Bool) → list_any (bytes_eq name) names ≡ b → (t : Bool) → nat_lt (next_number_of names name) (length names) ≡ t → slice_get names index ≡ Some name
     by b e false f = absurd (let k : Some index ≡ None = rw f at h in cc)
     by false e true f = absurd (let n = next_number_of-new name names e in let k = ltb-true _ _ f in omega arith)
     by true e true f =
         let k : Some index ≡ Some (next_number_of names name) = rw f at h in
         let n : index ≡ next_number_of names name = cc in
-        record { number = n; stays = rw e refl; text = rw n (slice_get-known name names e) }
+        rw n (slice_get-known name names e)
 
 -- a name is known once another one is seen where it was known before or is that one
 pub list_any-with_name : (name : List ℕ) (names : List (List ℕ)) (new : List ℕ) → list_any (bytes_eq name) (with_name names new) ≡ (list_any (bytes_eq name) names || bytes_eq name new)
@@ -94,25 +55,6 @@ list_any-with_name name names new = by (list_any (bytes_eq new) names) refl (byt
         let same : name ≡ new = (bytes_eq-Decides name new).0 f in
         let known : list_any (bytes_eq name) names ≡ true = subst (λ n. list_any (bytes_eq n) names ≡ true) (sym same) e in
         rw (e, known) refl
-
--- the text that a key holds
-abbrev pub text_of : Vec ℕ Global → List ℕ
-text_of key = key.items
-
--- keys that hold names: as the keys are, so are the names
-module _ {K : Type 0} (text : K → List ℕ) (keys : List K) where
-  pub number_of-map : (name : List ℕ) → position (λ k. bytes_eq name (text k)) keys ≡ number_of (map text keys) name
-  number_of-map name = position-map text (bytes_eq name) keys
-
-  pub next_number_of-map : (key : K) → position_or_len (λ k. bytes_eq (text key) (text k)) keys ≡ next_number_of (map text keys) (text key)
-  next_number_of-map key = position_or_len-map text (bytes_eq (text key)) keys
-
-  pub with_name-map : (key : K) → map text (insert_key (λ x y. bytes_eq (text x) (text y)) keys key) ≡ with_name (map text keys) (text key)
-  with_name-map key = by (list_any (λ k. bytes_eq (text key) (text k)) keys) refl
-    where
-      by : (b : Bool) → list_any (λ k. bytes_eq (text key) (text k)) keys ≡ b → map text (insert_key (λ x y. bytes_eq (text x) (text y)) keys key) ≡ with_name (map text keys) (text key)
-      by true e = let f = sym (list_any-map text (bytes_eq (text key)) keys) ∙ e in rw (e, f) refl
-      by false e = let f = sym (list_any-map text (bytes_eq (text key)) keys) ∙ e in rw (e, f) (map-append text keys (key ∷ []))
 
 -- the names once all of these are seen
 abbrev pub with_all : List (List ℕ) → List (List ℕ) → List (List ℕ)

@@ -4,6 +4,7 @@
 mod fault;
 mod names;
 mod sig;
+mod sought;
 
 pub use fault::SigFault;
 pub use names::{NameId, Names};

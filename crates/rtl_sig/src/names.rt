@@ -4,8 +4,9 @@ ghost use Rattle.std.specs.Prelude.{◌≡◌, ◌<◌, [], Some, IfOk, IfSome, 
 ghost use Rattle.std.specs.Option.{option_map};
 ghost use Rattle.rtl_sig.specs.Names.{has_name, number_of, next_number_of, with_name, AreDistinct};
 
+use crate::sought::Sought;
 use indexmap::IndexSet;
-use rtl_bits::{Copied, Memory};
+use rtl_bits::{Copied, Memory, Text};
 use std::alloc::Global;
 use std::marker::Model;
 
@@ -18,15 +19,15 @@ pub struct NameId {
 /// The names that were seen, each once, in the order in which they came. A name is any bytes.
 #[derive(Drop)]
 pub struct Names {
-    seen: IndexSet<Vec<u8>>,
+    seen: IndexSet<Text>,
 }
 
 impl Model for Names {
-    ghost use Rattle.std.specs.Prelude.{ℕ, List, map};
+    ghost use Rattle.std.specs.Prelude.{ℕ, List};
 
     ghost Value = { List (List ℕ) };
 
-    ghost view = { λ names. map (λ name. name.items) names.seen.keys };
+    ghost view = { λ names. names.seen.keys };
 }
 
 impl Names {
@@ -56,10 +57,35 @@ impl Names {
         ensures text { IfOk result (λ id. slice_get self.new id.index ≡ Some name.now) }
         ensures err { OnErr result (self.new ≡ self.old) }
     {
-        if let Some(index) = self.seen.get_index_of(name) {
-            return Ok(NameId { index });
+        if let Some(id) = self.find(name) {
+            return Ok(id);
         }
-        let name = Vec::from_slice(*self.seen.allocator(), name)?;
+        let name = Text::from_slice(*self.seen.allocator(), name)?;
+        self.put(name)
+    }
+
+    /// As `intern`. Of a new name of more than 39 bytes the bytes are shared, not copied.
+    pub fn intern_text(&mut self, name: &Text) -> Result<NameId, Memory>
+        ensures number { IfOk result (λ id. id.index ≡ next_number_of self.old name.now) }
+        ensures names { OnOk result (self.new ≡ with_name self.old name.now) }
+        ensures within { IfOk result (λ id. id.index < length self.new) }
+        ensures text { IfOk result (λ id. slice_get self.new id.index ≡ Some name.now) }
+        ensures err { OnErr result (self.new ≡ self.old) }
+    {
+        if let Some(id) = self.find(name.as_slice()) {
+            return Ok(id);
+        }
+        self.put(name.copy()?)
+    }
+
+    /// The number of the name, which is put last where it is new. After an error the names are as before.
+    fn put(&mut self, name: Text) -> Result<NameId, Memory>
+        ensures number { IfOk result (λ id. id.index ≡ next_number_of self.old name) }
+        ensures names { OnOk result (self.new ≡ with_name self.old name) }
+        ensures within { IfOk result (λ id. id.index < length self.new) }
+        ensures text { IfOk result (λ id. slice_get self.new id.index ≡ Some name) }
+        ensures err { OnErr result (self.new ≡ self.old) }
+    {
         let (index, _) = self.seen.insert_full(name)?;
         Ok(NameId { index })
     }
@@ -71,7 +97,7 @@ impl Names {
         ensures within { IfSome result (λ id. id.index < length self.now) }
         ensures text { IfSome result (λ id. slice_get self.now id.index ≡ Some name.now) }
     {
-        let index = self.seen.get_index_of(name)?;
+        let index = self.seen.get_index_of(Sought { name })?;
         Some(NameId { index })
     }
 
@@ -82,13 +108,21 @@ impl Names {
     {
         self.seen.as_slice()[id.index].as_slice()
     }
+
+    /// The name of this number. Where it has more than 39 bytes, these are shared, not copied.
+    pub fn shared(&self, id: NameId) -> Result<Text, Memory>
+        requires in_range { id.index < length self.now }
+        ensures value { IfOk result (λ text. slice_get self.now id.index ≡ Some text) }
+    {
+        self.seen.as_slice()[id.index].copy()
+    }
 }
 
 impl Copied for Names {
     fn copy(&self) -> Result<Names, Memory> {
         let mut copy = Names::make(*self.seen.allocator());
         for name in self.seen.as_slice() {
-            copy.intern(name.as_slice())?;
+            copy.intern_text(name)?;
         }
         Ok(copy)
     }
