@@ -4,7 +4,7 @@ use Rattle.std.specs.Prelude.{◌&&◌, codes, map, nat_lt}
 use Rattle.std.specs.Fmt.{decimal}
 use Rattle.std.specs.List.{AllByRecursion, IsDistinct, list_all, range_with_len}
 use Rattle.std.specs.Str.{bytes_eq}
-use Rattle.std.proofs.lemmas.Bool.{lt-ltb}
+use Rattle.std.proofs.lemmas.Bool.{and_from, lt-ltb}
 use Rattle.std.proofs.lemmas.Fmt.{decimal_by_steps, decimal_injective}
 use Rattle.std.proofs.lemmas.List.{append_cancel_left}
 use Rattle.std.proofs.lemmas.Slice.Eq.{bytes_eq-Decides}
@@ -22,12 +22,13 @@ all_more : (ds : List ℕ) (d : ℕ) → list_all is_name ds ≡ true → is_nam
 all_more [] d e h = grind (arith, h)
 all_more (c ∷ ds) d e h = grind (arith, all_more ds d, e, h)
 
-digit_is : (n : ℕ) → is_name (48 + n) ≡ true
-digit_is n = lt-ltb 32 (48 + n) (omega arith)
+digit_is : (n : ℕ) → n < 10 → is_name (48 + n) ≡ true
+digit_is n small =
+    and_from (nat_lt 32 (48 + n)) (nat_lt (48 + n) 256) (lt-ltb 32 (48 + n) (omega arith)) (lt-ltb (48 + n) 256 (omega (arith, small)))
 
 digits_are : (n : ℕ) → n < 2 ^ 64 → list_all is_name (decimal n) ≡ true
 digits_are =
-    decimal_by_steps (λ n ds. list_all is_name ds ≡ true) (λ n h. grind (arith, digit_is n)) (λ n ds h e. all_more ds (48 + n % 10) e (digit_is (n % 10)))
+    decimal_by_steps (λ n ds. list_all is_name ds ≡ true) (λ n h. grind (arith, digit_is n h)) (λ n ds h e. all_more ds (48 + n % 10) e (digit_is (n % 10) (omega arith)))
 
 pub name_is : (n : ℕ) → n < 2 ^ 64 → IsName (name_at n)
 name_is n few = both (nat_lt 0 (length (103 ∷ decimal n))) (list_all is_name (103 ∷ decimal n)) (lt-ltb 0 (length (103 ∷ decimal n)) (omega arith)) (digits_are n few)

@@ -1,24 +1,14 @@
 //! The cells of a generated module.
 
 ghost use Rattle.std.specs.Prelude.{◌≡◌, IfOk};
-ghost use Rattle.cell_types.specs.PinName.{pin_text};
-ghost use Rattle.rtl_ir.specs.Build.{pin_of, whole};
 ghost use Rattle.generated_design.specs.Generate.{adder, register};
 
 use crate::wires::{A, B, C, S, Y};
 use cell_types::{ParamName, PinName};
 use net_index::whole;
 use rtl_bits::{Memory, Seq, Text};
-use rtl_ir::{Cell, Pin, integer_param, pin_of};
+use rtl_ir::{Cell, integer_param, pin_of};
 use std::alloc::Global;
-
-/// A pin that is connected to the whole of a wire.
-fn pin(alloc: Global, name: PinName, wire: u32, width: u32) -> Result<Pin, Memory>
-    ensures value { IfOk result (λ pin. pin ≡ pin_of (pin_text name) (whole wire width)) }
-{
-    let signal = whole(alloc, wire, width)?;
-    pin_of(alloc, name, signal.as_slice())
-}
 
 /// The adder, from `\a` and `\b` to `$s`.
 pub fn adder(alloc: Global, width: u32) -> Result<Cell, Memory>
@@ -32,9 +22,9 @@ pub fn adder(alloc: Global, width: u32) -> Result<Cell, Memory>
     params.push(integer_param(alloc, ParamName::BWidth, bits)?)?;
     params.push(integer_param(alloc, ParamName::YWidth, bits)?)?;
     let mut pins = Seq::make(alloc);
-    pins.push(pin(alloc, PinName::A, A, width)?)?;
-    pins.push(pin(alloc, PinName::B, B, width)?)?;
-    pins.push(pin(alloc, PinName::Y, S, width)?)?;
+    pins.push(pin_of(alloc, PinName::A, whole(alloc, A, width)?.as_slice())?)?;
+    pins.push(pin_of(alloc, PinName::B, whole(alloc, B, width)?.as_slice())?)?;
+    pins.push(pin_of(alloc, PinName::Y, whole(alloc, S, width)?.as_slice())?)?;
     Ok(Cell {
         kind_name: Text::from_slice(alloc, b"$add")?,
         name: Text::from_slice(alloc, b"$1")?,
@@ -52,9 +42,9 @@ pub fn register(alloc: Global, width: u32) -> Result<Cell, Memory>
     params.push(integer_param(alloc, ParamName::Width, width as usize)?)?;
     params.push(integer_param(alloc, ParamName::ClkPolarity, 1)?)?;
     let mut pins = Seq::make(alloc);
-    pins.push(pin(alloc, PinName::Clk, C, 1)?)?;
-    pins.push(pin(alloc, PinName::D, S, width)?)?;
-    pins.push(pin(alloc, PinName::Q, Y, width)?)?;
+    pins.push(pin_of(alloc, PinName::Clk, whole(alloc, C, 1)?.as_slice())?)?;
+    pins.push(pin_of(alloc, PinName::D, whole(alloc, S, width)?.as_slice())?)?;
+    pins.push(pin_of(alloc, PinName::Q, whole(alloc, Y, width)?.as_slice())?)?;
     Ok(Cell {
         kind_name: Text::from_slice(alloc, b"$dff")?,
         name: Text::from_slice(alloc, b"$2")?,

@@ -1,9 +1,8 @@
 -- The copies of wires, memories and cells are such as a text can give.
-use Rattle.std.proofs.Common.{◌≡◌, ℕ, ◌<◌, ◌≤◌, Bool, true, false, cond, List, [], ◌∷◌, ◌++◌, length, map, Option, Some, None, inl, inr, refl, sym, ap, subst, arith}
+use Rattle.std.proofs.Common.{◌≡◌, ℕ, ◌≤◌, Bool, true, false, cond, List, [], ◌∷◌, ◌++◌, length, map, Option, Some, None, refl, sym, ap, subst, arith}
 use Rattle.std.specs.List.{All}
 use Rattle.std.specs.Str.{bytes_eq}
 use Rattle.std.proofs.lemmas.List.Elements.{All-cons, All-head, All-map, All-nil, All-tail, All-weaker}
-use Rattle.std.proofs.lemmas.Slice.Eq.{bytes_eq-Decides}
 use Rattle.rtl_sig.specs.Names.{AreDistinct}
 use Rattle.cell_types.specs.declared.kind.CellKind.{CellKind}
 use Rattle.cell_types.specs.declared.kind.CellKind.TheVariants.{Gate, Memory, Storage, StorageGate, Word}
@@ -17,17 +16,14 @@ use Rattle.rtl_ir.specs.declared.value.Value.{Value}
 use Rattle.rtl_ir.specs.declared.value.Value.TheVariants.{Bits, Chars, Int}
 use Rattle.rtl_ir.specs.declared.wire.Wire.{Wire}
 use Rattle.rtl_ir.specs.Build.{Building}
-use Rattle.rtl_ir.specs.Flat.Cell.{cell_kind, instance_of, instances, listed}
-use Rattle.rtl_ir.specs.Flat.Place.{Frame, frame}
-use Rattle.net_model.specs.Within.{Each}
-use Rattle.rtl_readable.specs.Readable.{IsCell, IsCellParam, IsChar, IsConstant, IsName, IsPin, IsStore, IsWire}
+use Rattle.rtl_ir.specs.Flat.Cell.{cell_kind}
+use Rattle.rtl_readable.specs.Readable.{IsCell, IsCellParam, IsConstant, IsName, IsPin, IsStore, IsWire}
 use Rattle.flat_pass.specs.Copies.{Copying, copied_params, copied_pin, renamed, renamed_param, renamed_value}
 use Rattle.flat_pass.specs.Flat.{copy_name, dotted, next_after, put_all, put_cell, put_store, put_wire, store_copies}
 use Rattle.flat_pass.proofs.Closed.{cell_copies, stores_copied, wire_copies}
 use Rattle.flat_pass.proofs.Fresh.{all_rises, cell_adds, store_adds, wire_adds}
-use Rattle.flat_pass.proofs.Partners.{Paired, WireCopied, kind_same, store_name}
-use Rattle.readable_flat.specs.Instances.{IsOfBytes}
-use Rattle.readable_flat.proofs.Names.{copy_bytes, copy_is_name, copy_short, name_chars}
+use Rattle.flat_pass.proofs.Partners.{Paired, WireCopied, store_name}
+use Rattle.readable_flat.proofs.Names.{copy_is_name, copy_short, name_chars}
 use Rattle.readable_flat.proofs.Signals.{pin_copied}
 
 -- ---- fresh names of the copies so far
@@ -78,14 +74,11 @@ stores_read instance (s ∷ ss) b is all few =
 
 -- ---- the string that names a memory
 
-char_small : (c : ℕ) → IsChar c → c < 256
-char_small c h = h.1
-
-pub renamed_read : (instance : List ℕ) (ss : List Store) (b : Building) (name : List ℕ) → IsName instance → IsOfBytes instance → All IsStore ss → (put_all (put_store instance) ss b).next ≤ 1000000000 → IsConstant (Chars name) → IsConstant (Chars (renamed (map store_name ss) (store_copies instance ss b) name))
-renamed_read instance [] b name is bytes all few h = h
-renamed_read instance (s ∷ ss) b name is bytes all few h =
+pub renamed_read : (instance : List ℕ) (ss : List Store) (b : Building) (name : List ℕ) → IsName instance → All IsStore ss → (put_all (put_store instance) ss b).next ≤ 1000000000 → IsConstant (Chars name) → IsConstant (Chars (renamed (map store_name ss) (store_copies instance ss b) name))
+renamed_read instance [] b name is all few h = h
+renamed_read instance (s ∷ ss) b name is all few h =
     by (bytes_eq s.name name) refl
-    (renamed_read instance ss (put_store instance s b) name is bytes (All-tail IsStore s ss all) few h)
+    (renamed_read instance ss (put_store instance s b) name is (All-tail IsStore s ss all) few h)
   where
     new : List ℕ
     new = copy_name b (dotted instance s.name)
@@ -97,10 +90,8 @@ renamed_read instance (s ∷ ss) b name is bytes all few h =
     by false e later = later
     by true e later =
         let low : next_after b (dotted instance s.name) ≤ 1000000000 = omega (arith, few, stores_rise instance ss (put_store instance s b)) in
-        let same : s.name ≡ name = (bytes_eq-Decides s.name name).0 e in
-        let own : IsOfBytes s.name = subst IsOfBytes (sym same) (All-weaker IsChar (λ (c : ℕ). c < 256) char_small name h.0) in
         let named : IsName s.name = (All-head IsStore s ss all).name in
-        (name_chars new (copy_is_name b instance s.name low is named) (copy_bytes b instance s.name low bytes own), omega (arith, copy_short b instance s.name low))
+        (name_chars new (copy_is_name b instance s.name low is named), omega (arith, copy_short b instance s.name low))
 
 -- ---- parameters and pins
 
@@ -173,26 +164,3 @@ module _ (k : Copying) (own new ws : List Wire) (paired : Paired WireCopied ws n
         attributes = cell.attributes;
       })
       (cells_read cs (put_cell k c b) (All-tail (IsCell ws) c cs all) few)
-
--- the names of the copies of instances are of bytes
-pub cells_bytes : (k : Copying) (cs : List Cell) (b : Building) → IsOfBytes k.instance → (put_all (put_cell k) cs b).next ≤ 1000000000 → Each (λ (f : Frame). IsOfBytes f.name) (instances cs) → Each (λ (f : Frame). IsOfBytes f.name) (instances (cell_copies k cs b))
-cells_bytes k [] b bytes few each f i = absurd i
-cells_bytes k (c ∷ cs) b bytes few each g j =
-    by (cell_kind c) (cell_kind e) (kind_same c e refl) each (λ h. cells_bytes k cs (put_cell k c b) bytes few h) g j
-  where
-    e : Cell
-    e = record c { name = copy_name b (dotted k.instance c.name); params = copied_params k (cell_kind c) c.params; pins = map (copied_pin k.first) c.pins }
-
-    rest : List Cell
-    rest = cell_copies k cs (put_cell k c b)
-
-    low : next_after b (dotted k.instance c.name) ≤ 1000000000
-    low = omega (arith, few, cells_rise k cs (put_cell k c b))
-
-    by : (o o' : Option CellKind) → o' ≡ o → Each (λ (f : Frame). IsOfBytes f.name) (listed (instance_of c o) ++ instances cs) → (Each (λ (f : Frame). IsOfBytes f.name) (instances cs) → Each (λ (f : Frame). IsOfBytes f.name) (instances rest)) → Each (λ (f : Frame). IsOfBytes f.name) (listed (instance_of e o') ++ instances rest)
-    by (Some a) (Some a') r h later f i = later h f i
-    by None None r h later f (inl s) =
-        subst (λ (g : Frame). IsOfBytes g.name) (sym s) (copy_bytes b k.instance c.name low bytes (h (frame c.name c.kind_name) (inl refl)))
-    by None None r h later f (inr i) = later (λ z l. h z (inr l)) f i
-    by (Some a) None r h later f i = absurd cc
-    by None (Some a) r h later f i = absurd cc

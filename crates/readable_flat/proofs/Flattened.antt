@@ -1,5 +1,5 @@
 -- One replacement after another leaves a module whose items a text can give.
-use Rattle.std.proofs.Common.{◌≡◌, ⊎_elim, ℕ, zero, suc, ◌≤◌, Bool, true, false, cond, ◌&&◌, List, [], ◌∷◌, ◌++◌, length, map, Option, Some, None, inl, inr, refl, sym, ◌∙◌, ap, subst, arith}
+use Rattle.std.proofs.Common.{◌≡◌, ℕ, zero, suc, ◌≤◌, Bool, true, false, cond, ◌&&◌, List, [], ◌∷◌, ◌++◌, length, map, Option, Some, None, inl, inr, refl, sym, ◌∙◌, ap, subst, arith}
 use Rattle.std.specs.Prelude.{nat_le, unwrap_or}
 use Rattle.std.specs.List.{All, IsDistinct}
 use Rattle.std.proofs.lemmas.Bool.{and_parts, leb-true}
@@ -10,15 +10,10 @@ use Rattle.rtl_ir.specs.declared.module.Module.{Module}
 use Rattle.rtl_ir.specs.declared.wire.Wire.{Wire}
 use Rattle.rtl_ir.specs.Build.{Building, building_of}
 use Rattle.rtl_ir.specs.Empty.{empty_module}
-use Rattle.rtl_ir.specs.Flat.Cell.{instances}
-use Rattle.rtl_ir.specs.Flat.Place.{frame}
 use Rattle.rtl_ir.specs.Flat.Tree.{named}
 use Rattle.net_index.specs.Builder.{IsInLimits, building_from}
 use Rattle.net_index.specs.Numbering.{bit_count, widths_of}
-use Rattle.net_model.specs.Lists.{In}
 use Rattle.net_model.specs.Within.{Each}
-use Rattle.net_model.proofs.Members.{In-cases}
-use Rattle.net_model.proofs.Swapping.{instances-append}
 use Rattle.rtl_readable.specs.Readable.{IsCell, IsLink, IsName, IsParameter, IsProcess, IsStore, IsWire, item_names}
 use Rattle.rtl_readable.proofs.Counting.{distinct_from_times, item_times, times_from_distinct}
 use Rattle.rtl_readable.proofs.Grown.{grown_cell, grown_link, grown_process}
@@ -30,9 +25,8 @@ use Rattle.flat_pass.proofs.Fresh.{IsFresh, fresh_at_first}
 use Rattle.flat_pass.proofs.Melted.{after, after_is, around, cells_new, copying_new, stores_new, wires_new}
 use Rattle.flat_pass.proofs.OneGoes.{named_in}
 use Rattle.flat_pass.proofs.Partners.{Paired, WireCopied, wire_name, wires_paired}
-use Rattle.flat_pass.proofs.Taking.{Split, first_split, rest_in, some_same, taken_in, taken_instances}
-use Rattle.readable_flat.specs.Instances.{IsOfBytes, NamesInstances}
-use Rattle.readable_flat.proofs.Copies.{cells_bytes, cells_read, cells_rise, renamed_read, stores_read, stores_rise, wires_read}
+use Rattle.flat_pass.proofs.Taking.{Split, first_split, rest_in, some_same, taken_in}
+use Rattle.readable_flat.proofs.Copies.{cells_read, cells_rise, renamed_read, stores_read, stores_rise, wires_read}
 use Rattle.readable_flat.proofs.Distinct.{IsOpen, around_open, cells_open, stores_open, wires_open}
 use Rattle.readable_flat.proofs.Links.{all_at, links_read}
 
@@ -42,7 +36,7 @@ each_all P (x ∷ xs) each = All-cons P x xs (each x (inl refl)) (each_all P xs 
 
 -- ---- one replacement
 
-module _ (bb : Building) (f : Cell) (rest : List Cell) (n : Module) (taken : Split f rest bb.body.cells) (own : HasReadableItems bb.body) (bytes : NamesInstances bb.body) (fresh : IsFresh bb) (child : HasReadableItems n) (inner : NamesInstances n) (few : (replaced n f (around bb f rest n)).next ≤ 1000000000) where
+module _ (bb : Building) (f : Cell) (rest : List Cell) (n : Module) (taken : Split f rest bb.body.cells) (own : HasReadableItems bb.body) (fresh : IsFresh bb) (child : HasReadableItems n) (few : (replaced n f (around bb f rest n)).next ≤ 1000000000) where
   few_cells : (put_all (put_cell (copying_new bb f rest n)) n.cells (stored n f (around bb f rest n))).next ≤ 1000000000
   unfolding replaced
   few_cells = few
@@ -57,10 +51,6 @@ module _ (bb : Building) (f : Cell) (rest : List Cell) (n : Module) (taken : Spl
   instance_is : IsCell bb.body.wires f
   instance_is = all_at (IsCell bb.body.wires) bb.body.cells own.cells f (taken_in f rest bb.body.cells taken)
 
-  instance_bytes : IsOfBytes f.name
-  instance_bytes =
-      bytes (frame f.name f.kind_name) (subst (In (frame f.name f.kind_name)) (sym (taken_instances f rest bb.body.cells taken)) (inl refl))
-
   paired : Paired WireCopied n.wires (wires_new bb f rest n)
   paired = wires_paired f.name n.wires (around bb f rest n)
 
@@ -72,7 +62,7 @@ module _ (bb : Building) (f : Cell) (rest : List Cell) (n : Module) (taken : Spl
   new_cells : All (IsCell (bb.body.wires ++ wires_new bb f rest n)) (cells_new bb f rest n)
   new_cells =
       cells_read (copying_new bb f rest n) bb.body.wires (wires_new bb f rest n) n.wires paired refl
-      (λ name h. renamed_read f.name n.memories (wired n f (around bb f rest n)) name instance_is.name instance_bytes child.memories few_stores h)
+      (λ name h. renamed_read f.name n.memories (wired n f (around bb f rest n)) name instance_is.name child.memories few_stores h)
       instance_is.name n.cells (stored n f (around bb f rest n)) child.cells few_cells
 
   child_wires : AreDistinct (map wire_name n.wires)
@@ -116,13 +106,6 @@ module _ (bb : Building) (f : Cell) (rest : List Cell) (n : Module) (taken : Spl
   pub fresh_after : IsFresh (replaced n f (around bb f rest n))
   fresh_after = open_after.fresh
 
-  pub bytes_after : NamesInstances (replaced n f (around bb f rest n)).body
-  bytes_after = subst NamesInstances (sym (after_is bb f rest n)) (λ g i.
-      ⊎_elim
-      (λ l. bytes g (subst (In g) (sym (taken_instances f rest bb.body.cells taken)) (inr l)))
-      (λ r. cells_bytes (copying_new bb f rest n) n.cells (stored n f (around bb f rest n)) instance_bytes few_cells inner g r)
-      (In-cases g (instances rest) (instances (cells_new bb f rest n)) (subst (In g) (instances-append rest (cells_new bb f rest n)) i)))
-
 -- ---- a module that is within the limits
 
 pub within_limits : (b : Building) → is_within b ≡ true → IsInLimits b
@@ -156,10 +139,9 @@ nothing id is = record {
 -- what is kept from one replacement to the next
 record IsStep (b : Building) : Type 0 where
   items : HasReadableItems b.body
-  bytes : NamesInstances b.body
   fresh : IsFresh b
 
-module _ (below : List Module) (readable : Each HasReadableItems below) (named_all : Each NamesInstances below) where
+module _ (below : List Module) (readable : Each HasReadableItems below) where
   child_items : (id : List ℕ) → IsName id → HasReadableItems (child_of below id)
   child_items id is = by (named below id) refl
     where
@@ -167,18 +149,10 @@ module _ (below : List Module) (readable : Each HasReadableItems below) (named_a
       by None e = nothing id is
       by (Some n) e = readable n (named_in below id n e)
 
-  child_bytes : (id : List ℕ) → NamesInstances (child_of below id)
-  child_bytes id = by (named below id) refl
-    where
-      by : (o : Option Module) → named below id ≡ o → NamesInstances (unwrap_or o (empty_module id))
-      by None e = λ g i. absurd i
-      by (Some n) e = named_all n (named_in below id n e)
-
   one_step : (b : Building) (r : Cell × List Cell) → IsStep b → first_instance b.body.cells ≡ Some r → is_within (after_one below b r) ≡ true → IsStep (after_one below b r)
   one_step b r step e w = record {
-    items = items_after b r.0 r.1 n taken step.items step.bytes step.fresh items bytes few;
-    bytes = bytes_after b r.0 r.1 n taken step.items step.bytes step.fresh items bytes few;
-    fresh = fresh_after b r.0 r.1 n taken step.items step.bytes step.fresh items bytes few;
+    items = items_after b r.0 r.1 n taken step.items step.fresh items few;
+    fresh = fresh_after b r.0 r.1 n taken step.items step.fresh items few;
   }
     where
       n : Module
@@ -190,9 +164,6 @@ module _ (below : List Module) (readable : Each HasReadableItems below) (named_a
       items : HasReadableItems n
       items =
           child_items r.0.kind_name (all_at (IsCell b.body.wires) b.body.cells step.items.cells r.0 (taken_in r.0 r.1 b.body.cells taken)).kind_name
-
-      bytes : NamesInstances n
-      bytes = child_bytes r.0.kind_name
 
       few : (replaced n r.0 (around b r.0 r.1 n)).next ≤ 1000000000
       few = (within_limits (after_one below b r) w).names
@@ -219,10 +190,10 @@ module _ (below : List Module) (readable : Each HasReadableItems below) (named_a
       by None q g later = subst HasReadableItems (some_same b.body c g) step.items
       by (Some r) q g later = one r (is_within (after_one below b r)) q refl g later
 
-pub flat_reads : (below : List Module) (m n : Module) → HasReadableItems m → NamesInstances m → Each HasReadableItems below → Each NamesInstances below → flat_of below m ≡ Some n → HasReadableItems n
+pub flat_reads : (below : List Module) (m n : Module) → HasReadableItems m → Each HasReadableItems below → flat_of below m ≡ Some n → HasReadableItems n
 unfolding flat_of
-flat_reads below m n is bytes all inner e =
-    all_steps below all inner 1048576 (building_of m) n (record { items = is; bytes = bytes; fresh = fresh_at_first m }) e
+flat_reads below m n is all e =
+    all_steps below all 1048576 (building_of m) n (record { items = is; fresh = fresh_at_first m }) e
 
 -- ---- and the limits
 

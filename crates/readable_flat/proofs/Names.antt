@@ -1,39 +1,42 @@
--- The name of a copy is a name, and it may be a string where the names that it is made of are of bytes.
-use Rattle.std.proofs.Common.{◌≡◌, ℕ, zero, suc, ◌+◌, ◌%◌, ◌<◌, ◌≤◌, ◌^◌, Bool, true, false, cond, not, ◌&&◌, List, [], ◌∷◌, ◌++◌, length, refl, arith, length-append}
+-- The name of a copy is a name, and a name may be a string.
+use Rattle.std.proofs.Common.{◌≡◌, ℕ, ◌+◌, ◌<◌, ◌≤◌, Bool, true, false, cond, not, ◌&&◌, List, [], ◌∷◌, ◌++◌, length, refl, arith, length-append}
 use Rattle.std.specs.Prelude.{drop, nat_le, nat_lt}
 use Rattle.std.specs.Fmt.{decimal}
 use Rattle.std.specs.List.{All, list_all}
 use Rattle.std.proofs.lemmas.Bool.{and_from, and_parts, leb-true, lt-ltb, ltb-true}
-use Rattle.std.proofs.lemmas.Fmt.{decimal_by_steps, length-decimal-le}
-use Rattle.std.proofs.lemmas.List.Elements.{All-append, All-cons, All-drop, All-head, All-nil, All-tail}
+use Rattle.std.proofs.lemmas.Bool.Decides.{nat_tests}
+use Rattle.std.proofs.lemmas.Fmt.{length-decimal-le}
+use Rattle.std.proofs.lemmas.List.Elements.{All-cons, All-nil}
 use Rattle.rtl_sig.specs.Names.{has_name}
 use Rattle.rtl_lex.specs.Bytes.{is_name, is_sigil}
 use Rattle.rtl_ir.specs.Build.{Building, made_name, module_names}
 use Rattle.rtl_readable.specs.Readable.{IsChar, IsName}
 use Rattle.readable_laws.proofs.Fresh.{made_is_name}
 use Rattle.flat_pass.specs.Flat.{copy_name, dotted, is_free, next_after}
-use Rattle.readable_flat.specs.Instances.{IsOfBytes}
 
 -- ---- names as strings
 
 sigil_some : (b : ℕ) → is_sigil b ≡ true → 0 < b
-sigil_some zero e = absurd cc
-sigil_some (suc b) e = omega arith
+sigil_some b e = grind (arith, nat_tests)
 
-rest_chars : (bs : List ℕ) → list_all is_name bs ≡ true → IsOfBytes bs → All IsChar bs
-rest_chars [] e all = All-nil IsChar
-rest_chars (b ∷ bs) e all =
+sigil_small : (b : ℕ) → is_sigil b ≡ true → b < 256
+sigil_small b e = grind (arith, nat_tests)
+
+rest_chars : (bs : List ℕ) → list_all is_name bs ≡ true → All IsChar bs
+rest_chars [] e = All-nil IsChar
+rest_chars (b ∷ bs) e =
     let parts = and_parts (is_name b) (list_all is_name bs) e in
-    let more : 32 < b = ltb-true 32 b parts.0 in
-    All-cons IsChar b bs (omega (arith, more), All-head (λ (c : ℕ). c < 256) b bs all) (rest_chars bs parts.1 (All-tail (λ (c : ℕ). c < 256) b bs all))
+    let own = and_parts (nat_lt 32 b) (nat_lt b 256) parts.0 in
+    let more : 32 < b = ltb-true 32 b own.0 in
+    All-cons IsChar b bs (omega (arith, more), ltb-true b 256 own.1) (rest_chars bs parts.1)
 
--- a name of bytes has no NUL
-pub name_chars : (name : List ℕ) → IsName name → IsOfBytes name → All IsChar name
-name_chars [] is all = All-nil IsChar
-name_chars (b ∷ bs) is all =
+-- a name has no NUL
+pub name_chars : (name : List ℕ) → IsName name → All IsChar name
+name_chars [] is = All-nil IsChar
+name_chars (b ∷ bs) is =
     let parts = and_parts (is_sigil b) (nat_lt 0 (length bs) && list_all is_name bs) is in
     let rest = and_parts (nat_lt 0 (length bs)) (list_all is_name bs) parts.1 in
-    All-cons IsChar b bs (sigil_some b parts.0, All-head (λ (c : ℕ). c < 256) b bs all) (rest_chars bs rest.1 (All-tail (λ (c : ℕ). c < 256) b bs all))
+    All-cons IsChar b bs (sigil_some b parts.0, sigil_small b parts.0) (rest_chars bs rest.1)
 
 -- ---- the name that a copy is meant to have
 
@@ -60,24 +63,7 @@ dotted_name (b ∷ bs) name is named =
     (and_from (nat_lt 0 (length more)) (list_all is_name more) (lt-ltb 0 (length more) long)
     (all_more bs (46 ∷ drop 1 name) rest.1 (name_rest name named)))
 
-dotted_bytes : (instance name : List ℕ) → IsOfBytes instance → IsOfBytes name → IsOfBytes (dotted instance name)
-dotted_bytes instance name is named =
-    let P : ℕ → Type 0 = λ (c : ℕ). c < 256 in
-    All-append P instance (46 ∷ drop 1 name) is (All-cons P 46 (drop 1 name) (omega arith) (All-drop P 1 name named))
-
 -- ---- fresh names
-
-decimal_bytes : (n : ℕ) → n < 2 ^ 64 → IsOfBytes (decimal n)
-decimal_bytes =
-    decimal_by_steps (λ n ds. IsOfBytes ds)
-    (λ n h. All-cons (λ (c : ℕ). c < 256) (48 + n) [] (omega (arith, h)) (All-nil (λ (c : ℕ). c < 256)))
-    (λ n ds h all. All-append (λ (c : ℕ). c < 256) ds ((48 + n % 10) ∷ []) all (All-cons (λ (c : ℕ). c < 256) (48 + n % 10) [] (omega arith) (All-nil (λ (c : ℕ). c < 256))))
-
-made_bytes : (n : ℕ) → n < 1000000000 → IsOfBytes (made_name n)
-made_bytes n few =
-    let P : ℕ → Type 0 = λ (c : ℕ). c < 256 in
-    let ds : List ℕ = decimal n in
-    All-cons P 36 (115 ∷ 121 ∷ 110 ∷ 36 ∷ ds) (omega arith) (All-cons P 115 (121 ∷ 110 ∷ 36 ∷ ds) (omega arith) (All-cons P 121 (110 ∷ 36 ∷ ds) (omega arith) (All-cons P 110 (36 ∷ ds) (omega arith) (All-cons P 36 ds (omega arith) (decimal_bytes n (omega (arith, few)))))))
 
 made_short : (n : ℕ) → n < 1000000000 → length (made_name n) ≤ 1024
 made_short n few =
@@ -98,10 +84,6 @@ module _ (b : Building) (instance name : List ℕ) (few : next_after b (dotted i
   pub copy_is_name : IsName instance → IsName name → IsName (copy_name b (dotted instance name))
   copy_is_name is named =
       either IsName (λ e. dotted_name instance name is named) (λ l. made_is_name b.next l)
-
-  pub copy_bytes : IsOfBytes instance → IsOfBytes name → IsOfBytes (copy_name b (dotted instance name))
-  copy_bytes is named =
-      either IsOfBytes (λ e. dotted_bytes instance name is named) (λ l. made_bytes b.next l)
 
   pub copy_short : length (copy_name b (dotted instance name)) ≤ 1024
   copy_short =

@@ -4,7 +4,7 @@ use Rattle.std.specs.Prelude.{◌&&◌, map, nat_lt}
 use Rattle.std.specs.Fmt.{decimal}
 use Rattle.std.specs.List.{fold, list_all}
 use Rattle.std.specs.Str.{bytes_eq}
-use Rattle.std.proofs.lemmas.Bool.{lt-ltb}
+use Rattle.std.proofs.lemmas.Bool.{and_from, lt-ltb}
 use Rattle.std.proofs.lemmas.Fmt.{decimal_by_steps}
 use Rattle.std.proofs.lemmas.Slice.Eq.{bytes_eq-Decides}
 use Rattle.rtl_lex.specs.Bytes.{is_name}
@@ -21,11 +21,12 @@ all_more : (ds : List ℕ) (d : ℕ) → list_all is_name ds ≡ true → is_nam
 all_more [] d e h = grind (arith, h)
 all_more (c ∷ ds) d e h = grind (arith, all_more ds d, e, h)
 
-digit_is : (n : ℕ) → is_name (48 + n) ≡ true
-digit_is n = lt-ltb 32 (48 + n) (omega arith)
+digit_is : (n : ℕ) → n < 10 → is_name (48 + n) ≡ true
+digit_is n small =
+    and_from (nat_lt 32 (48 + n)) (nat_lt (48 + n) 256) (lt-ltb 32 (48 + n) (omega arith)) (lt-ltb (48 + n) 256 (omega (arith, small)))
 
 decimal_is : (n : ℕ) → n < 2 ^ 64 → list_all is_name (decimal n) ≡ true
-decimal_is = decimal_by_steps (λ n ds. list_all is_name ds ≡ true) (λ n h. grind (arith, digit_is n)) (λ n ds h e. all_more ds (48 + n % 10) e (digit_is (n % 10)))
+decimal_is = decimal_by_steps (λ n ds. list_all is_name ds ≡ true) (λ n h. grind (arith, digit_is n h)) (λ n ds h e. all_more ds (48 + n % 10) e (digit_is (n % 10) (omega arith)))
 
 pub made_is_name : (n : ℕ) → n < 1000000000 → IsName (made_name n)
 made_is_name n few =

@@ -10,7 +10,6 @@ use Rattle.rtl_ir.specs.declared.module.Design.{Design}
 use Rattle.rtl_ir.specs.declared.module.Module.{Module}
 use Rattle.rtl_ir.specs.declared.ports.PortTable.{PortTable}
 use Rattle.net_model.specs.Lists.{In}
-use Rattle.net_model.specs.Within.{Each}
 use Rattle.script_core.specs.declared.outcome.Outcome.TheVariants.{Done}
 use Rattle.script_core.specs.declared.word.Word.{Word}
 use Rattle.script_core.specs.Built.{IsValueOf, body_name, unnamed}
@@ -28,7 +27,7 @@ use Rattle.script_core.proofs.Under.{under_from}
 use Rattle.rtl_write.proofs.BodyLaws.{readable_named}
 use Rattle.rtl_readable.specs.Readable.{IsName, IsReadable, IsReadableModule}
 use Rattle.readable_passes.proofs.Replaced.{all_each}
-use Rattle.readable_runs.specs.Short.{HasByteInstances, HasShortMemories, NamesShortMemories, NamesStrings}
+use Rattle.readable_runs.specs.Short.{HasShortMemories, NamesShortMemories}
 use Rattle.readable_runs.proofs.Flat.{flat_script_reads}
 use Rattle.readable_runs.proofs.Names.{short_named}
 use Rattle.readable_runs.proofs.Scripts.{script_reads}
@@ -54,7 +53,7 @@ flat_fold script table below m e =
     λ i. cond (e i) (fold_flat (drop 2 script) table (cond (e i) below []) m) (fold_words script table m)
 
 -- what a script makes of a module of an accepted design, under any name
-module _ (d : Design) (readable : IsReadable d) (none : check_faults d.modules ≡ []) (script : List Word) (stage : StartsWithProc script) (m : Module) (i : In m d.modules) (short : NamesShortMemories m) (all : flattens script ≡ true → Each NamesStrings d.modules) where
+module _ (d : Design) (readable : IsReadable d) (none : check_faults d.modules ≡ []) (script : List Word) (stage : StartsWithProc script) (m : Module) (i : In m d.modules) (short : NamesShortMemories m) (all : flattens script ≡ true → HasShortMemories d) where
   abbrev below : List Module
   below = reached_of d.modules m.cells
 
@@ -79,14 +78,13 @@ module _ (d : Design) (readable : IsReadable d) (none : check_faults d.modules �
           (sym (fold_plain script (table_of d.modules m) (below_of script d.modules m.cells) k plain) ∙ e)
       by true flat =
           flat_script_reads (drop 2 script) (table_of d.modules m) below k n (flat_given d readable none m i (drop 2 script) name)
-          (record { memories = short; instances = (all flat m i).instances })
-          (λ l j. all flat l (reached l j)) k_is (λ l j. all_each IsReadableModule d.modules readable.modules l (reached l j))
+          short (λ l j. all flat l (reached l j)) k_is (λ l j. all_each IsReadableModule d.modules readable.modules l (reached l j))
           (sym (flat_fold script (table_of d.modules m) below k flat) ∙ e)
 
-module _ (d : Design) (readable : IsReadable d) (short : HasShortMemories d) (none : check_faults d.modules ≡ []) (script : List Word) (stage : StartsWithProc script) (bytes : flattens script ≡ true → HasByteInstances d) where
+module _ (d : Design) (readable : IsReadable d) (short : HasShortMemories d) (none : check_faults d.modules ≡ []) (script : List Word) (stage : StartsWithProc script) where
   own_reads : (m : Module) → In m d.modules → (n : Module) → outcome_of script d.modules m ≡ Done n → IsReadableModule n
   own_reads m i n e =
-      fold_reads d readable none script stage m i (short m i) (λ flat k j. record { memories = short k j; instances = bytes flat k j }) m.id n
+      fold_reads d readable none script stage m i (short m i) (λ flat. short) m.id n
       (all_each IsReadableModule d.modules readable.modules m i).id
       (fold_renamed m.id script (table_of d.modules m) (below_of script d.modules m.cells) (unnamed m) ∙ e)
 
@@ -118,7 +116,7 @@ module _ (d : Design) (readable : IsReadable d) (short : HasShortMemories d) (no
       }
 
 -- the value of the key of a module, where it is a module
-module _ (d : Design) (readable : IsReadable d) (at : ℕ) (m : Module) (here : slice_get d.modules at ≡ Some m) (script : List Word) (none : check_faults d.modules ≡ []) (stage : StartsWithProc script) (short : NamesShortMemories m) (all : flattens script ≡ true → Each NamesStrings d.modules) where
+module _ (d : Design) (readable : IsReadable d) (at : ℕ) (m : Module) (here : slice_get d.modules at ≡ Some m) (script : List Word) (none : check_faults d.modules ≡ []) (stage : StartsWithProc script) (short : NamesShortMemories m) (all : flattens script ≡ true → HasShortMemories d) where
   pub value_reads : (after : Module) → IsValueOf (key_of d.modules at script) (Done after) → IsReadableModule after
   value_reads after h =
       fold_reads d readable none script stage m (place_in m d.modules at here) short all body_name after refl

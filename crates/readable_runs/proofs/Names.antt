@@ -10,5 +10,4 @@ pub short_named : (m : Module) → IsReadableModule m → NamesShortMemories m �
 short_named m is short p i r j l k =
     let rule = all_each (IsRule m.wires) p.syncs (all_each (IsProcess m.wires) m.processes is.processes p i).rules r j in
     let line = all_each (IsWrite m.wires) r.writes rule.writes l k in
-    let name = short p i r j l k in
-    (name_chars l.memory line.memory name.bytes, name.few)
+    (name_chars l.memory line.memory, short p i r j l k)

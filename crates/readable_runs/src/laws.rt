@@ -19,14 +19,13 @@ ghost use Rattle.script_core.specs.Fold.{fold_words, pass_of};
 ghost use Rattle.script_core.specs.Keys.{key_of};
 ghost use Rattle.script_core.specs.Mapping.{maps_all};
 ghost use Rattle.script_core.specs.Words.{flattens};
-ghost use Rattle.readable_runs.specs.Short.{HasByteInstances, HasShortMemories, NamesShortMemories, NamesStrings};
+ghost use Rattle.readable_runs.specs.Short.{HasShortMemories, NamesShortMemories};
 
 use rtl_ir::{Design, Module, PortTable};
 
 /// Where no line of a process writes a memory of a longer name than a constant holds, what the pass of a word makes of
 /// a module that a text can give is such a module; and so is what words make of it of which the first is `proc`. So is
-/// what `proc`, `flatten` and words behind them make of it over such modules, where the names of all their instances are
-/// of bytes.
+/// what `proc`, `flatten` and words behind them make of it over such modules.
 pub fn scripts_keep_readable_modules()
     ensures word { (table : PortTable) (word : Word) (m n : Module) → MayBeGiven table word m → NamesShortMemories m →
         IsReadableModule m → pass_of table word m ≡ Some n → IsReadableModule n }
@@ -34,32 +33,31 @@ pub fn scripts_keep_readable_modules()
         MayStart table m → NamesShortMemories m → IsReadableModule m → fold_words script table m ≡ Done n →
         IsReadableModule n }
     ensures flat { (words : List Word) (table : PortTable) (below : List Module) (m n : Module) →
-        AreFlatApplicable words table below m → NamesStrings m → Each NamesStrings below → IsReadableModule m →
-        Each IsReadableModule below → fold_flat words table below m ≡ Done n → IsReadableModule n }
+        AreFlatApplicable words table below m → NamesShortMemories m → Each NamesShortMemories below →
+        IsReadableModule m → Each IsReadableModule below → fold_flat words table below m ≡ Done n → IsReadableModule n }
 {}
 
 /// Where the cold run of an accepted design is a netlist, this is a design that a text can give, if no line of a
-/// process writes a memory of a longer name than a constant holds, and where the script flattens the names of instances
-/// are of bytes; and its text is read as it, and as no other.
+/// process writes a memory of a longer name than a constant holds; and its text is read as it, and as no other.
 pub fn cold_runs_are_readable()
     ensures readable { (d netlist : Design) (script : List Word) → IsReadable d → HasShortMemories d →
-        (flattens script ≡ true → HasByteInstances d) → check_faults d.modules ≡ [] → StartsWithProc script →
-        IsNetlist (cold script d) netlist → IsReadable netlist }
+        check_faults d.modules ≡ [] → StartsWithProc script → IsNetlist (cold script d) netlist →
+        IsReadable netlist }
     ensures round_trip { (d netlist : Design) (script : List Word) → IsReadable d → HasShortMemories d →
-        (flattens script ≡ true → HasByteInstances d) → check_faults d.modules ≡ [] → StartsWithProc script →
-        IsNetlist (cold script d) netlist → Reads (text_of netlist) netlist }
+        check_faults d.modules ≡ [] → StartsWithProc script → IsNetlist (cold script d) netlist →
+        Reads (text_of netlist) netlist }
     ensures only { (d netlist other : Design) (script : List Word) → IsReadable d → HasShortMemories d →
-        (flattens script ≡ true → HasByteInstances d) → check_faults d.modules ≡ [] → StartsWithProc script →
-        IsNetlist (cold script d) netlist → Reads (text_of netlist) other → other ≡ netlist }
+        check_faults d.modules ≡ [] → StartsWithProc script → IsNetlist (cold script d) netlist →
+        Reads (text_of netlist) other → other ≡ netlist }
 {}
 
 /// What is kept for the key of a module of an accepted design is a module that a text can give, where it is a module,
 /// if no line of a process writes a memory of a longer name than a constant holds. Where the script flattens, that is
-/// asked of all modules of the design, and that the names of their instances are of bytes.
+/// asked of all modules of the design.
 pub fn built_modules_are_readable()
     ensures { (d : Design) (at : ℕ) (before after : Module) (script : List Word) → IsReadable d →
-        NamesShortMemories before → (flattens script ≡ true → Each NamesStrings d.modules) →
-        check_faults d.modules ≡ [] → slice_get d.modules at ≡ Some before → StartsWithProc script →
+        NamesShortMemories before → (flattens script ≡ true → HasShortMemories d) → check_faults d.modules ≡ [] →
+        slice_get d.modules at ≡ Some before → StartsWithProc script →
         IsValueOf (key_of d.modules at script) (Done after) → IsReadableModule after }
 {}
 

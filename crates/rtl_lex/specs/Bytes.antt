@@ -33,9 +33,9 @@ is_mark b = b == 91 || b == 93 || b == 123 || b == 125 || b == 58 || b == 44
 abbrev pub is_sigil : ℕ → Bool
 is_sigil b = b == 92 || b == 36
 
--- what an identifier may have behind its sigil
+-- what an identifier may have behind its sigil: any byte above the blank
 abbrev pub is_name : ℕ → Bool
-is_name b = nat_lt 32 b
+is_name b = nat_lt 32 b && nat_lt b 256
 
 -- 0, 1, x, z, m and -
 abbrev pub is_bit : ℕ → Bool

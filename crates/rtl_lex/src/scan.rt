@@ -27,12 +27,18 @@ pub fn digits(bytes: &[u8]) -> usize
         .count()
 }
 
+fn is_name(byte: u8) -> bool
+    ensures { result ≡ is_name byte }
+{
+    byte > b' '
+}
+
 /// How many bytes of a name stand first: all above the blank.
 pub fn name_bytes(bytes: &[u8]) -> usize
     ensures run { result ≡ prefix_len is_name bytes.now }
     ensures within { result ≤ length bytes.now }
 {
-    bytes.iter().take_while(|b| **b > b' ').count()
+    bytes.iter().take_while(|b| is_name(**b)).count()
 }
 
 fn is_bit(byte: u8) -> bool

@@ -6,8 +6,8 @@ use Rattle.readable_runs.proofs.laws.cold_runs_are_readable.Goals as goal
 
 pub returns : goal.returns
 returns c = record {
-  readable = λ d netlist script readable short bytes none stage run. cold_reads d readable short none script stage bytes netlist run;
-  round_trip = λ d netlist script readable short bytes none stage run. reads_design netlist (cold_reads d readable short none script stage bytes netlist run);
-  only = λ d netlist other script readable short bytes none stage run read.
-      one_design (text_of netlist) other netlist read (reads_design netlist (cold_reads d readable short none script stage bytes netlist run));
+  readable = λ d netlist script readable short none stage run. cold_reads d readable short none script stage netlist run;
+  round_trip = λ d netlist script readable short none stage run. reads_design netlist (cold_reads d readable short none script stage netlist run);
+  only = λ d netlist other script readable short none stage run read.
+      one_design (text_of netlist) other netlist read (reads_design netlist (cold_reads d readable short none script stage netlist run));
 }
