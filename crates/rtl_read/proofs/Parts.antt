@@ -13,6 +13,10 @@ pub range_none : (wire low n : ℕ) → n ≡ 0 → range_bits wire low n ≡ []
 unfolding range_bits
 range_none wire low n e = ap (range_bits wire low) e
 
+pub range_one : (wire low n : ℕ) → n ≡ 1 → range_bits wire low n ≡ bit wire low ∷ []
+unfolding range_bits
+range_one wire low n e = ap (range_bits wire low) e
+
 more : (wire low n : ℕ) → range_bits wire low (suc n) ≡ bit wire low ∷ range_bits wire (low + 1) n
 unfolding range_bits
 more wire low n = refl

@@ -1,17 +1,18 @@
 -- Laws of stacks: lists whose last item is the top.
-use Rattle.std.proofs.Common.{◌≡◌, ℕ, suc, ◌-◌, ◌<◌, ◌≤◌, List, [], ◌∷◌, ◌++◌, length, take, drop, get_or, ap, ◌∙◌, append-nil, arith}
+use Rattle.std.proofs.Common.{◌≡◌, ℕ, suc, ◌+◌, ◌-◌, ◌<◌, ◌≤◌, List, [], ◌∷◌, ◌++◌, length, take, drop, get_or, ap, ◌∙◌, append-nil, arith}
 use Rattle.std.specs.Prelude.{reverse}
 use Rattle.std.specs.List.{flat_map}
 use Rattle.std.proofs.Math.Seq.{drop-cons}
-use Rattle.std.proofs.lemmas.List.{reverse-append}
+use Rattle.std.proofs.lemmas.List.{reverse-append, take_more}
 use Rattle.std.proofs.lemmas.Grind.{flat_map-append}
 use Rattle.rtl_read.specs.Constant.{low_bits}
 
 pub reverse_last : {A : Type 0} (below : List A) (top : A) → reverse (below ++ top ∷ []) ≡ top ∷ reverse below
 reverse_last below top = reverse-append below (top ∷ [])
 
-pub reverse_both : {A : Type 0} (below items : List A) → reverse (below ++ items) ≡ reverse items ++ reverse below
-reverse_both below items = reverse-append below items
+-- so many items, and one more
+pub reverse_more : {A : Type 0} (items : List A) (i : ℕ) (d : A) → i < length items → reverse (take (i + 1) items) ≡ get_or items i d ∷ reverse (take i items)
+reverse_more items i d h = ap reverse (take_more items i d h) ∙ reverse_last (take i items) (get_or items i d)
 
 pub none_left : {A : Type 0} (items left : List A) (n : ℕ) → items ≡ left ++ [] → left ≡ take (n - 1) items → n ≡ 0 → reverse items ≡ []
 none_left items left n e f z =

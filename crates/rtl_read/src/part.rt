@@ -36,18 +36,29 @@ impl Model for Part {
     ghost view = { λ p. piece_bits p.piece };
 }
 
-/// The bits of a wire from one place up to another.
+/// The bits of a wire from one place up to another, as a list.
 #[tactic(auto, using(crate::proofs::Parts::range_last, crate::proofs::Parts::range_none))]
-fn range_bits(alloc: Global, wire: u32, from: u32, to: u32) -> Result<SigSpec, Memory>
-    ensures { IfOk result (λ sig. sig ≡ range_bits wire from (to - from)) }
+fn range_list(alloc: Global, wire: u32, from: u32, to: u32) -> Result<Vec<SigBit>, Memory>
+    ensures { IfOk result (λ bits. bits.items ≡ range_bits wire from (to - from)) }
 {
     let width = to.saturating_sub(from);
-    let mut bits = SigSpec::with_capacity(alloc, width as usize)?;
+    let mut bits = Vec::with_capacity(alloc, width as usize)?;
     for above in 0..width {
         let at = from + above;
         bits.push(SigBit::Wire(WireBit { wire, at }))?;
     }
     Ok(bits)
+}
+
+/// The bits of a wire from one place up to another. One bit takes no memory.
+#[tactic(auto, using(crate::proofs::Parts::range_one))]
+fn range_bits(alloc: Global, wire: u32, from: u32, to: u32) -> Result<SigSpec, Memory>
+    ensures { IfOk result (λ sig. sig ≡ range_bits wire from (to - from)) }
+{
+    if to.saturating_sub(from) == 1 {
+        return SigSpec::from_slice(alloc, &[SigBit::Wire(WireBit { wire, at: from })]);
+    }
+    SigSpec::from_vec(range_list(alloc, wire, from, to)?)
 }
 
 /// The bits of a wire from one place up to another go on top, the lowest last.

@@ -88,11 +88,13 @@ impl<T: Copy + Drop> Stack<T> {
     }
 
     /// Puts these items on top, one after another.
-    #[tactic(auto, using(crate::proofs::Stacks::reverse_both))]
+    #[tactic(auto, using(crate::proofs::Stacks::reverse_more))]
     pub(crate) fn raise(&mut self, items: &[T]) -> Result<(), Memory>
         ensures ok { OnOk result (self.new ≡ reverse items.now ++ self.old) }
     {
-        self.items.extend_from_slice(items)?;
+        for item in items {
+            self.push(*item)?;
+        }
         Ok(())
     }
 }
