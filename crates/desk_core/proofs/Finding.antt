@@ -1,54 +1,38 @@
 -- The results that a crew finds, beside their modules.
-use Rattle.std.proofs.Common.{◌≡◌, ℕ, zero, suc, ◌+◌, ◌<◌, ◌≤◌, List, [], ◌∷◌, ◌++◌, Bool, true, false, ◌||◌, drop, length, set, slice_get, Option, Some, None, Result, Ok, Err, get_or, take, refl, sym, ap, subst, ◌∙◌, arith, append_assoc}
+use Rattle.std.proofs.Common.{◌≡◌, ℕ, zero, suc, ◌+◌, ◌<◌, ◌≤◌, List, [], ◌∷◌, ◌++◌, Bool, true, false, ◌||◌, drop, length, set, slice_get, Option, Some, None, get_or, take, refl, sym, ap, subst, ◌∙◌, arith, append_assoc}
 use Rattle.std.proofs.Math.ListN.{drop_of_length-le}
 use Rattle.std.proofs.lemmas.List.{append-nil, drop-set, length-append, length-set, take_at}
+use Rattle.std.proofs.lemmas.List.FromFn.{get_or-map-range_with_len, length-map-range_with_len}
 use Rattle.std.proofs.lemmas.Option.{slice_get-get_or}
-use Rattle.std.specs.Prelude.{IfOk, IfSome, map}
-use Rattle.std.specs.List.{list_all}
+use Rattle.std.proofs.lemmas.Simd.{map-map}
+use Rattle.std.specs.Prelude.{IfSome, map}
+use Rattle.std.specs.List.{list_all, range_with_len}
 use Rattle.std.specs.Option.{is_some}
-use Rattle.rtl_bits.specs.Counts.{risen}
-use Rattle.rtl_bits.specs.declared.memory.Memory.{Memory}
 use Rattle.rtl_sig.specs.Names.{has_name}
 use Rattle.rtl_ir.specs.declared.module.Design.{Design}
 use Rattle.rtl_ir.specs.declared.module.Module.{Module}
-use Rattle.rtl_ir.specs.Faults.{check_faults}
-use Rattle.rtl_readable.specs.Readable.{IsReadable}
 use Rattle.result_cache.specs.Filled.{new_count, with_keys}
 use Rattle.result_cache.proofs.NewKeys.{among_keys, new_below_few, still_among}
 use Rattle.atomic_table.specs.Seated.{TableId}
-use Rattle.result_cache.specs.Seats.{Seated, IsIdle}
-use Rattle.build_crew.specs.Calls.{HasFailed, HasFound}
+use Rattle.result_cache.specs.Seats.{Seated}
 use Rattle.build_crew.specs.declared.finding.Found.{Found}
 use Rattle.result_cache.specs.Meet.{Share}
-use Rattle.build_crew.specs.Kept.{AreAllSeats, HasStill, given_back, kept_by}
+use Rattle.build_crew.specs.Kept.{AreAllSeats, HasStill, kept_by}
 use Rattle.build_crew.specs.Leaves.{HasRun, HasStopped}
 use Rattle.build_crew.specs.Rises.{RisesUpTo}
-use Rattle.build_crew.proofs.Asking.{failed_none}
 use Rattle.build_crew.proofs.Numbers.{of_job}
 use Rattle.script_core.specs.declared.built.Built.{Built}
-use Rattle.script_core.specs.declared.key.Key.{Key}
 use Rattle.script_core.specs.declared.word.Word.{Word}
-use Rattle.script_core.specs.Built.{IsAcceptedKey, IsValueOf}
-use Rattle.script_core.specs.Keys.{key_of, key_text}
+use Rattle.script_core.specs.Keys.{KeyParts, key_of, key_text}
 use Rattle.desk_core.specs.declared.results.Results.{Results}
+use Rattle.desk_core.specs.declared.needed.Needed.{Needed}
 use Rattle.desk_core.specs.Builds.{BuildsOrReturns}
-use Rattle.desk_core.specs.Netlist.{key_text_at, key_texts}
+use Rattle.desk_core.specs.Needed.{IsNeeded}
+use Rattle.desk_core.specs.Netlist.{key_text_at, key_texts, module_keys}
 use Rattle.desk_core.specs.declared.ages.Ages.{Ages}
 use Rattle.desk_core.specs.Ages.{kept_in, oldest, texts_of}
-use Rattle.desk_core.specs.Results.{AreAged, AreAnswers, AreSeated, AreSound, IsResultAt, TellKeys}
-use Rattle.desk_core.proofs.Rises.{returns_built, risen_none}
-
--- the key of a module of a design without faults is that of an accepted one
-pub accepted_key : (design : Design) (script : List Word) (at : ℕ) (key : Key) → IsReadable design → check_faults design.modules ≡ [] → at < length design.modules
-    → key ≡ key_of design.modules at script → IsAcceptedKey key
-accepted_key design script at key readable faultless within is = record {
-  design = design;
-  at = at;
-  readable = readable;
-  faultless = faultless;
-  in_range = within;
-  same = is ∙ sym (ap (λ (k : Key). key_of design.modules at k.script) is);
-}
+use Rattle.desk_core.specs.Results.{AreAged, AreAnswers, AreSeated, AreKeys, AreSound, IsResultAt, TellKeys}
+use Rattle.desk_core.proofs.Rises.{returns_built}
 
 pub tell_keys : (design : Design) (table : List Module) (script : List Word) (results : Results) → table ≡ design.modules → AreSound design script results → TellKeys design table script results.found.items
 tell_keys design table script results same h = record {
@@ -69,21 +53,25 @@ beside_own design table script found at other None tells inside is = tt
 beside_own design table script found at other (Some kept) tells inside is =
     tells.own at kept (got_at found at other (Some kept) (let e = tells.beside in omega (arith, e, inside)) is)
 
--- what is found for a key is found for one that it equals
-pub found_fits : (r : Result (Found Built) Memory) (key own : Key) → key ≡ own → IfOk r (λ found. (found.value.key ≡ key) × IsValueOf found.value.key found.value.outcome)
-    → IfOk r (λ found. (found.value.key ≡ own) × IsValueOf found.value.key found.value.outcome)
-found_fits (Ok found) key own same is = (is.0 ∙ same, is.1)
-found_fits (Err memory) key own same is = tt
+-- the keys of the modules of a design, each at the place of its module
+keys_count : (script : List Word) (modules : List Module) → length (module_keys script modules) ≡ length modules
+keys_count script modules = length-map-range_with_len (λ (at : ℕ). key_of modules at script) 0 (length modules)
 
-pub found_does : (r : Result (Found Built) Memory) (key own : Key) (olds news : Seated) (m n : ℕ) → key ≡ own
-    → IfOk r (λ found. (k : ℕ) × (n ≡ risen m k) × HasFound (key_text key) found.is_new olds news k)
-    → IfOk r (λ found. (k : ℕ) × (n ≡ risen m k) × HasFound (key_text own) found.is_new olds news k)
-found_does r key own olds news m n same h =
-    subst (λ (q : Key). IfOk r (λ found. (k : ℕ) × (n ≡ risen m k) × HasFound (key_text q) found.is_new olds news k)) same h
+module _ (design : Design) (table : List Module) (script : List Word) (all : List KeyParts) where
+  pub keys_within : (at : ℕ) → AreKeys design table script all → at < length design.modules → at < length all
+  keys_within at h inside = let e : length all ≡ length design.modules = ap length h.all ∙ keys_count script design.modules in omega (arith, e, inside)
 
--- a seat without a ticket that asked for nothing
-pub failed_idle : (cache : TableId) (s : Seated) (m : ℕ) → IsIdle cache s → (n : ℕ) × (m ≡ risen m n) × HasFailed s s n
-failed_idle cache s m idle = (0, risen_none m, failed_none s)
+  pub key_there : (at : ℕ) (other : KeyParts) → AreKeys design table script all → at < length design.modules → get_or all at other ≡ key_of design.modules at script
+  key_there at other h inside =
+      ap (λ (l : List KeyParts). get_or l at other) h.all
+      ∙ get_or-map-range_with_len (λ (n : ℕ). key_of design.modules n script) 0 (length design.modules) at at other inside (omega arith)
+
+  pub texts_there : AreKeys design table script all → map key_text all ≡ key_texts script design.modules
+  texts_there h = ap (map key_text) h.all ∙ map-map key_text (λ (n : ℕ). key_of design.modules n script) (range_with_len 0 (length design.modules))
+
+  -- what a command needs that needs these keys, by their texts
+  pub needed_there : (lent : List KeyParts) (ages : Ages) (needed : Needed) → lent ≡ all → AreKeys design table script all → IsNeeded (map key_text lent) ages needed → IsNeeded (key_texts script design.modules) ages needed
+  needed_there lent ages needed same h needs = subst (λ (texts : List (List ℕ)). IsNeeded texts ages needed) (ap (map key_text) same ∙ texts_there h) needs
 
 -- a result for one that was found
 abbrev pub beside_of : List (Found Built) → List (Option Built)

@@ -12,8 +12,8 @@ use Rattle.std.proofs.Math.ListN.{drop_of_length-le}
 use Rattle.rtl_ir.specs.declared.module.Design.{Design}
 use Rattle.rtl_ir.specs.declared.module.Module.{Module}
 use Rattle.build_crew.specs.Kept.{kept_by}
+use Rattle.script_core.specs.Keys.{KeyParts}
 use Rattle.script_core.specs.declared.built.Built.{Built}
-use Rattle.script_core.specs.declared.key.Key.{Key}
 use Rattle.script_core.specs.declared.outcome.Outcome.{Outcome}
 use Rattle.script_core.specs.declared.outcome.Outcome.TheVariants.{Done, Over}
 use Rattle.script_core.specs.declared.word.Word.{Word}
@@ -157,7 +157,7 @@ outcomes_beside keys design script found h all =
     outcomes_are (outcome_of script design.modules) design.modules found
     (λ i m b at there.
     let own = h.own i b there in
-    value_named design h.readable i m at script b.outcome (subst (λ (k : Key). IsValueOf k b.outcome) own.key own.value))
+    value_named design h.readable i m at script b.outcome (subst (λ (k : KeyParts). IsValueOf k b.outcome) own.key own.value))
     h.beside all
 
 pub outcomes_cold : (design : Design) (script : List Word) (results : Results) → AreSound design script results → AreFound results.found.items

@@ -21,9 +21,8 @@ use Rattle.build_crew.specs.Forgetting.{without}
 use Rattle.build_crew.proofs.Forgetting.{rising_without}
 use Rattle.build_crew.specs.Rises.{RisesUpTo}
 use Rattle.script_core.specs.declared.built.Built.{Built}
-use Rattle.script_core.specs.declared.key.Key.{Key}
 use Rattle.script_core.specs.Built.{IsValueOf}
-use Rattle.script_core.specs.Keys.{key_text}
+use Rattle.script_core.specs.Keys.{KeyParts, key_text}
 use Rattle.desk_core.specs.Solo.{HoldsNoOther}
 use Rattle.desk_core.specs.Standing.{StandsFor}
 
@@ -143,18 +142,18 @@ gone_at gone n key all now new within is before after =
     ∙ ap (λ (l : List (List ℕ)). without l all) (sym (take_more gone n key within))
 
 -- a result of a key stands for its text
-pub stands_is : (kept other : Built) (key : Key) (text : List ℕ) → other ≡ kept → kept.key ≡ key → IsValueOf key kept.outcome → text ≡ key_text key → StandsFor other text
+pub stands_is : (kept other : Built) (key : KeyParts) (text : List ℕ) → other ≡ kept → kept.key ≡ key → IsValueOf key kept.outcome → text ≡ key_text key → StandsFor other text
 stands_is kept other key text same own value is = record {
   text_is = ap (λ (b : Built). key_text b.key) same ∙ ap key_text own ∙ sym is;
-  value = subst (λ (b : Built). IsValueOf b.key b.outcome) (sym same) (subst (λ (k : Key). IsValueOf k kept.outcome) (sym own) value);
+  value = subst (λ (b : Built). IsValueOf b.key b.outcome) (sym same) (subst (λ (k : KeyParts). IsValueOf k kept.outcome) (sym own) value);
 }
 
 -- the text of a key is that of one that it equals
-pub told_text : {E : Type 0} (r : Result (List ℕ) E) (key own : Key) → key ≡ own → IfOk r (λ text. text ≡ key_text key) → IfOk r (λ text. text ≡ key_text own)
-told_text r key own same is = subst (λ (k : Key). IfOk r (λ text. text ≡ key_text k)) same is
+pub told_text : {E : Type 0} (r : Result (List ℕ) E) (key own : KeyParts) → key ≡ own → IfOk r (λ text. text ≡ key_text key) → IfOk r (λ text. text ≡ key_text own)
+told_text r key own same is = subst (λ (k : KeyParts). IfOk r (λ text. text ≡ key_text k)) same is
 
 -- .. and a result that stands for it is the result of that key
-pub told_answers : {E : Type 0} (r : Result (List ℕ) E) (key own : Key) → key ≡ own → IfOk r (λ text. (other : Key) → key_text other ≡ text → other ≡ key)
+pub told_answers : {E : Type 0} (r : Result (List ℕ) E) (key own : KeyParts) → key ≡ own → IfOk r (λ text. (other : KeyParts) → key_text other ≡ text → other ≡ key)
     → IfOk r (λ text. (built : Built) → StandsFor built text → (built.key ≡ own) × IsValueOf built.key built.outcome)
 told_answers (Ok text) key own same only = λ built stands. (only built.key stands.text_is ∙ same, stands.value)
 told_answers (Err fault) key own same only = tt

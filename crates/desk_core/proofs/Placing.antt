@@ -1,12 +1,12 @@
 -- Places of keys in a table.
 use Rattle.std.proofs.Common.{◌≡◌, ℕ, zero, suc, ◌+◌, ◌≤◌, ◌<◌, List, [], ◌∷◌, ◌++◌, Bool, true, false, true≢false, cond, ◌||◌, eqb, slice_get, get_or, set, length, map, replicate, take, Option, Some, None, refl, sym, ap, subst, ◌∙◌, arith}
-use Rattle.std.specs.List.{All, list_any, range_with_len}
+use Rattle.std.specs.List.{All, list_any}
 use Rattle.std.specs.Str.{bytes_eq}
 use Rattle.std.proofs.lemmas.Bool.{eqb-true, eqb-false}
 use Rattle.std.proofs.lemmas.List.{get_or-map, get_or-replicate, get_or-set_other, get_or-set_same, length-map, length-replicate, length-set, length_push, map_push, same_lists, take_more}
 use Rattle.std.proofs.lemmas.List.Elements.{All-cons, All-nil}
 use Rattle.std.proofs.lemmas.List.Folds.{list_any-append}
-use Rattle.std.proofs.lemmas.List.FromFn.{get_or-map-range_with_len, length-map-range_with_len, map-range_with_len_more}
+use Rattle.std.proofs.lemmas.List.FromFn.{get_or-map-range_with_len, length-map-range_with_len}
 use Rattle.std.proofs.lemmas.Option.{get_or_from_slice_get, slice_get_within}
 use Rattle.rtl_sig.specs.Names.{has_name, next_number_of, with_name, AreDistinct}
 use Rattle.rtl_sig.proofs.NamesLemmas.{next_number_of-new, slice_get-known}
@@ -86,15 +86,18 @@ places_stay keys key (place ∷ places) (text ∷ texts) h =
     let rest : map (slice_get keys) places ≡ map Some texts = cc in
     ap (λ (o : Option (List ℕ)). o ∷ map (slice_get (with_name keys key)) places) (place_stays keys key text place first) ∙ ap (λ (os : List (Option (List ℕ))). Some text ∷ os) (places_stay keys key places texts rest)
 
--- the places of keys, of which one more has its place
-pub places_more : (keys news : List (List ℕ)) (f : ℕ → List ℕ) (n place : ℕ) (key : List ℕ) (places : List ℕ) → map (slice_get keys) places ≡ map Some (map f (range_with_len 0 n)) → key ≡ f n → news ≡ with_name keys key → slice_get news place ≡ Some key
-    → map (slice_get news) (places ++ place ∷ []) ≡ map Some (map f (range_with_len 0 (n + 1)))
-places_more keys news f n place key places h is name_is at =
+-- the places of texts of which each has its own, of which one more has its place
+pub places_more : {A : Type 0} (text_of : A → List ℕ) (all : List A) (keys news : List (List ℕ)) (n place : ℕ) (item : A) (key : List ℕ) (places : List ℕ) → map (slice_get keys) places ≡ map Some (map text_of (take n all)) → n < length all
+    → get_or all n item ≡ item → key ≡ text_of item → news ≡ with_name keys key → slice_get news place ≡ Some key
+    → map (slice_get news) (places ++ place ∷ []) ≡ map Some (map text_of (take (n + 1) all))
+places_more {A = A} text_of all keys news n place item key places h within there is name_is at =
+    let texts = map text_of (take n all) in
     map_push (slice_get news) places place
-    ∙ ap (λ (os : List (Option (List ℕ))). os ++ slice_get news place ∷ []) (ap (λ (ks : List (List ℕ)). map (slice_get ks) places) name_is ∙ places_stay keys key places (map f (range_with_len 0 n)) h)
-    ∙ ap (λ (o : Option (List ℕ)). map Some (map f (range_with_len 0 n)) ++ o ∷ []) (at ∙ ap Some is)
-    ∙ sym (map_push Some (map f (range_with_len 0 n)) (f n))
-    ∙ ap (map Some) (sym (map-range_with_len_more f 0 n n (omega arith)))
+    ∙ ap (λ (os : List (Option (List ℕ))). os ++ slice_get news place ∷ []) (ap (λ (ks : List (List ℕ)). map (slice_get ks) places) name_is ∙ places_stay keys key places texts h)
+    ∙ ap (λ (o : Option (List ℕ)). map Some texts ++ o ∷ []) (at ∙ ap Some is)
+    ∙ sym (map_push Some texts (text_of item))
+    ∙ ap (map Some) (sym (map_push text_of (take n all) item))
+    ∙ ap (λ (l : List A). map Some (map text_of l)) (ap (λ (x : A). take n all ++ x ∷ []) (sym there) ∙ sym (take_more all n item within))
 
 -- a key is at most one more name
 pub named_few : (keys : List (List ℕ)) (key : List ℕ) → length (with_name keys key) ≤ length keys + 1

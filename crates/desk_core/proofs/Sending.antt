@@ -131,7 +131,7 @@ jobs_sync a R y =
         search (sendable, crosses) depth 20,
         (
           search (sendable, caches.the_sync, kept_send) depth 30,
-          (search (sendable, teller_sync) depth 20, (search (sendable, crosses, kept_sync) depth 30, tt)),
+          (search (sendable, teller_sync) depth 20, (search (sendable, crosses, keys.the_sync) depth 30, tt)),
         ),
       ),
     )

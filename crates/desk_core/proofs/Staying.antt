@@ -20,9 +20,8 @@ use Rattle.rtl_write.specs.Text.{body_text}
 use Rattle.design_edit.proofs.Naming.{has_none, has_one, place_within}
 use Rattle.design_edit.specs.Modules.{has_module, with_module, with_modules, without_module}
 use Rattle.script_core.specs.declared.built.Built.{Built}
-use Rattle.script_core.specs.declared.key.Key.{Key}
 use Rattle.script_core.specs.declared.word.Word.{Word}
-use Rattle.script_core.specs.Keys.{below_text_at, body_text_at, key_of, key_text}
+use Rattle.script_core.specs.Keys.{KeyParts, below_text_at, body_text_at, key_of, key_text}
 use Rattle.desk_core.specs.Beside.{AreSeen, AreStill, SeesOwn, unedited, unless_edited}
 use Rattle.desk_core.specs.Results.{AreBeside, IsResultAt}
 use Rattle.desk_core.proofs.Lists.{get_set_other, get_set_same, same_number}
@@ -206,7 +205,7 @@ one_less name ms at readable is =
     ap (λ (l : List Module). suc (length l)) (without_is name ms at readable is) ∙ length_removed ms at (place_inside name ms at is)
 
 -- a key by its parts
-key_is : (key : Key) (body ports : List ℕ) (script : List Word) (below : List ℕ) → key.body ≡ body → key.ports ≡ ports → key.script ≡ script → key.below ≡ below
+key_is : (key : KeyParts) (body ports : List ℕ) (script : List Word) (below : List ℕ) → key.body ≡ body → key.ports ≡ ports → key.script ≡ script → key.below ≡ below
     → key ≡ record { body = body; ports = ports; script = script; below = below }
 key_is key body ports script below e f g h = λ i. record { body = e i; ports = f i; script = g i; below = h i }
 
@@ -216,15 +215,15 @@ pub own_seen : {script : List Word} {keys : List (List ℕ)} (old new : List Mod
 own_seen {script} {keys} old new was now still seen at built is =
     let here = seen.own at built is in
     let h = still at built here.0 in
-    let same : built.key.script ≡ script = ap (λ (k : Key). k.script) h.result.key in
+    let same : built.key.script ≡ script = ap (λ (k : KeyParts). k.script) h.result.key in
     let key : built.key ≡ key_of new at script =
     key_is built.key (body_text_at new at) (ports_text (record { modules = port_table_of new at })) script (below_text_at script new at)
-    (ap (λ (k : Key). k.body) h.result.key ∙ ap (λ (m : Option Module). unwrap_or (option_map body_text m) []) (sym h.same))
+    (ap (λ (k : KeyParts). k.body) h.result.key ∙ ap (λ (m : Option Module). unwrap_or (option_map body_text m) []) (sym h.same))
     here.1.ports same (here.1.below ∙ ap (λ (words : List Word). below_text_at words new at) same) in
     record {
       key = key;
       value = h.result.value;
-      kept = ap (λ (k : Key). has_name keys (key_text k)) (sym key ∙ h.result.key) ∙ h.result.kept;
+      kept = ap (λ (k : KeyParts). has_name keys (key_text k)) (sym key ∙ h.result.key) ∙ h.result.kept;
     }
 
 -- results that stayed beside the modules of a new design, of which each sees the ports of its key

@@ -3,10 +3,9 @@ use Rattle.std.specs.Prelude.{◌≡◌, ℕ, ◌-◌, List, ◌++◌, codes, le
 use Rattle.result_cache.specs.Filled.{with_keys}
 use Rattle.reply_lines.specs.Lines.{counted}
 use Rattle.script_core.specs.declared.built.Built.{Built}
-use Rattle.script_core.specs.declared.key.Key.{Key}
 use Rattle.script_core.specs.Built.{IsValueOf}
 use Rattle.script_core.specs.Cold.{cold}
-use Rattle.script_core.specs.Keys.{key_text}
+use Rattle.script_core.specs.Keys.{KeyParts, key_text}
 use Rattle.desk_core.specs.Crew.{Crew, Event}
 use Rattle.desk_core.specs.CrewRuns.{IsCrewRun, CrewHolds, KnowsFilled}
 use Rattle.desk_core.specs.Ages.{texts_of}
@@ -17,7 +16,7 @@ use Rattle.desk_core.specs.Told.{told_by, told_of}
 
 -- a result is the value of each key that has this text
 abbrev pub IsResultOf : Built → List ℕ → Type 0
-IsResultOf built text = (key : Key) → key_text key ≡ text → IsValueOf key built.outcome
+IsResultOf built text = (key : KeyParts) → key_text key ≡ text → IsValueOf key built.outcome
 
 module _ (s : State) where
   -- a run of a crew of so many workers for a desk in this state: job n is the module at place n

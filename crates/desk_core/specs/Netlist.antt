@@ -9,12 +9,16 @@ use Rattle.script_core.specs.declared.outcome.Outcome.{Outcome}
 use Rattle.script_core.specs.declared.outcome.Outcome.TheVariants.{Done, Over}
 use Rattle.script_core.specs.declared.word.Word.{Word}
 use Rattle.script_core.specs.Cold.{cold}
-use Rattle.script_core.specs.Keys.{key_of, key_text}
+use Rattle.script_core.specs.Keys.{KeyParts, key_of, key_text}
 use Rattle.script_core.specs.Words.{spelling_of}
 use Rattle.reply_lines.specs.declared.reply.Reply.{Reply}
 use Rattle.reply_lines.specs.Lines.{counted, error_reply}
 use Rattle.desk_core.specs.Ages.{kept_after, texts_of}
 use Rattle.desk_core.specs.State.{Answer, State}
+
+-- the keys of the modules, in order
+abbrev pub module_keys : List Word → List Module → List KeyParts
+module_keys script modules = map (λ at. key_of modules at script) (range_with_len 0 (length modules))
 
 -- the text of the key of the module at a place
 abbrev pub key_text_at : List Word → List Module → ℕ → List ℕ

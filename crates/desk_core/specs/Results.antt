@@ -16,11 +16,11 @@ use Rattle.script_core.specs.declared.outcome.Outcome.{Outcome}
 use Rattle.script_core.specs.declared.word.Word.{Word}
 use Rattle.script_core.specs.Built.{IsValueOf}
 use Rattle.script_core.specs.Cold.{named}
-use Rattle.script_core.specs.Keys.{key_of}
+use Rattle.script_core.specs.Keys.{KeyParts, key_of}
 use Rattle.desk_core.specs.declared.ages.Ages.{Ages}
 use Rattle.desk_core.specs.declared.results.Results.{Results}
 use Rattle.desk_core.specs.Ages.{kept_in, oldest, texts_of}
-use Rattle.desk_core.specs.Netlist.{key_text_at, over_line}
+use Rattle.desk_core.specs.Netlist.{key_text_at, module_keys, over_line}
 use Rattle.desk_core.specs.State.{DeskView, State}
 
 -- a result is that of the key of the module at a place, and the key is kept
@@ -45,6 +45,12 @@ pub record TellKeys (design : Design) (table : List Module) (script : List Word)
   pub own :
       (at : ℕ) (built : Built) → slice_get found at ≡ Some (Some built) →
       built.key ≡ key_of design.modules at script
+
+-- these are the keys of the modules of a readable design, by a table of these modules
+pub record AreKeys (design : Design) (table : List Module) (script : List Word) (keys : List KeyParts) : Type 0 where
+  pub readable : IsReadable design
+  pub same : table ≡ design.modules
+  pub all : keys ≡ module_keys script design.modules
 
 -- beside the modules of a readable design stand the results of their keys, which are among these, or nothing
 pub record AreBeside (keys : List (List ℕ)) (design : Design) (script : List Word) (found : List (Option Built)) : Type 0 where

@@ -6,7 +6,7 @@ ghost use Rattle.rtl_sig.specs.Names.{has_name, with_name};
 ghost use Rattle.desk_core.specs.Ages.{AreYoung, aged_keys, compact_keys, kept_in, unaged_count};
 ghost use Rattle.desk_core.specs.Needed.{age_after, ages_after, is_too_old};
 
-use rtl_bits::Memory;
+use rtl_bits::{Memory, Text};
 use rtl_sig::{NameId, Names};
 use std::alloc::Global;
 
@@ -35,9 +35,9 @@ impl Ages {
         }
     }
 
-    /// The place of the key, which is among the keys from then on, and is kept or not as before. After an error the keys
-    /// and ages are as before.
-    pub fn place(&mut self, key: &[u8]) -> Result<usize, Memory>
+    /// The place of the key, which is among the keys from then on, and is kept or not as before. After an error the
+    /// keys and ages are as before.
+    pub fn place(&mut self, key: &Text) -> Result<usize, Memory>
         requires beside { length self.old.ages.items ≡ length self.old.keys }
         ensures beside { length self.new.ages.items ≡ length self.new.keys }
         ensures place { IfOk result (λ at. slice_get self.new.keys at ≡ Some key.now) }
@@ -47,7 +47,7 @@ impl Ages {
         ensures err { OnErr result ((self.new.keys ≡ self.old.keys) × (self.new.ages.items ≡ self.old.ages.items)) }
     {
         self.ages.reserve(1)?;
-        let id = self.keys.intern(key)?;
+        let id = self.keys.intern_text(key)?;
         if id.index == self.ages.len() {
             self.ages.push_reserved(None);
         }
@@ -55,12 +55,12 @@ impl Ages {
     }
 
     /// Puts a new key with its age last. After an error the key may stand there without one.
-    fn put(&mut self, key: &[u8], age: u32) -> Result<(), Memory>
-        requires new { has_name self.old.keys key.now ≡ false }
-        ensures keys { OnOk result (self.new.keys ≡ self.old.keys ++ key.now ∷ []) }
+    fn put(&mut self, key: Text, age: u32) -> Result<(), Memory>
+        requires new { has_name self.old.keys key ≡ false }
+        ensures keys { OnOk result (self.new.keys ≡ self.old.keys ++ key ∷ []) }
         ensures ages { OnOk result (self.new.ages.items ≡ self.old.ages.items ++ Some age ∷ []) }
     {
-        self.keys.intern(key)?;
+        self.keys.intern_text(&key)?;
         self.ages.push(Some(age))?;
         Ok(())
     }
@@ -74,7 +74,7 @@ impl Ages {
         let mut aged = Ages::make(alloc);
         for index in 0..self.keys.count() {
             if let Some(age) = self.ages[index] {
-                aged.put(self.keys.text(NameId { index }), age)?;
+                aged.put(self.keys.shared(NameId { index })?, age)?;
             }
         }
         Ok(aged)

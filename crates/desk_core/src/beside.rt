@@ -93,7 +93,7 @@ fn sees_ports(alloc: Global, table: &KeyTable, at: u32, kept: &Kept) -> bool
         kept.now.key.ports ≡ ports_text (record { modules = port_table_of table.now.modules.now at }) }
 {
     match ports_seen(alloc, table, at) {
-        Ok(text) => text.as_slice() == kept.built().key().ports.as_slice(),
+        Ok(text) => text.as_slice() == kept.built().key().ports(),
         Err(Memory) => false,
     }
 }
@@ -105,8 +105,8 @@ fn reaches_own(alloc: Global, table: &KeyTable, at: u32, kept: &Kept) -> bool
     ensures own { IsTrue result → kept.now.key.below ≡ below_text_at kept.now.key.script table.now.modules.now at }
 {
     let key = kept.built().key();
-    match below_text(alloc, table, at, &key.script) {
-        Ok(text) => text.as_slice() == key.below.as_slice(),
+    match below_text(alloc, table, at, key.script()) {
+        Ok(text) => text.as_slice() == key.below(),
         Err(Memory) => false,
     }
 }

@@ -5,7 +5,7 @@ ghost use Rattle.result_cache.specs.Meet.{Share};
 ghost use Rattle.build_crew.specs.Kept.{AreAllSeats};
 ghost use Rattle.build_crew.specs.Leaves.{HasRun, HasStopped, new_among};
 ghost use Rattle.desk_core.specs.Netlist.{key_texts};
-ghost use Rattle.desk_core.specs.Results.{AreAnswers, TellKeys};
+ghost use Rattle.desk_core.specs.Results.{AreAnswers, AreKeys};
 
 use crate::crew_jobs::CrewJobs;
 use crate::kept::Kept;
@@ -30,8 +30,8 @@ impl<R: Threads + Wait + Sync> CrewJobs<'_, R> {
         requires seats { AreAllSeats self.now.cache.now.table.shared.table_id (length seats.old)
             self.now.cache.now.shards 0 seats.old }
         requires shared { Share self.now.cache.now.shards seats.old }
-        requires keys { TellKeys self.now.keys.now.design.now.design self.now.keys.now.table.now.modules.now
-            self.now.keys.now.script.now self.now.found.now }
+        requires keys { AreKeys self.now.keys.now.design.now.design self.now.keys.now.table.now.modules.now
+            self.now.keys.now.script.now self.now.all.now }
         ensures seats { AreAllSeats self.now.cache.now.table.shared.table_id (length seats.old)
             self.now.cache.now.shards 0 seats.new }
         ensures shared { Share self.now.cache.now.shards seats.new }

@@ -4,18 +4,19 @@ use crate::kept::Kept;
 use crate::keys::Keys;
 use build_crew::Order;
 use rtl_bits::{Memory, Steps, Text};
+use script_core::Key;
 use std::alloc::Global;
 
-/// The module at a place, the result of whose key is asked for. A result that stands beside the module tells the key.
+/// The module at a place, the result of whose key is asked for.
 #[derive(Clone, Copy)]
-pub struct KeyOrder<'a> {
+pub struct KeyOrder<'a, 'k> {
     pub alloc: Global,
     pub keys: &'a Keys<'a, 'a>,
-    pub beside: &'a Option<Kept>,
+    pub key: &'k Key,
     pub at: u32,
 }
 
-impl Order for KeyOrder<'_> {
+impl Order for KeyOrder<'_, '_> {
     type Value = Kept;
 
     ghost use Rattle.std.specs.Prelude.{◌≡◌};
@@ -30,14 +31,11 @@ impl Order for KeyOrder<'_> {
     ghost is_answer = { λ order built. (built.key ≡ asked_key order) × IsValueOf built.key built.outcome };
 
     fn text(&self) -> Result<Text, Memory> {
-        match self.beside {
-            Some(kept) => kept.built().key().text(self.alloc),
-            None => self.keys.key_at(self.alloc, self.at)?.text(self.alloc),
-        }
+        self.key.text()
     }
 
     fn build<L>(&self, meter: &mut Steps<L>) -> Result<Kept, Memory> {
-        let built = self.keys.build_at(self.alloc, self.at, meter)?;
+        let built = self.keys.build_at(self.alloc, self.at, self.key, meter)?;
         Kept::make(self.alloc, built)
     }
 }

@@ -2,18 +2,14 @@
 
 ghost use Rattle.std.specs.Prelude.{◌≡◌, ◌+◌, ◌*◌, ◌≤◌, ◌<◌, IfOk, OnOk, length, slice_get, map, Some};
 ghost use Rattle.std.specs.List.{All};
+ghost use Rattle.script_core.specs.Keys.{key_text};
 ghost use Rattle.desk_core.specs.Ages.{AreYoung, kept_in};
-ghost use Rattle.desk_core.specs.Netlist.{key_text_at, key_texts};
 ghost use Rattle.desk_core.specs.Needed.{IsNeeded, is_new_place, new_places, places_marked, too_old};
-ghost use Rattle.desk_core.specs.Results.{TellKeys};
 
 use crate::ages::{Ages, is_too_old};
-use crate::kept::Kept;
-use crate::keys::Keys;
-use crate::modules::module_count;
-use build_crew::Order;
 use rtl_bits::{Memory, Text};
 use rtl_sig::NameId;
+use script_core::Key;
 use std::alloc::Global;
 
 /// What a command needs of the kept keys.
@@ -27,36 +23,20 @@ pub struct Needed {
     pub too_old: Vec<Text>,
 }
 
-/// The text of the key of the module at this place: of the result beside it, or made.
-fn text_at(alloc: Global, keys: &Keys, found: &[Option<Kept>], at: u32) -> Result<Text, Memory>
-    requires in_range { at < length keys.now.design.now.design.modules }
-    requires keys { TellKeys keys.now.design.now.design keys.now.table.now.modules.now keys.now.script.now found.now }
-    ensures value { IfOk result (λ text. text ≡
-        key_text_at keys.now.script.now keys.now.design.now.design.modules at) }
-{
-    keys.order(alloc, at, &found[at as usize]).text()
-}
-
-/// The places of the keys of the modules, in the order of the modules.
-fn places_of(
-    alloc: Global,
-    keys: &Keys,
-    found: &[Option<Kept>],
-    ages: &mut Ages,
-) -> Result<Vec<usize>, Memory>
-    requires keys { TellKeys keys.now.design.now.design keys.now.table.now.modules.now keys.now.script.now found.now }
+/// The places of these keys, in their order.
+fn places_of(alloc: Global, all: &[Key], ages: &mut Ages) -> Result<Vec<usize>, Memory>
     requires beside { length ages.old.ages.items ≡ length ages.old.keys }
     ensures beside { length ages.new.ages.items ≡ length ages.new.keys }
     ensures kept { kept_in ages.new.keys ages.new.ages.items ≡ kept_in ages.old.keys ages.old.ages.items }
     ensures young { AreYoung ages.old.ages.items → AreYoung ages.new.ages.items }
-    ensures few { OnOk result (length ages.new.keys ≤ length ages.old.keys + length keys.now.design.now.design.modules) }
-    ensures places { IfOk result (λ places. map (slice_get ages.new.keys) places.items ≡
-        map Some (key_texts keys.now.script.now keys.now.design.now.design.modules)) }
+    ensures few { OnOk result (length ages.new.keys ≤ length ages.old.keys + length all.now) }
+    ensures places { IfOk result (λ places.
+        map (slice_get ages.new.keys) places.items ≡ map Some (map key_text all.now)) }
 {
-    let mut places = Vec::new(alloc);
-    for at in 0..module_count(keys.design) {
-        let text = text_at(alloc, keys, found, at)?;
-        places.push(ages.place(text.as_slice())?)?;
+    let mut places = Vec::with_capacity(alloc, all.len())?;
+    for key in all {
+        let text = key.text()?;
+        places.push(ages.place(&text)?)?;
     }
     Ok(places)
 }
@@ -102,32 +82,25 @@ fn too_old(alloc: Global, marks: &[bool], ages: &Ages) -> Result<Vec<Text>, Memo
     let mut keys = Vec::new(alloc);
     for index in 0..marks.len() {
         if is_too_old(marks[index], ages.ages[index]) {
-            let key = ages.keys.text(NameId { index });
-            keys.push(Text::from_slice(alloc, key)?)?;
+            keys.push(ages.keys.shared(NameId { index })?)?;
         }
     }
     Ok(keys)
 }
 
-/// What a command needs that needs all keys of the present design. It leaves the kept keys as they are, and the table of
-/// the ages no longer than their number and that of the modules call for.
-pub fn needed_by(
-    alloc: Global,
-    keys: &Keys,
-    found: &[Option<Kept>],
-    ages: &mut Ages,
-) -> Result<Needed, Memory>
-    requires keys { TellKeys keys.now.design.now.design keys.now.table.now.modules.now keys.now.script.now found.now }
+/// What a command needs that needs these keys. It leaves the kept keys as they are, and the table of the ages no longer
+/// than their number and that of the keys call for.
+pub fn needed_by(alloc: Global, all: &[Key], ages: &mut Ages) -> Result<Needed, Memory>
     requires beside { length ages.old.ages.items ≡ length ages.old.keys }
     ensures beside { length ages.new.ages.items ≡ length ages.new.keys }
     ensures kept { kept_in ages.new.keys ages.new.ages.items ≡ kept_in ages.old.keys ages.old.ages.items }
     ensures young { AreYoung ages.old.ages.items → AreYoung ages.new.ages.items }
     ensures few { OnOk result (length ages.new.keys ≤ 16 + 2 * length (kept_in ages.old.keys ages.old.ages.items)
-        + length keys.now.design.now.design.modules) }
-    ensures needed { IfOk result (IsNeeded (key_texts keys.now.script.now keys.now.design.now.design.modules) ages.new) }
+        + length all.now) }
+    ensures needed { IfOk result (IsNeeded (map key_text all.now) ages.new) }
 {
     ages.compact(alloc)?;
-    let places = places_of(alloc, keys, found, ages)?;
+    let places = places_of(alloc, all, ages)?;
     let marks = marks_of(alloc, places.as_slice(), ages.keys.count())?;
     let built = count_new(marks.as_slice(), ages.ages.as_slice());
     let too_old = too_old(alloc, marks.as_slice(), ages)?;

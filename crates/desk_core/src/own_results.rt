@@ -13,9 +13,9 @@ ghost use Rattle.build_crew.specs.Rises.{RisesUpTo};
 ghost use Rattle.script_core.specs.Built.{IsValueOf};
 ghost use Rattle.script_core.specs.Keys.{key_text};
 ghost use Rattle.desk_core.specs.Asked.{IsAsked, asked_key};
-ghost use Rattle.desk_core.specs.Netlist.{key_text_at, key_texts};
+ghost use Rattle.desk_core.specs.Netlist.{key_texts};
 ghost use Rattle.desk_core.specs.Needed.{ages_after};
-ghost use Rattle.desk_core.specs.Results.{AreFound};
+ghost use Rattle.desk_core.specs.Results.{AreFound, AreKeys};
 ghost use Rattle.desk_core.specs.Solo.{AreOwn, Builds, HoldsNoOther, IsFoundAt};
 
 use crate::ages::Ages;
@@ -28,6 +28,7 @@ use build_crew::{Order, find};
 use result_cache::laws::shards_are_sound;
 use result_cache::{Claim, Keyed, Seat, Shard, SharedCache, Ticket};
 use rtl_bits::{Memory, Steps, Text};
+use script_core::Key;
 use std::alloc::Global;
 use std::sync::Wait;
 
@@ -89,7 +90,8 @@ fn fill<R: Wait, L>(
     ensures idle { IsIdle access.now.cache.now.table.shared.table_id seat.new }
     ensures key { IfOk result (λ kept. kept.key ≡ asked_key order.now) }
     ensures value { IfOk result (λ kept. IsValueOf (asked_key order.now) kept.outcome) }
-    ensures filled { OnOk result (filled_keys shard.new ≡ with_key (key_text (asked_key order.now)) (filled_keys shard.old)) }
+    ensures filled { OnOk result (filled_keys shard.new ≡
+        with_key (key_text (asked_key order.now)) (filled_keys shard.old)) }
     ensures err { OnErr result (filled_keys shard.new ≡ filled_keys shard.old) }
     ensures built { OnOk result ((n : ℕ) × (is_new : Bool) × (meter.new ≡ risen meter.old n)
         × HasFound (key_text (asked_key order.now)) is_new seat.old seat.new n) }
@@ -123,14 +125,16 @@ fn take<R: Wait, L>(
     ensures idle { IsIdle access.now.cache.now.table.shared.table_id seat.new }
     ensures key { IfOk result (λ result. result.key ≡ asked_key order.now) }
     ensures value { IfOk result (λ result. IsValueOf (asked_key order.now) result.outcome) }
-    ensures filled { OnOk result (filled_keys shard.new ≡ with_key (key_text (asked_key order.now)) (filled_keys shard.old)) }
+    ensures filled { OnOk result (filled_keys shard.new ≡
+        with_key (key_text (asked_key order.now)) (filled_keys shard.old)) }
     ensures err { OnErr result (filled_keys shard.new ≡ filled_keys shard.old) }
-    ensures built { OnOk result (Builds (filled_keys shard.old) (key_text (asked_key order.now) ∷ []) seat.old seat.new meter.old
-        meter.new) }
-    ensures ticks { RisesUpTo (new_count (filled_keys shard.old) (key_text (asked_key order.now) ∷ [])) meter.old meter.new }
+    ensures built { OnOk result (Builds (filled_keys shard.old) (key_text (asked_key order.now) ∷ [])
+        seat.old seat.new meter.old meter.new) }
+    ensures ticks { RisesUpTo (new_count (filled_keys shard.old) (key_text (asked_key order.now) ∷ []))
+        meter.old meter.new }
 {
     shards_are_sound(shard);
-    // The text is freed before the result is built.
+    // The text is let go before the result is built.
     let claim = {
         let text = order.text()?;
         shard.claim(0, &text)?
@@ -142,52 +146,48 @@ fn take<R: Wait, L>(
     }
 }
 
-/// Finds the result of the module at this place, and puts it beside it.
+/// Finds the result of the module that is asked for, and puts it beside it.
 #[tactic(auto, using(crate::proofs::Rises::rises_none))]
 fn find_at<R: Wait, L>(
     access: &Access<R>,
-    keys: &Keys,
-    at: u32,
+    order: &KeyOrder,
     results: &mut OwnResults,
     seat: &mut Seat,
     meter: &mut Steps<L>,
 ) -> Result<(), Memory>
-    requires table { keys.now.table.now.modules.now ≡ keys.now.design.now.design.modules }
-    requires own { AreOwn keys.now.design.now.design keys.now.script.now results.old }
-    requires in_range { at < length keys.now.design.now.design.modules }
+    requires asked { IsAsked order.now }
+    requires own { AreOwn order.now.keys.now.design.now.design order.now.keys.now.script.now results.old }
     requires idle { IsIdle access.now.cache.now.table.shared.table_id seat.old }
-    ensures own { AreOwn keys.now.design.now.design keys.now.script.now results.new }
+    ensures own { AreOwn order.now.keys.now.design.now.design order.now.keys.now.script.now results.new }
     ensures idle { IsIdle access.now.cache.now.table.shared.table_id seat.new }
     ensures ages { results.new.ages ≡ results.old.ages }
     ensures filled { OnOk result (filled_keys results.new.shard ≡
-        with_key (key_text_at keys.now.script.now keys.now.design.now.design.modules at)
-        (filled_keys results.old.shard)) }
-    ensures found { OnOk result (IsFoundAt results.old.found.items results.new.found.items at) }
+        with_key (key_text (asked_key order.now)) (filled_keys results.old.shard)) }
+    ensures found { OnOk result (IsFoundAt results.old.found.items results.new.found.items order.now.at) }
     ensures err { OnErr result (filled_keys results.new.shard ≡ filled_keys results.old.shard) }
-    ensures built { OnOk result (Builds (filled_keys results.old.shard) (key_text_at keys.now.script.now
-        keys.now.design.now.design.modules at ∷ []) seat.old seat.new meter.old meter.new) }
-    ensures ticks { RisesUpTo (new_count (filled_keys results.old.shard)
-        (key_text_at keys.now.script.now keys.now.design.now.design.modules at ∷ [])) meter.old meter.new }
+    ensures built { OnOk result (Builds (filled_keys results.old.shard) (key_text (asked_key order.now) ∷ [])
+        seat.old seat.new meter.old meter.new) }
+    ensures ticks { RisesUpTo (new_count (filled_keys results.old.shard) (key_text (asked_key order.now) ∷ []))
+        meter.old meter.new }
 {
-    if results.found[at as usize].is_some() {
+    if results.found[order.at as usize].is_some() {
         return Ok(());
     }
-    let nothing = None;
-    let order = keys.order(access.alloc, at, &nothing);
-    let result = take(access, &mut results.shard, &order, seat, meter)?;
-    results.found[at as usize] = Some(result);
+    let result = take(access, &mut results.shard, order, seat, meter)?;
+    results.found[order.at as usize] = Some(result);
     Ok(())
 }
 
-/// Finds the result of each module. The ages of the keys stay.
+/// Finds the result of each module, by its key. The ages of the keys stay.
 pub fn find_own<R: Wait, L>(
     access: &Access<R>,
     keys: &Keys,
+    all: &[Key],
     results: &mut OwnResults,
     seat: &mut Seat,
     meter: &mut Steps<L>,
 ) -> Result<(), Memory>
-    requires table { keys.now.table.now.modules.now ≡ keys.now.design.now.design.modules }
+    requires keys { AreKeys keys.now.design.now.design keys.now.table.now.modules.now keys.now.script.now all.now }
     requires own { AreOwn keys.now.design.now.design keys.now.script.now results.old }
     requires idle { IsIdle access.now.cache.now.table.shared.table_id seat.old }
     ensures own { AreOwn keys.now.design.now.design keys.now.script.now results.new }
@@ -204,7 +204,13 @@ pub fn find_own<R: Wait, L>(
         meter.old meter.new }
 {
     for at in 0..module_count(keys.design) {
-        find_at(access, keys, at, results, seat, meter)?;
+        let order = KeyOrder {
+            alloc: access.alloc,
+            keys: &*keys,
+            key: &all[at as usize],
+            at,
+        };
+        find_at(access, &order, results, seat, meter)?;
     }
     Ok(())
 }

@@ -12,7 +12,7 @@ ghost use Rattle.script_core.specs.declared.built.Built.{Built};
 ghost use Rattle.desk_core.specs.Builds.{BuildsOrReturns, HasClaims};
 ghost use Rattle.desk_core.specs.Needed.{ages_after};
 ghost use Rattle.desk_core.specs.Netlist.{key_texts};
-ghost use Rattle.desk_core.specs.Results.{AreAnswers, AreFound, AreSeated, AreSound, TellKeys};
+ghost use Rattle.desk_core.specs.Results.{AreAnswers, AreFound, AreSeated, AreSound, AreKeys};
 ghost use Rattle.desk_core.specs.Standing.{StandsFor};
 
 use crate::ages::Ages;
@@ -24,13 +24,14 @@ use crate::needed::Needed;
 use build_crew::Found;
 use result_cache::{Seat, SharedCache};
 use rtl_bits::{Memory, Steps, Text};
+use script_core::Key;
 use std::marker::{Send, Sync};
 use std::sync::Wait;
 use std::thread::Threads;
 use work_crew::Gate;
 
-/// Results under their keys, in a cache with a seat for each worker, with the ages of the keys that are kept; and beside
-/// each module the result of its key, once it was asked for.
+/// Results under their keys, in a cache with a seat for each worker, with the ages of the keys that are kept; and
+/// beside each module the result of its key, once it was asked for.
 #[derive(Drop)]
 pub struct Results {
     pub cache: SharedCache<Kept>,
@@ -50,18 +51,17 @@ fn put_beside(found: &mut [Option<Kept>], items: Vec<Found<Kept>>)
     }
 }
 
-/// Finds the result of each key by a crew with a worker for each of the cache's seats. A result that stands beside a
-/// module tells its key.
+/// Finds the result of each key by a crew with a worker for each of the cache's seats.
 fn found_by<R: Threads + Wait + Sync, G: Gate, L: Send>(
     crew: &Crew<R, G>,
     keys: &Keys,
+    all: &[Key],
     cache: &SharedCache<Kept>,
-    found: &[Option<Kept>],
     seats: &mut [Seat],
     meter: &mut Steps<L>,
 ) -> Result<Vec<Found<Kept>>, Memory>
     requires seats { AreSeated cache.now.table.shared.table_id cache.now.shards seats.old }
-    requires keys { TellKeys keys.now.design.now.design keys.now.table.now.modules.now keys.now.script.now found.now }
+    requires keys { AreKeys keys.now.design.now.design keys.now.table.now.modules.now keys.now.script.now all.now }
     ensures seats { AreSeated cache.now.table.shared.table_id cache.now.shards seats.new }
     ensures count { IfOk result (λ items. length items.items ≡ length keys.now.design.now.design.modules) }
     ensures answers { IfOk result (λ items.
@@ -76,24 +76,26 @@ fn found_by<R: Threads + Wait + Sync, G: Gate, L: Send>(
         alloc: crew.alloc,
         cache,
         keys,
-        found,
+        all,
     };
     jobs.run(crew.gate, seats, meter)
 }
 
-/// Finds the result of each module: what the cache does not have is built.
+/// Finds the result of each module, by its key: what the cache does not have is built.
 pub fn find_all<R: Threads + Wait + Sync, G: Gate, L: Send>(
     crew: &Crew<R, G>,
     keys: &Keys,
+    all: &[Key],
     results: &mut Results,
     meter: &mut Steps<L>,
 ) -> Result<(), Memory>
-    requires table { keys.now.table.now.modules.now ≡ keys.now.design.now.design.modules }
+    requires keys { AreKeys keys.now.design.now.design keys.now.table.now.modules.now keys.now.script.now all.now }
     requires sound { AreSound keys.now.design.now.design keys.now.script.now results.old }
     ensures sound { AreSound keys.now.design.now.design keys.now.script.now results.new }
     ensures ages { results.new.ages ≡ results.old.ages }
     ensures filled { OnOk result (kept_by results.new.seats.items ≡
-        with_keys (kept_by results.old.seats.items) (key_texts keys.now.script.now keys.now.design.now.design.modules)) }
+        with_keys (kept_by results.old.seats.items)
+        (key_texts keys.now.script.now keys.now.design.now.design.modules)) }
     ensures found { OnOk result (AreFound results.new.found.items) }
     ensures claims { OnOk result (HasClaims (key_texts keys.now.script.now keys.now.design.now.design.modules)
         results.old.seats.items results.new.seats.items) }
@@ -107,8 +109,8 @@ pub fn find_all<R: Threads + Wait + Sync, G: Gate, L: Send>(
     let items = found_by(
         crew,
         keys,
+        all,
         &results.cache,
-        results.found.as_slice(),
         results.seats.as_mut_slice(),
         meter,
     )?;

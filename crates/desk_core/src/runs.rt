@@ -130,8 +130,8 @@ pub fn print_reply(
     }
 }
 
-/// Finds the results of all modules, and tells how many keys were not kept, or which module passes a limit; and what the
-/// command needs of the kept keys, which are as before.
+/// Finds the results of all modules, and tells how many keys were not kept, or which module passes a limit; and what
+/// the command needs of the kept keys, which are as before.
 pub fn tell<R: Threads + Wait + Sync, G: Gate, L: Send>(
     crew: &Crew<R, G>,
     design: &Checked,
@@ -141,7 +141,8 @@ pub fn tell<R: Threads + Wait + Sync, G: Gate, L: Send>(
 ) -> Result<(Told, Needed), Memory>
     requires sound { AreSound design.now.design script.now results.old }
     ensures sound { AreSound design.now.design script.now results.new }
-    ensures state { state_of design.now.design script.now results.new ≡ state_of design.now.design script.now results.old }
+    ensures state { state_of design.now.design script.now results.new ≡
+        state_of design.now.design script.now results.old }
     ensures told { IfOk result (λ told. told.0 ≡ told_of (state_of design.now.design script.now results.old)) }
     ensures needed { IfOk result (λ told.
         IsNeeded (key_texts script.now design.now.design.modules) results.new.ages told.1) }
@@ -162,8 +163,9 @@ pub fn tell<R: Threads + Wait + Sync, G: Gate, L: Send>(
         table: &table,
         script,
     };
-    let needed = needed_by(alloc, &keys, results.found.as_slice(), &mut results.ages)?;
-    find_all(crew, &keys, results, meter)?;
+    let all = keys.all(alloc, results.found.as_slice())?;
+    let needed = needed_by(alloc, all.as_slice(), &mut results.ages)?;
+    find_all(crew, &keys, all.as_slice(), results, meter)?;
     let told = tell_found(alloc, design, results.found.as_slice(), needed.built)?;
     Ok((told, needed))
 }
@@ -180,7 +182,8 @@ impl Desk {
         ensures claims { OnOk result (HasClaims (present_keys self.old.state) self.old.seats self.new.seats) }
         ensures ticks { OnOk result (RisesUpTo (built_count self.old.state) meter.old meter.new) }
         ensures err { OnErr result (KeepsAll self.old.state self.new.state) }
-        ensures returned { BuildsOrReturns (built_count self.old.state) self.old.seats self.new.seats meter.old meter.new }
+        ensures returned { BuildsOrReturns (built_count self.old.state) self.old.seats self.new.seats
+            meter.old meter.new }
     {
         let (told, needed) = tell(
             crew,
@@ -205,7 +208,8 @@ impl Desk {
         ensures claims { OnOk result (HasClaims (present_keys self.old.state) self.old.seats self.new.seats) }
         ensures ticks { OnOk result (RisesUpTo (built_count self.old.state) meter.old meter.new) }
         ensures err { OnErr result (KeepsAll self.old.state self.new.state) }
-        ensures returned { BuildsOrReturns (built_count self.old.state) self.old.seats self.new.seats meter.old meter.new }
+        ensures returned { BuildsOrReturns (built_count self.old.state) self.old.seats self.new.seats
+            meter.old meter.new }
     {
         let (told, needed) = tell(
             crew,

@@ -81,7 +81,8 @@ impl Desk {
         ensures claims { OnOk result (HasClaims (present_keys self.old.state) self.old.seats self.new.seats) }
         ensures ticks { OnOk result (RisesUpTo (built_count self.old.state) meter.old meter.new) }
         ensures err { OnErr result (KeepsAll self.old.state self.new.state) }
-        ensures returned { BuildsOrReturns (built_count self.old.state) self.old.seats self.new.seats meter.old meter.new }
+        ensures returned { BuildsOrReturns (built_count self.old.state) self.old.seats self.new.seats
+            meter.old meter.new }
     {
         // The netlist comes of a script, which begins with `proc`: so it has no process.
         let _words = self.present.script.as_slice();

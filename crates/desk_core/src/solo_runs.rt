@@ -33,8 +33,8 @@ use script_core::KeyTable;
 use sim_trace::{StimulusFault, stimulus_of};
 use std::sync::Wait;
 
-/// Finds the results of all modules, and tells how many keys were not kept, or which module passes a limit; and what the
-/// command needs of the kept keys, which are as before.
+/// Finds the results of all modules, and tells how many keys were not kept, or which module passes a limit; and what
+/// the command needs of the kept keys, which are as before.
 #[tactic(auto, using(crate::proofs::Rises::rises_none))]
 fn tell<R: Wait, L>(
     access: &Access<R>,
@@ -68,8 +68,9 @@ fn tell<R: Wait, L>(
         table: &table,
         script: &present.script,
     };
-    let needed = needed_by(alloc, &keys, results.found.as_slice(), &mut results.ages)?;
-    find_own(access, &keys, results, seat, meter)?;
+    let all = keys.all(alloc, results.found.as_slice())?;
+    let needed = needed_by(alloc, all.as_slice(), &mut results.ages)?;
+    find_own(access, &keys, all.as_slice(), results, seat, meter)?;
     let told = tell_found(
         alloc,
         &present.design,

@@ -185,13 +185,13 @@ module _ {V : Type 0} {stands_for : V → List ℕ → Type 0} {keys : List (Lis
       found_at (subst (λ ks. i < length ks) (sym same) within) (subst (λ ks. slice_get ks i ≡ Some key) (sym same) text) refl
 
   -- a name that is put among keys where it is not
-  pub new_at : {s : Contents V} {more : List (List ℕ)} {name key : List ℕ} {i : ℕ} → IsSound V stands_for keys kept es owed room → contents keys kept es ≡ s → has_name s.keys key ≡ false
-      → more ≡ with_name keys name → i ≡ next_number_of keys name → name ≡ key → IsNewAt keys more key i
-  new_at {s} {more} {name} {key} {i} h e absent names number is =
+  pub new_at : {s : Contents V} {more : List (List ℕ)} {key : List ℕ} {i : ℕ} → IsSound V stands_for keys kept es owed room → contents keys kept es ≡ s → has_name s.keys key ≡ false
+      → more ≡ with_name keys key → i ≡ next_number_of keys key → IsNewAt keys more key i
+  new_at {s} {more} {key} {i} h e absent names number =
       let none : has_name keys key ≡ false = ap (λ (t : Contents V). has_name t.keys key) e ∙ absent in
       let with_key : with_name keys key ≡ keys ++ key ∷ [] = rw none refl in
       record {
         absent = record { none = none_of key keys none };
-        keys_are = names ∙ ap (with_name keys) is ∙ with_key;
-        place_is = number ∙ ap (next_number_of keys) is ∙ next_number key keys (none_of key keys none);
+        keys_are = names ∙ with_key;
+        place_is = number ∙ next_number key keys (none_of key keys none);
       }

@@ -143,7 +143,7 @@ impl<V: Keyed> Shard<V> {
         let own = key.copy()?;
         make_room(&mut self.entries, self.owed)?;
         self.kept.reserve(1)?;
-        let id = self.keys.intern(key.as_slice())?;
+        let id = self.keys.intern_text(key)?;
         self.kept.push_reserved(Kept::Held(seat));
         let (place, act) = (id.index, Act::Yours);
         self.entries.push_reserved(Entry { seat, place, act });

@@ -29,8 +29,8 @@ fn is_refused<R: Threads + Wait + Sync>(
     Ok(ended.status == Status::Refused && ended.sink.bytes().starts_with(start))
 }
 
-/// Whether each prefix of the module's text is refused: one that ends in a lone `\` or `$` for its last token, any other
-/// for what is missing.
+/// Whether each prefix of the module's text is refused: one that ends in a lone `\` or `$` for its last token, any
+/// other for what is missing.
 pub fn are_refused<R: Threads + Wait + Sync>(rt: &R, alloc: Global) -> Result<bool, Memory> {
     for size in 1..=CELL.len() {
         let prefix = &CELL[..size];

@@ -12,7 +12,7 @@ use std::alloc::Global;
 fn text_at(alloc: Global, design: &Checked, at: u32, script: &Script) -> Result<Text, Memory>
     requires in_range { at < length design.now.design.modules }
 {
-    key_of(alloc, design, at, script)?.text(alloc)
+    key_of(alloc, design, at, script)?.text()
 }
 
 /// Whether the module at this place has the key of the module before it.

@@ -11,11 +11,10 @@ use Rattle.rtl_ir.specs.declared.module.Module.{Module}
 use Rattle.rtl_ir.specs.Ports.{cells_at, instances_of, ports_by_module, port_table_of}
 use Rattle.rtl_write.specs.Text.{body_text}
 use Rattle.net_model.specs.Lists.{In}
-use Rattle.script_core.specs.declared.key.Key.{Key}
 use Rattle.script_core.specs.declared.word.Word.{Word}
 use Rattle.script_core.specs.Built.{IsAcceptedKey}
 use Rattle.script_core.specs.Reached.{table_of}
-use Rattle.script_core.specs.Keys.{body_text_at, key_of}
+use Rattle.script_core.specs.Keys.{KeyParts, body_text_at, key_of}
 
 -- the module at a place of a design, with its table
 pub record IsAt (modules : List Module) (at : ℕ) : Type 0 where
@@ -50,13 +49,13 @@ readable_in P (n ∷ ns) all m (inl e) = subst P (sym e) (All-head P n ns all)
 readable_in P (n ∷ ns) all m (inr i) = readable_in P ns (All-tail P n ns all) m i
 
 -- the key of a module of an accepted design is accepted
-pub accepted_answer : {E : Type 0} (d : Design) (at : ℕ) (script : List Word) → check_faults d.modules ≡ [] → at < length d.modules → IsReadable d → (r : Result Key E) → IfOk r (λ key. key ≡ key_of d.modules at script) → IfOk r IsAcceptedKey
+pub accepted_answer : {E : Type 0} (d : Design) (at : ℕ) (script : List Word) → check_faults d.modules ≡ [] → at < length d.modules → IsReadable d → (r : Result KeyParts E) → IfOk r (λ key. key ≡ key_of d.modules at script) → IfOk r IsAcceptedKey
 accepted_answer d at script none inside readable (Ok key) e = record {
   design = d;
   at = at;
   readable = readable;
   faultless = none;
   in_range = inside;
-  same = e ∙ ap (key_of d.modules at) (sym (ap (λ (k : Key). k.script) e));
+  same = e ∙ ap (key_of d.modules at) (sym (ap (λ (k : KeyParts). k.script) e));
 }
 accepted_answer d at script none inside readable (Err fault) e = tt

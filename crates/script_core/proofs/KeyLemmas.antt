@@ -6,11 +6,11 @@ use Rattle.std.proofs.lemmas.Bool.Decides.{nat_tests}
 use Rattle.std.proofs.lemmas.Fmt.{decimal_injective}
 use Rattle.std.proofs.lemmas.List.Elements.{All-head, All-tail}
 use Rattle.rtl_write.proofs.Marks.{Lacks, number_lacks}
-use Rattle.script_core.specs.declared.key.Key.{Key}
+use Rattle.script_core.specs.declared.key.Span.{Span}
 use Rattle.script_core.specs.declared.word.Word.{Word}
 use Rattle.script_core.specs.declared.word.Word.TheVariants.{Proc, OptExpr, OptMerge, OptClean, Opt, Fsm, Memory, Techmap, Muxtree, Reduce, Dff, Flatten}
 use Rattle.script_core.specs.Words.{letter_of}
-use Rattle.script_core.specs.Keys.{part_text, key_text}
+use Rattle.script_core.specs.Keys.{IsThere, IsWhole, KeyParts, key_text, part_text, parts_of}
 
 no_mark : (mark y : ℕ) → (y == mark) ≡ false → mark ≡ y → ⊥
 no_mark mark y e same = grind (arith, nat_tests)
@@ -95,20 +95,20 @@ part_short part rest n h =
     (omega arith, omega arith)
 
 -- what stands behind the ports, and behind the body
-abbrev behind_ports : Key → List ℕ
+abbrev behind_ports : KeyParts → List ℕ
 behind_ports k = part_text k.below ++ map letter_of k.script
 
-abbrev behind_body : Key → List ℕ
+abbrev behind_body : KeyParts → List ℕ
 behind_body k = part_text k.ports ++ behind_ports k
 
-key_parts : (k : Key) → key_text k ≡ part_text k.body ++ behind_body k
+key_parts : (k : KeyParts) → key_text k ≡ part_text k.body ++ behind_body k
 unfolding key_text
 key_parts k =
     append_assoc (part_text k.body ++ part_text k.ports) (part_text k.below) (map letter_of k.script)
     ∙ append_assoc (part_text k.body) (part_text k.ports) (behind_ports k)
 
 -- a text that is shorter than 2 to the 64 is that of one key
-pub key_once : (k o : Key) → length (key_text k) < 2 ^ 64 → key_text o ≡ key_text k → o ≡ k
+pub key_once : (k o : KeyParts) → length (key_text k) < 2 ^ 64 → key_text o ≡ key_text k → o ≡ k
 key_once k o h e =
     let k_body = part_short k.body (behind_body k) (2 ^ 64) (subst (λ (l : List ℕ). length l < 2 ^ 64) (key_parts k) h) in
     let o_body = part_short o.body (behind_body o) (2 ^ 64) (subst (λ (l : List ℕ). length l < 2 ^ 64) (sym e ∙ key_parts o) h) in
@@ -121,3 +121,36 @@ key_once k o h e =
     let third = part_once o.below k.below (map letter_of o.script) (map letter_of k.script) o_below.0 k_below.0 second.1 in
     let fourth = words_once o.script k.script third.1 in
     (λ i. record { body = first.0 i; ports = second.0 i; script = fourth i; below = third.0 i })
+
+-- the parts of a key, written one after another, and where they stand
+module _ (key : KeyParts) (body ports below : Span) (first second third text : List ℕ)
+    (is_first : first ≡ part_text key.body) (is_second : second ≡ first ++ part_text key.ports) (is_third : third ≡ second ++ part_text key.below)
+    (is_text : text ≡ third ++ map letter_of key.script)
+    (body_there : (rest : List ℕ) → IsThere body (first ++ rest) key.body)
+    (ports_there : (rest : List ℕ) → IsThere ports (second ++ rest) key.ports)
+    (below_there : (rest : List ℕ) → IsThere below (third ++ rest) key.below) where
+  behind_second : text ≡ second ++ behind_ports key
+  behind_second = is_text ∙ ap (λ (l : List ℕ). l ++ map letter_of key.script) is_third ∙ append_assoc second (part_text key.below) (map letter_of key.script)
+
+  behind_first : text ≡ first ++ behind_body key
+  behind_first = behind_second ∙ ap (λ (l : List ℕ). l ++ behind_ports key) is_second ∙ append_assoc first (part_text key.ports) (behind_ports key)
+
+  body_in : IsThere body text key.body
+  body_in = subst (λ (l : List ℕ). IsThere body l key.body) (sym behind_first) (body_there (behind_body key))
+
+  ports_in : IsThere ports text key.ports
+  ports_in = subst (λ (l : List ℕ). IsThere ports l key.ports) (sym behind_second) (ports_there (behind_ports key))
+
+  below_in : IsThere below text key.below
+  below_in = subst (λ (l : List ℕ). IsThere below l key.below) (sym is_text) (below_there (map letter_of key.script))
+
+  pub parts_are : parts_of text body ports below key.script ≡ key
+  parts_are = λ i. record { body = body_in.same i; ports = ports_in.same i; script = key.script; below = below_in.same i }
+
+  pub is_whole : IsWhole text body ports below key.script
+  is_whole = record {
+    body = record { ordered = body_in.ordered; within = body_in.within; same = refl };
+    ports = record { ordered = ports_in.ordered; within = ports_in.within; same = refl };
+    below = record { ordered = below_in.ordered; within = below_in.within; same = refl };
+    whole = ap key_text parts_are ∙ key_parts key ∙ sym (behind_first ∙ ap (λ (l : List ℕ). l ++ behind_body key) is_first);
+  }

@@ -18,11 +18,10 @@ use Rattle.rtl_write.proofs.PortTableLemmas.{readable_table}
 use Rattle.rtl_write.proofs.Trip.{reads_design}
 use Rattle.rtl_write.specs.Text.{body_text, text_of}
 use Rattle.rtl_write.specs.Ports.{ports_text}
-use Rattle.script_core.specs.declared.key.Key.{Key}
 use Rattle.script_core.specs.declared.outcome.Outcome.{Outcome}
 use Rattle.script_core.specs.declared.word.Word.{Word}
 use Rattle.script_core.specs.Built.{body_name, unnamed, IsValueOf, IsAcceptedKey}
-use Rattle.script_core.specs.Keys.{body_text_at, key_of}
+use Rattle.script_core.specs.Keys.{KeyParts, body_text_at, key_of}
 use Rattle.script_core.specs.Reached.{below_of, reached_of, table_of}
 use Rattle.script_core.specs.Words.{flattens}
 use Rattle.script_core.specs.Fold.{AreApplicable, AreFlatApplicable, IsApplicable, StartsWithProc, fold_script}
@@ -33,7 +32,7 @@ use Rattle.script_core.proofs.BuildLemmas.{module_at, readable_in}
 use Rattle.script_core.proofs.Given.{given_first}
 
 -- what is read of the texts of an accepted key
-pub record IsRead (key : Key) (read : Module) (table : PortTable) (below : List Module) : Type 0 where
+pub record IsRead (key : KeyParts) (read : Module) (table : PortTable) (below : List Module) : Type 0 where
   -- each module, table and modules that are reached of these texts
   pub only :
       (m : Module) (ports : PortTable) (others : List Module) → IsReadableModule m → m.id ≡ body_name → ArePorts ports →
@@ -49,7 +48,7 @@ module _ (d : Design) (readable : IsReadable d) (none : check_faults d.modules �
       by true = flat_given d readable none m i (drop 2 script) body_name
       by false = stage_applicable script (table_of d.modules m) (unnamed m) stage (given_first d readable none m i body_name)
 
-module _ (key : Key) (read : Module) (table : PortTable) (below : Design)
+module _ (key : KeyParts) (read : Module) (table : PortTable) (below : Design)
     (body : (m : Module) → IsReadableModule m → key.body ≡ body_text m → read ≡ record m { id = body_name })
     (ports : (t : PortTable) → ArePorts t → key.ports ≡ ports_text t → table ≡ t)
     (others : (d : Design) → IsReadable d → key.below ≡ text_of d → below ≡ d) where
@@ -73,11 +72,11 @@ module _ (key : Key) (read : Module) (table : PortTable) (below : Design)
       let here = module_at d.modules is.at is.in_range in
       let m = here.m in
       let readable = readable_in IsReadableModule d.modules is.readable.modules m here.member in
-      let own : read ≡ unnamed m = body m readable (ap (λ (k : Key). k.body) is.same ∙ here.body) in
-      let its : table ≡ table_of d.modules m = ports (record { modules = port_table_of d.modules is.at }) (readable_table d is.at is.readable) (ap (λ (k : Key). k.ports) is.same) ∙ ap (λ ts. record { modules = ts }) here.ports in
+      let own : read ≡ unnamed m = body m readable (ap (λ (k : KeyParts). k.body) is.same ∙ here.body) in
+      let its : table ≡ table_of d.modules m = ports (record { modules = port_table_of d.modules is.at }) (readable_table d is.at is.readable) (ap (λ (k : KeyParts). k.ports) is.same) ∙ ap (λ ts. record { modules = ts }) here.ports in
       let under : below ≡ record { modules = below_of key.script d.modules m.cells } =
       others (record { modules = below_of key.script d.modules m.cells }) (readable_below d is.readable key.script m.cells)
-      (ap (λ (k : Key). k.below) is.same ∙ ap (λ (cells : List Cell). text_of (record { modules = below_of key.script d.modules cells })) here.cells) in
+      (ap (λ (k : KeyParts). k.below) is.same ∙ ap (λ (cells : List Cell). text_of (record { modules = below_of key.script d.modules cells })) here.cells) in
       subst (λ (t : PortTable). IsApplicable key.script t below.modules read) (sym its)
       (subst (λ (b : Design). IsApplicable key.script (table_of d.modules m) b.modules read) (sym under)
       (subst (IsApplicable key.script (table_of d.modules m) (below_of key.script d.modules m.cells)) (sym own)
@@ -118,12 +117,12 @@ module _ (d : Design) (at : ℕ) (script : List Word) (readable : IsReadable d) 
       (record { design = d; at = at; readable = readable; faultless = none; in_range = inside; same = refl })
 
 -- the fold over what was read is the value of the key
-pub value_of_key : (key : Key) (read : Module) (table : PortTable) (below : List Module) → IsRead key read table below → (outcome : Outcome) → outcome ≡ fold_script key.script table below read → IsValueOf key outcome
+pub value_of_key : (key : KeyParts) (read : Module) (table : PortTable) (below : List Module) → IsRead key read table below → (outcome : Outcome) → outcome ≡ fold_script key.script table below read → IsValueOf key outcome
 value_of_key key read table below is outcome e = record {
   value = λ m t os good name are fine b p o. let only = is.only m t os good name are fine b p o in e ∙ (λ i. fold_script key.script (sym only.1 i) (sym only.2 i) (sym only.0 i));
 }
 
 -- .. in each answer that has one
-pub value_of_answer : {E : Type 0} (key : Key) (read : Module) (table : PortTable) (below : List Module) → IsRead key read table below → (r : Result Outcome E) → IfOk r (λ outcome. outcome ≡ fold_script key.script table below read) → IfOk r (λ outcome. IsValueOf key outcome)
+pub value_of_answer : {E : Type 0} (key : KeyParts) (read : Module) (table : PortTable) (below : List Module) → IsRead key read table below → (r : Result Outcome E) → IfOk r (λ outcome. outcome ≡ fold_script key.script table below read) → IfOk r (λ outcome. IsValueOf key outcome)
 value_of_answer key read table below is (Ok outcome) e = value_of_key key read table below is outcome e
 value_of_answer key read table below is (Err fault) e = tt

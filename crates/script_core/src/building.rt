@@ -16,7 +16,7 @@ ghost use Rattle.script_core.specs.Reached.{below_of};
 
 use crate::built::Built;
 use crate::fold::fold;
-use crate::key::{Key, key_by};
+use crate::key::Key;
 use crate::key_table::KeyTable;
 use crate::outcome::Outcome;
 use crate::script::Script;
@@ -31,27 +31,27 @@ use std::alloc::Global;
 const BODY_NAME: &[u8] = b"\\m";
 
 /// The module of this body.
-fn module_of(alloc: Global, body: &Text) -> Result<Module, Memory>
+fn module_of(alloc: Global, body: &[u8]) -> Result<Module, Memory>
     ensures round_trip { («module» : Module) → IsReadableModule «module» → body.now ≡ body_text «module» →
         IfOk result (λ read. read ≡ unnamed «module») }
 {
-    read_body(alloc, body.as_slice(), BODY_NAME)
+    read_body(alloc, body, BODY_NAME)
 }
 
 /// The ports of this text.
-fn ports_of(alloc: Global, ports: &Text) -> Result<PortTable, Memory>
+fn ports_of(alloc: Global, ports: &[u8]) -> Result<PortTable, Memory>
     ensures round_trip { IfOk result (λ read. (table : PortTable) → ArePorts table → ports.now ≡ ports_text table →
         read ≡ table) }
 {
-    read_ports(alloc, ports.as_slice())
+    read_ports(alloc, ports)
 }
 
 /// The modules of this text. A text that gives none, which no accepted key has, is taken for want of memory.
-fn modules_of(alloc: Global, below: &Text) -> Result<Design, Memory>
+fn modules_of(alloc: Global, below: &[u8]) -> Result<Design, Memory>
     ensures round_trip { (design : Design) → IsReadable design → below.now ≡ text_of design →
         IfOk result (λ read. read ≡ design) }
 {
-    match read(alloc, below.as_slice()) {
+    match read(alloc, below) {
         Ok(design) => Ok(design),
         Err(_) => Err(Memory),
     }
@@ -62,10 +62,10 @@ fn outcome_of(alloc: Global, key: &Key) -> Result<Outcome, Memory>
     requires accepted { IsAcceptedKey key.now }
     ensures value { IfOk result (λ outcome. IsValueOf key.now outcome) }
 {
-    let module = module_of(alloc, &key.body)?;
-    let ports = ports_of(alloc, &key.ports)?;
-    let below = modules_of(alloc, &key.below)?;
-    fold(alloc, &key.script, module, &ports, &below)
+    let module = module_of(alloc, key.body())?;
+    let ports = ports_of(alloc, key.ports())?;
+    let below = modules_of(alloc, key.below())?;
+    fold(alloc, key.script(), module, &ports, &below)
 }
 
 /// Builds the key: its module, read of its texts, is given to the passes of its script, in order. The module
@@ -136,26 +136,25 @@ fn outcome_at(
     fold(alloc, script, body, &ports, &below)
 }
 
-/// Builds the key of the module at this place of the design, under the script. The module is copied and no text of it is
-/// read; its key is made once it is built, so that no text is held beside it. Each call, whatever it answers, is one
-/// step, as of `build`.
+/// Builds a key, which is that of the module at this place of the design. The module is copied, and no text of it is
+/// read. Each call, whatever it answers, is one step, as of `build`.
 pub fn build_by<L>(
     alloc: Global,
     design: &Checked,
     table: &KeyTable,
     module: u32,
-    script: &Script,
+    key: &Key,
     meter: &mut Steps<L>,
 ) -> Result<Built, Memory>
     requires in_range { «module» < length design.now.design.modules }
     requires readable { IsReadable design.now.design }
     requires table { table.now.modules.now ≡ design.now.design.modules }
-    ensures key { IfOk result (λ built. built.key ≡ key_of design.now.design.modules «module» script.now) }
-    ensures value { IfOk result (λ built. IsValueOf built.key built.outcome) }
+    requires key { key.now ≡ key_of design.now.design.modules «module» key.now.script }
+    ensures key { IfOk result (λ built. built.key ≡ key.now) }
+    ensures value { IfOk result (λ built. IsValueOf key.now built.outcome) }
     ensures one_tick { meter.new ≡ risen meter.old 1 }
 {
     meter.tick();
-    let outcome = outcome_at(alloc, design, table, module, script)?;
-    let key = key_by(alloc, design, table, module, script)?;
-    Ok(Built::make(key, outcome))
+    let outcome = outcome_at(alloc, design, table, module, key.script())?;
+    Ok(Built::make(key.copy()?, outcome))
 }

@@ -1,12 +1,11 @@
 //! What the result of a script over a module depends on.
 
-ghost use Rattle.std.specs.Prelude.{◌≡◌, ◌<◌, ◌^◌, ◌++◌, IfOk, OnOk, length, map};
+ghost use Rattle.std.specs.Prelude.{◌≡◌, ◌<◌, ◌^◌, ◌++◌, ℕ, List, IfOk, OnOk, length, map};
 ghost use Rattle.rtl_ir.specs.Faults.{faults_within};
 ghost use Rattle.rtl_write.specs.Text.{text_of};
 ghost use Rattle.rtl_readable.specs.Readable.{IsReadable};
-ghost use Rattle.script_core.specs.declared.key.Key.{Key};
 ghost use Rattle.script_core.specs.Built.{IsAcceptedKey};
-ghost use Rattle.script_core.specs.Keys.{below_text_at, key_of, key_text, part_text};
+ghost use Rattle.script_core.specs.Keys.{IsThere, KeyParts, below_text_at, key_of, key_text, part_text};
 ghost use Rattle.script_core.specs.Words.{letter_of};
 
 use crate::key_table::KeyTable;
@@ -17,26 +16,45 @@ use rtl_check::Checked;
 use rtl_ir::{Design, Module};
 use rtl_write::{body_text, module_text, ports_text};
 use std::alloc::Global;
+use std::marker::Model;
+
+/// Where a part of a text stands: from one byte up to another.
+#[derive(Clone, Copy)]
+struct Span {
+    from: usize,
+    to: usize,
+}
 
 /// All that the result of a script over a module depends on: the text of the module without its name, the
 /// text of the ports of the modules that it instantiates, the script, and where that flattens the text of the modules
-/// that it reaches, in order of their names.
+/// that it reaches, in order of their names. All of it stands in one text, which its copies share.
 #[derive(Drop)]
 pub struct Key {
-    pub body: Text,
-    pub ports: Text,
-    pub script: Script,
-    /// Empty where the script does not flatten.
-    pub below: Text,
+    text: Text,
+    body: Span,
+    ports: Span,
+    below: Span,
+    script: Script,
+}
+
+impl Model for Key {
+    ghost use Rattle.script_core.specs.Keys.{IsWhole, KeyParts, parts_of};
+
+    ghost Value = { KeyParts };
+
+    ghost view = { λ key. parts_of key.text key.body key.ports key.below key.script };
+
+    ghost invariant = { λ key. IsWhole key.text key.body key.ports key.below key.script };
 }
 
 impl Copied for Key {
     fn copy(&self) -> Result<Key, Memory> {
         Ok(Key {
-            body: self.body.copy()?,
-            ports: self.ports.copy()?,
+            text: self.text.copy()?,
+            body: self.body,
+            ports: self.ports,
+            below: self.below,
             script: self.script.copy()?,
-            below: self.below.copy()?,
         })
     }
 }
@@ -80,13 +98,16 @@ fn key_in(
     requires table { table.now.modules.now ≡ design.now.modules }
     ensures exact { IfOk result (λ key. key ≡ key_of design.now.modules «module» script.now) }
 {
-    let ports = table.ports_of(alloc, module)?;
-    Ok(Key {
-        body: body_text(alloc, &design.modules.as_slice()[module as usize])?,
-        ports: ports_text(alloc, &ports)?,
-        script: script.copy()?,
-        below: below_text(alloc, table, module, script)?,
-    })
+    let body = body_text(alloc, &design.modules.as_slice()[module as usize])?;
+    let ports = ports_text(alloc, &table.ports_of(alloc, module)?)?;
+    let below = below_text(alloc, table, module, script)?;
+    Key::of(
+        alloc,
+        body.as_slice(),
+        ports.as_slice(),
+        below.as_slice(),
+        script.copy()?,
+    )
 }
 
 /// The text of the modules that the module at this place reaches, where the script flattens, else no text.
@@ -117,21 +138,27 @@ fn modules_text(alloc: Global, modules: &[&Module]) -> Result<Text, Memory>
     Ok(out)
 }
 
-/// Writes how long a part is, and the part.
+/// Appends how long a part is, and the part: where that stands, whatever comes after it.
 #[tactic(auto, unfolding(crate::specs::Keys::part_text))]
-fn put_part(out: &mut Text, part: &[u8]) -> Result<(), Memory>
-    ensures ok { OnOk result (out.new ≡ out.old ++ part_text part.now) }
+fn put_part(out: &mut Vec<u8>, part: &[u8]) -> Result<Span, Memory>
+    ensures text { OnOk result (out.new.items ≡ out.old.items ++ part_text part.now) }
+    ensures there { IfOk result (λ span. (rest : List ℕ) → IsThere span (out.new.items ++ rest) part.now) }
 {
     let length = part.len() as u64;
-    let digits = length.to_string(out.allocator())?;
-    out.extend(digits.as_bytes())?;
+    let digits = length.to_string(*out.allocator())?;
+    out.extend_from_slice(digits.as_bytes())?;
     out.push(b' ')?;
-    out.extend(part)
+    let from = out.len();
+    out.extend_from_slice(part)?;
+    Ok(Span {
+        from,
+        to: out.len(),
+    })
 }
 
-/// Writes the letters of the words.
-fn put_words(out: &mut Text, words: &[Word]) -> Result<(), Memory>
-    ensures ok { OnOk result (out.new ≡ out.old ++ map letter_of words.now) }
+/// Appends the letters of the words.
+fn put_words(out: &mut Vec<u8>, words: &[Word]) -> Result<(), Memory>
+    ensures ok { OnOk result (out.new.items ≡ out.old.items ++ map letter_of words.now) }
 {
     for word in words {
         out.push(word.letter())?;
@@ -139,27 +166,84 @@ fn put_words(out: &mut Text, words: &[Word]) -> Result<(), Memory>
     Ok(())
 }
 
-/// The text, which is shorter than 2^64: so the lengths in it can be told from one another.
-fn whole(text: Text) -> Text
-    ensures value { result ≡ text }
-    ensures short { length result < 2 ^ 64 }
+/// A text, which is shorter than 2^64: so the lengths in it can be told from one another.
+fn whole(text: &Text) -> &Text
+    ensures value { result.now ≡ text.now }
+    ensures short { length result.now < 2 ^ 64 }
 {
     let _length = text.as_slice().len();
     text
 }
 
+/// The room for a text of the parts and the words: each length has at most 20 digits.
+fn room_for(body: &[u8], ports: &[u8], below: &[u8], words: &[Word]) -> usize {
+    let parts = body.len().saturating_add(ports.len());
+    let rest = below.len().saturating_add(words.len());
+    parts.saturating_add(rest).saturating_add(3 * 21)
+}
+
 impl Key {
-    /// The key as one text, which no other key has.
-    #[tactic(auto, unfolding(crate::specs::Keys::key_text), using(crate::proofs::KeyLemmas::key_once))]
-    pub fn text(&self, alloc: Global) -> Result<Text, Memory>
-        ensures exact { IfOk result (λ text. text ≡ key_text self.now) }
-        ensures only { IfOk result (λ text. (other : Key) → key_text other ≡ text → other ≡ self.now) }
+    /// The key of these parts.
+    #[tactic(auto, using(crate::proofs::KeyLemmas::parts_are))]
+    fn of(
+        alloc: Global,
+        body: &[u8],
+        ports: &[u8],
+        below: &[u8],
+        script: Script,
+    ) -> Result<Key, Memory>
+        ensures exact { IfOk result (λ key. key ≡
+            record { body = body.now; ports = ports.now; script = script; below = below.now }) }
     {
-        let mut out = Text::make(alloc);
-        put_part(&mut out, self.body.as_slice())?;
-        put_part(&mut out, self.ports.as_slice())?;
-        put_part(&mut out, self.below.as_slice())?;
-        put_words(&mut out, self.script.as_slice())?;
-        Ok(whole(out))
+        let room = room_for(body, ports, below, script.as_slice());
+        let mut out = Vec::with_capacity(alloc, room)?;
+        let body = put_part(&mut out, body)?;
+        let ports = put_part(&mut out, ports)?;
+        let below = put_part(&mut out, below)?;
+        put_words(&mut out, script.as_slice())?;
+        Ok(Key {
+            text: Text::from_vec(out)?,
+            body,
+            ports,
+            below,
+            script,
+        })
+    }
+
+    /// The text of the module without its name.
+    pub fn body(&self) -> &[u8]
+        ensures value { result.now ≡ self.now.body }
+    {
+        &self.text.as_slice()[self.body.from..self.body.to]
+    }
+
+    /// The text of the ports of the modules that the module instantiates.
+    pub fn ports(&self) -> &[u8]
+        ensures value { result.now ≡ self.now.ports }
+    {
+        &self.text.as_slice()[self.ports.from..self.ports.to]
+    }
+
+    /// The text of the modules that the module reaches, where the script flattens, else no text.
+    pub fn below(&self) -> &[u8]
+        ensures value { result.now ≡ self.now.below }
+    {
+        &self.text.as_slice()[self.below.from..self.below.to]
+    }
+
+    /// The script.
+    pub fn script(&self) -> &Script
+        ensures value { result.now ≡ self.now.script }
+    {
+        &self.script
+    }
+
+    /// The key as one text, which no other key has. The key shares it.
+    #[tactic(auto, using(crate::proofs::KeyLemmas::key_once))]
+    pub fn text(&self) -> Result<Text, Memory>
+        ensures exact { IfOk result (λ text. text ≡ key_text self.now) }
+        ensures only { IfOk result (λ text. (other : KeyParts) → key_text other ≡ text → other ≡ self.now) }
+    {
+        whole(&self.text).copy()
     }
 }

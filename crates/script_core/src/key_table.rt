@@ -2,21 +2,18 @@
 
 ghost use Rattle.std.specs.Prelude.{◌≡◌, IfOk};
 ghost use Rattle.std.specs.BTreeMap.{values};
-ghost use Rattle.rtl_ir.specs.ModuleTables.{AreByName};
 
 use rtl_bits::Memory;
-use rtl_ir::{Design, DesignPorts, Module, PortTable, is_library_cell};
+use rtl_ir::{Design, DesignPorts, Module, PortTable};
 use std::alloc::Global;
-use std::collections::{BTreeMap, HashMap};
+use std::collections::BTreeMap;
 
 /// The modules of a design, by which the keys of its modules are made. The table is made once and serves all of them.
 #[derive(Drop)]
 pub struct KeyTable<'a> {
     modules: &'a [Module],
     ports: DesignPorts<'a>,
-    by_name: HashMap<&'a [u8], &'a Module>,
     ghost ported: { ports.modules.now ≡ modules.now },
-    ghost named: { AreByName by_name modules.now },
 }
 
 /// Modules that were found, in order of their names, and those of them whose cells are to be looked at.
@@ -27,8 +24,7 @@ struct Search<'a> {
 }
 
 impl<'a> KeyTable<'a> {
-    ghost use Rattle.std.specs.Prelude.{◌≡◌, ◌<◌, IfOk, OnOk, length, map, option_map};
-    ghost use Rattle.rtl_ir.specs.ModuleTables.{instance_of};
+    ghost use Rattle.std.specs.Prelude.{◌≡◌, ◌<◌, IfOk, OnOk, length, map};
     ghost use Rattle.rtl_ir.specs.Ports.{cells_at, port_table_of};
     ghost use Rattle.script_core.specs.Reached.{reached_of};
     ghost use Rattle.script_core.specs.Searching.{AreAsked, AreNamed, Looks, found_modules};
@@ -38,15 +34,9 @@ impl<'a> KeyTable<'a> {
         ensures value { IfOk result (λ table. table.modules.now ≡ design.now.modules) }
     {
         let modules = design.modules.as_slice();
-        let mut by_name = HashMap::new(alloc);
-        for at in (0..modules.len()).rev() {
-            let module = &modules[at];
-            by_name.insert(module.id.as_slice(), module)?;
-        }
         Ok(KeyTable {
             modules,
             ports: DesignPorts::of(alloc, design)?,
-            by_name,
         })
     }
 
@@ -83,23 +73,11 @@ impl<'a> KeyTable<'a> {
     {
         let cells = module.cells.as_slice();
         for cell in cells {
-            if let Some(child) = self.instance_of(cell.kind_name.as_slice()) {
+            if let Some(child) = self.ports.instance_of(cell.kind_name.as_slice()) {
                 search.find(child)?;
             }
         }
         Ok(())
-    }
-
-    /// The module that a cell of this type is an instance of, none of a cell of the library.
-    fn instance_of(&self, name: &[u8]) -> Option<&'a Module>
-        ensures value { option_map (λ m. m.now) result ≡ instance_of self.now.modules.now name.now }
-    {
-        let module = self.by_name.get(name)?;
-        if is_library_cell(name) {
-            None
-        } else {
-            Some(*module)
-        }
     }
 }
 

@@ -1,6 +1,6 @@
-use Rattle.std.proofs.Common.{◌≡◌, ◌<◌, ◌∙◌, ap, length, subst, sym}
+use Rattle.std.proofs.Common.{◌≡◌, ◌<◌, ◌∙◌, ap, length, map, subst, sym}
 use Rattle.std.specs.List.{All}
-use Rattle.desk_core.specs.Netlist.{key_texts}
+use Rattle.script_core.specs.Keys.{key_text}
 use Rattle.desk_core.specs.Needed.{marks_of, new_places, places_marked, too_old}
 use Rattle.desk_core.proofs.Aging.{places_count}
 use Rattle.desk_core.proofs.Placing.{marked_many, marks_are, there_are, within_are}
@@ -8,7 +8,7 @@ use Rattle.desk_core.proofs.needed.needed_by.Goals as goal
 
 pub marks_of-requires : goal.marks_of-requires
 marks_of-requires c =
-    let texts = key_texts c.args.keys.now.script.now c.args.keys.now.design.now.design.modules in
+    let texts = map key_text c.args.all.now in
     let places = c.in_ok-places.places.items in
     record {
       within =
@@ -22,7 +22,7 @@ too_old-requires-clause-marks c =
 
 pub returns-clause-needed : goal.returns-clause-needed
 returns-clause-needed c =
-    let texts = key_texts c.args.keys.now.script.now c.args.keys.now.design.now.design.modules in
+    let texts = map key_text c.args.all.now in
     let keys = c.places_of.new.ages.keys in
     let ages = c.places_of.new.ages.ages.items in
     let places = c.in_ok-places.places.items in

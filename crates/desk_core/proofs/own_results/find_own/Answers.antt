@@ -1,8 +1,9 @@
-use Rattle.std.proofs.Common.{◌≡◌, ◌+◌, ◌<◌, ℕ, [], length, refl, subst, arith}
+use Rattle.std.proofs.Common.{◌≡◌, ◌+◌, ◌<◌, ◌∙◌, ℕ, [], length, refl, subst, arith}
 use Rattle.result_cache.specs.Filled.{filled_keys, with_keys}
 use Rattle.result_cache.proofs.NewKeys.{keys_below}
 use Rattle.desk_core.specs.Netlist.{key_text_at}
 use Rattle.desk_core.specs.Solo.{Builds}
+use Rattle.desk_core.proofs.Finding.{key_there, keys_within}
 use Rattle.desk_core.proofs.OwnCalls.{builds_none}
 use Rattle.desk_core.proofs.OwnResults.{own_all, own_builds, own_first, own_more, own_still, own_ticks, own_within}
 use Rattle.desk_core.proofs.Rises.{rises_none}
@@ -16,6 +17,23 @@ loop-at-init g c = record {
   built = builds_none (filled_keys c.args.results.now.shard) [] c.args.seat.now c.args.seat.now c.args.meter.now c.args.meter.now refl refl;
   ticks = rises_none _ c.args.meter.now c.args.meter.now refl;
 }
+
+pub bounds-all-at : goal.bounds-all-at
+bounds-all-at g c =
+    let keys = c.args.keys.now in
+    let within : c.loop-at.at < length keys.design.now.design.modules = omega arith in
+    keys_within keys.design.now.design keys.table.now.modules.now keys.script.now c.args.all.now c.loop-at.at c.requires.keys within
+
+pub find_at-requires-clause-asked : goal.find_at-requires-clause-asked
+find_at-requires-clause-asked g c =
+    let keys = c.args.keys.now in
+    let within : c.loop-at.at < length keys.design.now.design.modules = omega arith in
+    record {
+      table = c.requires.keys.same;
+      readable = c.requires.keys.readable;
+      in_range = within;
+      own = c.index-all-at.is ∙ key_there keys.design.now.design keys.table.now.modules.now keys.script.now c.args.all.now c.loop-at.at c.index-all-at.result c.requires.keys within;
+    }
 
 pub loop-at-preserved : goal.loop-at-preserved
 loop-at-preserved g c =

@@ -7,9 +7,8 @@ use Rattle.result_cache.specs.Filled.{filled_keys}
 use Rattle.result_cache.specs.declared.shard.Claim.{Claim}
 use Rattle.result_cache.proofs.FilledKeys.{none_after_hit}
 use Rattle.script_core.specs.declared.built.Built.{Built}
-use Rattle.script_core.specs.declared.key.Key.{Key}
 use Rattle.script_core.specs.Built.{IsValueOf}
-use Rattle.script_core.specs.Keys.{key_text}
+use Rattle.script_core.specs.Keys.{KeyParts, key_text}
 use Rattle.desk_core.specs.Asked.{asked_key}
 use Rattle.desk_core.specs.Standing.{StandsFor}
 use Rattle.desk_core.proofs.Sending.{kept_send}
@@ -30,7 +29,7 @@ returns-in-Hit-clause-key g c =
 pub returns-in-Hit-clause-value : goal.returns-in-Hit-clause-value
 returns-in-Hit-clause-value g c =
     let answer = c.in_ok-text.ensures.answers c.in-Hit.result (subst (λ (k : Claim Built). IfHit k (λ built. StandsFor built c.in_ok-text.text)) c.in-Hit.is c.in_ok-claim.ensures.stands) in
-    subst (λ (k : Key). IsValueOf k c.in-Hit.result.outcome) answer.0 answer.1
+    subst (λ (k : KeyParts). IsValueOf k c.in-Hit.result.outcome) answer.0 answer.1
 
 pub returns-in-Hit-clause-free : goal.returns-in-Hit-clause-free
 returns-in-Hit-clause-free g c =

@@ -1,4 +1,4 @@
-use Rattle.std.proofs.Common.{◌≡◌, ◌++◌, List, Option, length, take, drop, refl, sym, ap, subst, ◌∙◌, arith}
+use Rattle.std.proofs.Common.{◌≡◌, ◌++◌, List, length, take, drop, refl, sym, ap, subst, ◌∙◌, arith}
 use Rattle.std.specs.List.{list_all}
 use Rattle.std.specs.Option.{is_some}
 use Rattle.std.specs.Vec.{with_items}
@@ -11,21 +11,14 @@ use Rattle.script_core.specs.declared.built.Built.{Built}
 use Rattle.desk_core.specs.declared.results.Results.{Results}
 use Rattle.desk_core.specs.Builds.{BuildsOrReturns, HasClaims}
 use Rattle.desk_core.specs.Netlist.{key_texts}
-use Rattle.desk_core.specs.Results.{AreSeated, TellKeys}
-use Rattle.desk_core.proofs.Finding.{all_beside, back_whole, beside_of, run_returns, run_ticks, sound_run, sound_stopped, stopped_returns, tell_keys}
+use Rattle.desk_core.specs.Results.{AreSeated}
+use Rattle.desk_core.proofs.Finding.{all_beside, back_whole, beside_of, run_returns, run_ticks, sound_run, sound_stopped, stopped_returns}
 use Rattle.desk_core.proofs.results.find_all.Goals as goal
 
 pub found_by-requires-clause-seats : goal.found_by-requires-clause-seats
 found_by-requires-clause-seats g c κs within =
     let results = c.args.results.now in
     subst (AreSeated results.cache.table.shared.table_id results.cache.shards) (sym c.as_mut_slice.ensures.value) c.requires.sound.idle
-
-pub found_by-requires-clause-keys : goal.found_by-requires-clause-keys
-found_by-requires-clause-keys g c κs within =
-    let design = c.args.keys.now.design.now.design in
-    let table = c.args.keys.now.table.now.modules.now in
-    subst (λ (found : List (Option Built)). TellKeys design table c.args.keys.now.script.now found) (sym c.as_slice.ensures.value)
-    (tell_keys design table c.args.keys.now.script.now c.args.results.now c.requires.table c.requires.sound)
 
 pub returns-in_err-items-clause-sound : goal.returns-in_err-items-clause-sound
 returns-in_err-items-clause-sound g c =

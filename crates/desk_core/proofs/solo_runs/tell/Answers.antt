@@ -1,29 +1,38 @@
-use Rattle.std.proofs.Common.{◌≡◌, ℕ, ◌-◌, List, ◌++◌, Option, Ok, length, refl, sym, ap, subst, ◌∙◌}
+use Rattle.std.proofs.Common.{◌≡◌, ◌-◌, List, ◌++◌, Option, Ok, length, refl, sym, ap, subst, ◌∙◌}
 use Rattle.std.specs.Prelude.{codes}
 use Rattle.reply_lines.specs.Lines.{counted}
 use Rattle.rtl_ir.specs.declared.module.Design.{Design}
 use Rattle.result_cache.specs.Filled.{new_count}
 use Rattle.script_core.specs.declared.built.Built.{Built}
+use Rattle.script_core.specs.Keys.{KeyParts}
+use Rattle.desk_core.specs.declared.ages.Ages.{Ages}
 use Rattle.desk_core.specs.Ages.{kept_in, texts_of}
 use Rattle.desk_core.specs.Netlist.{built_count, key_texts}
-use Rattle.desk_core.specs.Results.{TellKeys, over_of}
+use Rattle.desk_core.specs.Needed.{IsNeeded}
+use Rattle.desk_core.specs.Results.{AreKeys, TellKeys, over_of}
 use Rattle.desk_core.specs.Solo.{own_state}
 use Rattle.desk_core.specs.State.{KeptKey}
-use Rattle.desk_core.proofs.Finding.{built_few}
+use Rattle.desk_core.proofs.Finding.{built_few, needed_there}
 use Rattle.desk_core.proofs.SoloRuns.{own_grown, own_over, own_rises, own_state_grown, own_tell}
 use Rattle.desk_core.proofs.Told.{told_is}
 use Rattle.desk_core.proofs.solo_runs.tell.Goals as goal
 
-pub needed_by-requires-clause-keys : goal.needed_by-requires-clause-keys
-needed_by-requires-clause-keys g c =
+pub all-requires : goal.all-requires
+all-requires g c =
     let design = c.args.present.now.design.design in
     let script = c.args.present.now.script in
     let table = c.in_ok-table.table.modules.now in
     let same : table ≡ design.modules = c.in_ok-table.ensures.value ∙ ap (λ (d : Design). d.modules) c.design.ensures.value in
-    subst (λ (found : List (Option Built)). TellKeys design table script found) (sym c.as_slice.ensures.value) (own_tell design script c.args.results.now table same c.requires.own)
+    record {
+      keys = subst (λ (found : List (Option Built)). TellKeys design table script found) (sym c.as_slice.ensures.value) (own_tell design script c.args.results.now table same c.requires.own);
+    }
 
-pub needed_by-requires-clause-beside : goal.needed_by-requires-clause-beside
-needed_by-requires-clause-beside g c = c.requires.own.aged.beside
+pub needed_by-requires : goal.needed_by-requires
+needed_by-requires g c = record { beside = c.requires.own.aged.beside }
+
+pub find_own-requires-clause-keys : goal.find_own-requires-clause-keys
+find_own-requires-clause-keys g c =
+    subst (λ (all : List KeyParts). AreKeys c.args.present.now.design.design c.in_ok-table.table.modules.now c.args.present.now.script all) (sym c.as_slice-3.ensures.value) c.in_ok-all.ensures.exact
 
 pub find_own-requires-clause-own : goal.find_own-requires-clause-own
 find_own-requires-clause-own g c =
@@ -58,17 +67,26 @@ returns-clause-ticks g c = own_rises c.args.present.now.design.design c.args.pre
 
 pub tell_found-requires : goal.tell_found-requires
 tell_found-requires g c =
-    record { few = built_few c.args.present.now.design.design c.args.present.now.script (texts_of (kept_in c.needed_by.new.ages.keys c.needed_by.new.ages.ages.items)) c.in_ok-needed.needed.built c.in_ok-needed.ensures.needed.built }
+    let needs =
+    needed_there c.args.present.now.design.design c.in_ok-table.table.modules.now c.args.present.now.script c.in_ok-all.all.items c.as_slice-2.result.now c.needed_by.new.ages c.in_ok-needed.needed c.as_slice-2.ensures.value c.in_ok-all.ensures.exact c.in_ok-needed.ensures.needed in
+    record { few = built_few c.args.present.now.design.design c.args.present.now.script (texts_of (kept_in c.needed_by.new.ages.keys c.needed_by.new.ages.ages.items)) c.in_ok-needed.needed.built needs.built }
+
+pub returns-clause-needed : goal.returns-clause-needed
+returns-clause-needed g c =
+    subst (λ (ages : Ages). IsNeeded (key_texts c.args.present.now.script c.args.present.now.design.design.modules) ages c.in_ok-needed.needed) (sym c.find_own.ensures.ages)
+    (needed_there c.args.present.now.design.design c.in_ok-table.table.modules.now c.args.present.now.script c.in_ok-all.all.items c.as_slice-2.result.now c.needed_by.new.ages c.in_ok-needed.needed c.as_slice-2.ensures.value c.in_ok-all.ensures.exact c.in_ok-needed.ensures.needed)
 
 pub returns-clause-told : goal.returns-clause-told
 returns-clause-told g c =
+    let needs =
+    needed_there c.args.present.now.design.design c.in_ok-table.table.modules.now c.args.present.now.script c.in_ok-all.all.items c.as_slice-2.result.now c.needed_by.new.ages c.in_ok-needed.needed c.as_slice-2.ensures.value c.in_ok-all.ensures.exact c.in_ok-needed.ensures.needed in
     let design = c.args.present.now.design.design in
     let script = c.args.present.now.script in
     let s = own_state design script c.args.results.now in
     let texts = key_texts script design.modules in
     let built = c.in_ok-needed.needed.built in
     let words = counted (codes "built") built ++ counted (codes "reused") (length design.modules - built) in
-    let over = over_of design.modules c.as_slice-2.result.now in
-    let count : built ≡ built_count s = c.in_ok-needed.ensures.needed.built ∙ ap (λ (kept : List KeptKey). new_count (texts_of kept) texts) c.needed_by.ensures.kept in
+    let over = over_of design.modules c.as_slice-4.result.now in
+    let count : built ≡ built_count s = needs.built ∙ ap (λ (kept : List KeptKey). new_count (texts_of kept) texts) c.needed_by.ensures.kept in
     told_is s words over built (Ok c.in_ok-told.told) c.in_ok-told.ensures.value refl count
-    (own_over design script c.find_own.new.results over c.find_own.ensures.own c.in_ok-find_own.ensures.found (ap (over_of design.modules) c.as_slice-2.ensures.value))
+    (own_over design script c.find_own.new.results over c.find_own.ensures.own c.in_ok-find_own.ensures.found (ap (over_of design.modules) c.as_slice-4.ensures.value))

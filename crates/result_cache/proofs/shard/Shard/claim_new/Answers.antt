@@ -7,13 +7,13 @@ use Rattle.result_cache.proofs.shard.Shard.claim_new.Goals as goal
 
 pub invariant_of-self-2 : goal.invariant_of-self-2
 invariant_of-self-2 g c =
-    let new = new_at c.self.invariant c.self.view_is c.requires.absent c.in_ok-id.ensures.names c.in_ok-id.ensures.number c.as_slice.ensures.value in
+    let new = new_at c.self.invariant c.self.view_is c.requires.absent c.in_ok-id.ensures.names c.in_ok-id.ensures.number in
     rw (new.keys_are, c.push_reserved.ensures.items, c.in_ok-reserve.ensures.items, c.push_reserved-2.ensures.items, c.in_ok-make_room.ensures.items, new.place_is)
     (sound_claimed c.args.seat (vec_capacity c.push_reserved-2.new.self) c.self.invariant new.absent (let r = c.in_ok-make_room.ensures.room in let p = c.push_reserved-2.ensures.capacity in omega arith))
 
 pub returns-clause-ok : goal.returns-clause-ok
 returns-clause-ok g c =
-    let new = new_at c.self.invariant c.self.view_is c.requires.absent c.in_ok-id.ensures.names c.in_ok-id.ensures.number c.as_slice.ensures.value in (
+    let new = new_at c.self.invariant c.self.view_is c.requires.absent c.in_ok-id.ensures.names c.in_ok-id.ensures.number in (
       mode_absent c.self.invariant c.self.view_is new.absent,
       refl,
       c.in_ok-own.ensures.value,
@@ -22,6 +22,6 @@ returns-clause-ok g c =
 
 pub returns-clause-values : goal.returns-clause-values
 returns-clause-values g c = λ q.
-    let new = new_at c.self.invariant c.self.view_is c.requires.absent c.in_ok-id.ensures.names c.in_ok-id.ensures.number c.as_slice.ensures.value in
+    let new = new_at c.self.invariant c.self.view_is c.requires.absent c.in_ok-id.ensures.names c.in_ok-id.ensures.number in
     let kept_are : c.push_reserved.new.self.items ≡ c.self.inside.kept.items ++ Held c.args.seat ∷ [] = rw (c.push_reserved.ensures.items, c.in_ok-reserve.ensures.items) refl in
     (λ j. look_up None value_of (new.keys_are j) (kept_are j) q) ∙ values_claimed c.args.seat c.self.invariant c.self.view_is new.absent q
