@@ -12,9 +12,9 @@ ghost use Rattle.build_crew.specs.Leaves.{AreCrew, RunLeaves, StoppedLeaves};
 use result_cache::Keyed;
 
 /// All seats of a cache, which shared one history of each shard, did jobs that each find the value of the key of its
-/// number, by any number of workers in any order, and then met. Where all jobs were done, each key that was not kept was
-/// built once and no other was, and each key was claimed as often as it was asked for; without memory no more was built
-/// than was not kept or was given back. The seats are then all seats of the cache still.
+/// number, by any number of workers in any order, and then met. Where all jobs were done, each key that was not kept
+/// was built once and no other was, and each key was claimed as often as it was asked for; without memory no more was
+/// built than was not kept or was given back. The seats are then all seats of the cache still.
 pub fn crews_build_once<O>()
     ensures run { (key_of : ℕ → List ℕ) (new_of : O → Bool) (cache : TableId) (shards count : ℕ)
         (olds mids news : List Seated) (old now : ℕ) → AreCrew cache shards olds mids news →
@@ -35,8 +35,8 @@ pub fn crews_build_once<O>()
 {}
 
 /// The first of all seats of a cache, which shared one history of each shard, was to give up the values of these keys,
-/// one after another, and then all met: the keys that are kept are those that were, without these, whatever the seat was
-/// answered. The seats are all seats of the cache still; they claimed no key more, and gave no ticket back.
+/// one after another, and then all met: the keys that are kept are those that were, without these, whatever the seat
+/// was answered. The seats are all seats of the cache still; they claimed no key more, and gave no ticket back.
 pub fn values_are_given_up<V: Keyed>()
     ensures left { (cache : TableId) (shards : ℕ) (gone : List (List ℕ)) (first mid : Seated)
         (others news : List Seated) →

@@ -117,7 +117,8 @@ fn connect_port(
     ensures ok { OnOk result (links.new ≡ links.old ++
         role_links port.now.wire.now.role pin.now (whole (first + port.now.place) port.now.wire.now.width)) }
 {
-    let wire = copied_wire(alloc, first, port)?;
+    let place = copied_place(first, port)?;
+    let wire = whole(alloc, place, port.wire.width)?;
     let pin = SigSpec::from_slice(alloc, pin)?;
     match port.wire.role {
         Role::Input => links.push(Link {
@@ -132,11 +133,10 @@ fn connect_port(
     }
 }
 
-/// The whole copied wire of a port. More than 2^32 wires are taken for want of memory.
-fn copied_wire(alloc: Global, first: u32, port: &Port) -> Result<SigSpec, Memory>
-    ensures value { IfOk result (λ signal. signal ≡ whole (first + port.now.place) port.now.wire.now.width) }
+/// The place of the copied wire of a port. More than 2^32 wires are taken for want of memory.
+fn copied_place(first: u32, port: &Port) -> Result<u32, Memory>
+    ensures value { IfOk result (λ place. place ≡ first + port.now.place) }
 {
     let place = u32::try_from(port.place).ok().ok_or(Memory)?;
-    let wire = first.checked_add(place).ok_or(Memory)?;
-    whole(alloc, wire, port.wire.width)
+    first.checked_add(place).ok_or(Memory)
 }

@@ -50,7 +50,8 @@ pub fn recode(
     ensures exact { IfOk result (λ after. after ≡ recoded_of «module» machine.now) }
     ensures over { result ≡ Err PassFault.Over → PassesLimit (recoding «module» machine.now) }
     ensures within { OnOk result (IsInLimits (recoding «module» machine.now)) }
-    ensures refines { IfOk result (λ after. IsMachineOf ports.now «module» machine.now → RefinesIn «module» after ports.now) }
+    ensures refines { IfOk result (λ after. IsMachineOf ports.now «module» machine.now →
+        RefinesIn «module» after ports.now) }
     ensures well_driven { IfOk result (λ after. (over : Ports) → IsMachineOf ports.now «module» machine.now →
         IsWellDriven over «module» → IsWellDriven over after) }
     ensures well_formed { IfOk result (λ after. IsMachineOf ports.now «module» machine.now →

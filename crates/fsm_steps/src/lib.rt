@@ -17,8 +17,8 @@ use rtl_ir::{Module, PortTable};
 use std::alloc::Global;
 
 /// The module in which each machine has its code. The wires that there were before are asked in their order, each of
-/// the module that the one before it left. `Over` comes where one of the modules with the fresh wires of a machine would
-/// pass a limit on cells, on bits of wires or on fresh names. In the Yosys manual, the command `fsm`.
+/// the module that the one before it left. `Over` comes where one of the modules with the fresh wires of a machine
+/// would pass a limit on cells, on bits of wires or on fresh names. In the Yosys manual, the command `fsm`.
 pub fn apply(alloc: Global, module: Module, ports: &PortTable) -> Result<Module, PassFault>
     requires ready { IsReady (table_ports ports.now.modules) «module» }
     ensures exact { IfOk result (λ after. fsm_within (table_ports ports.now.modules) «module» ≡ Some after) }

@@ -6,7 +6,7 @@ ghost use Rattle.rtl_ir.specs.declared.wire.Wire.{Wire};
 ghost use Rattle.rtl_ir.specs.Flat.Cell.{cell_shape};
 ghost use Rattle.rtl_ir.specs.Flat.Start.{start_of};
 ghost use Rattle.rtl_ir.specs.Follow.{follow};
-ghost use Rattle.rtl_ir.specs.Starts.{inits_of};
+ghost use Rattle.rtl_ir.specs.Starts.{AreInits};
 ghost use Rattle.net_alias.specs.Aliases.{IsAliases};
 ghost use Rattle.opt_merge.specs.Traits.{bit_number, inputs_of, level_number, output_of, plain_numbers, shape_numbers};
 ghost use Rattle.opt_merge.specs.Traits.{starts_of, traits_of};
@@ -196,7 +196,7 @@ fn push_starts(
     kind: CellKind,
     cell: &Cell,
 ) -> Result<(), Memory>
-    ensures ok { OnOk result ((wires : List Wire) → inits.now ≡ inits_of wires →
+    ensures ok { OnOk result ((wires : List Wire) → AreInits inits.now wires →
         row.new.items ≡ row.old.items ++ bits_numbers (starts_of (start_of wires []) kind cell.now)) }
 {
     match kind {
@@ -214,7 +214,7 @@ fn push_starts(
 
 /// The start values of these bits, behind their number.
 fn push_start_bits(row: &mut Vec<u32>, inits: &[Bits], signal: &[SigBit]) -> Result<(), Memory>
-    ensures ok { OnOk result ((wires : List Wire) → inits.now ≡ inits_of wires →
+    ensures ok { OnOk result ((wires : List Wire) → AreInits inits.now wires →
         row.new.items ≡ row.old.items ++ bits_numbers (map (start_of wires []) signal.now)) }
 {
     push_count(row, signal.len())?;

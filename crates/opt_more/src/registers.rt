@@ -31,7 +31,7 @@ ghost use Rattle.opt_more.specs.Dff.{
   without_enable,
 };
 ghost use Rattle.opt_more.specs.Registers.{visit_of};
-ghost use Rattle.rtl_ir.specs.Starts.{inits_of};
+ghost use Rattle.rtl_ir.specs.Starts.{AreInits};
 
 use crate::kinds::{has_reset, register_of};
 use cell_gate::{active, reset_at, storage_kind};
@@ -66,7 +66,7 @@ pub(crate) fn registered(
     cell: Cell,
 ) -> Result<Visited, Memory>
     ensures value { IfOk result (λ visited. (ports : rtl.Ports) (wires : List Wire) (links : List Link) →
-        AreTypes types.now ports → inits.now ≡ inits_of wires → IsAliases aliases.old links →
+        AreTypes types.now ports → AreInits inits.now wires → IsAliases aliases.old links →
         visit_of visited ≡ registered wires (register_of cell) cell (followed_cell ports links cell)) }
     ensures keeps { (links : List Link) → IsAliases aliases.old links → IsAliases aliases.new links }
 {
@@ -85,7 +85,7 @@ fn register_visit(
     kind: CellKind,
     cell: Cell,
 ) -> Result<Visited, Memory>
-    ensures value { IfOk result (λ visited. (wires : List Wire) → inits.now ≡ inits_of wires →
+    ensures value { IfOk result (λ visited. (wires : List Wire) → AreInits inits.now wires →
         visit_of visited ≡ register_visit (settled_of wires kind cell) kind cell) }
 {
     let shape = fitting_shape(alloc, kind, &cell)?;
@@ -152,7 +152,7 @@ fn settled_of(
     enable: Bit,
     pins: &[Pin],
 ) -> Result<Option<SigSpec>, Memory>
-    ensures value { IfOk result (λ values. (wires : List Wire) (c : Cell) → inits.now ≡ inits_of wires →
+    ensures value { IfOk result (λ values. (wires : List Wire) (c : Cell) → AreInits inits.now wires →
         shape.now ≡ cell_shape kind c.params → enable ≡ enabled_of kind c → pins.now ≡ c.pins →
         values ≡ option_map (λ bits. map Fixed bits) (settled_of wires kind c)) }
 {
@@ -176,7 +176,7 @@ fn settled_bit(
     pins: &[Pin],
     at: usize,
 ) -> Option<Bit>
-    ensures value { (wires : List Wire) (c : Cell) → inits.now ≡ inits_of wires →
+    ensures value { (wires : List Wire) (c : Cell) → AreInits inits.now wires →
         shape.now ≡ cell_shape kind c.params → enable ≡ enabled_of kind c → pins.now ≡ c.pins →
         result ≡ settled_bit wires kind c at }
 {

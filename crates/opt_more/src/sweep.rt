@@ -10,7 +10,7 @@ ghost use Rattle.net_alias.specs.Aliases.{IsAliases};
 ghost use Rattle.opt_expr.specs.Places.{ArePlaces};
 ghost use Rattle.opt_more.specs.Sweep.{swept_by, swept_of};
 ghost use Rattle.opt_more.specs.Registers.{visit_of};
-ghost use Rattle.rtl_ir.specs.Starts.{inits_of};
+ghost use Rattle.rtl_ir.specs.Starts.{AreInits};
 ghost use Rattle.opt_more.specs.Visits.{visit_by};
 
 use crate::folds::reduced;
@@ -85,7 +85,7 @@ fn sweep_cells(
 ) -> Result<Swept, Memory>
     requires aliases { IsAliases aliases links }
     ensures swept { IfOk result (λ after. (ports : rtl.Ports) (wires : List Wire) → AreTypes by.now.types.now ports →
-        by.now.inits.now ≡ inits_of wires → record { cells = after.slots.items; links = after.links } ≡
+        AreInits by.now.inits.now wires → record { cells = after.slots.items; links = after.links } ≡
         swept_by (visit_by by.now.pass ports wires cells.items) [] cells.items links) }
 {
     let places = places_of(alloc, cells.as_slice())?;
@@ -107,7 +107,7 @@ fn visit_all(
     requires places { ArePlaces places.now cells.items }
     requires aliases { IsAliases aliases.old links.old }
     ensures swept { IfOk result (λ slots. (ports : rtl.Ports) (wires : List Wire) → AreTypes by.now.types.now ports →
-        by.now.inits.now ≡ inits_of wires → record { cells = slots.items; links = links.new } ≡
+        AreInits by.now.inits.now wires → record { cells = slots.items; links = links.new } ≡
         swept_by (visit_by by.now.pass ports wires cells.items) [] cells.items links.old) }
 {
     let mut done = Vec::with_capacity(alloc, cells.len())?;
@@ -134,12 +134,12 @@ fn visit(
     links: &mut Seq<Link>,
 ) -> Result<Option<Cell>, Memory>
     ensures cell { IfOk result (λ slot. (ports : rtl.Ports) (wires : List Wire) (cells : List Cell) →
-        AreTypes by.now.types.now ports → by.now.inits.now ≡ inits_of wires →
+        AreTypes by.now.types.now ports → AreInits by.now.inits.now wires →
         ArePlaces others.now.places.now cells → IsAliases aliases.old links.old →
         slot ≡ (visit_by by.now.pass ports wires cells others.now.done.now others.now.rest.now.items
         links.old cell).cell) }
     ensures links { OnOk result ((ports : rtl.Ports) (wires : List Wire) (cells : List Cell) →
-        AreTypes by.now.types.now ports → by.now.inits.now ≡ inits_of wires →
+        AreTypes by.now.types.now ports → AreInits by.now.inits.now wires →
         ArePlaces others.now.places.now cells → IsAliases aliases.old links.old →
         links.new ≡ links.old ++ (visit_by by.now.pass ports wires cells others.now.done.now others.now.rest.now.items
         links.old cell).links) }

@@ -5,7 +5,7 @@ ghost use Rattle.rtl_bits.specs.declared.bit.Bit.TheVariants.{X};
 ghost use Rattle.rtl_ir.specs.declared.wire.Wire.{Wire};
 ghost use Rattle.rtl_ir.specs.Flat.Start.{start_of};
 ghost use Rattle.rtl_ir.specs.Attributes.{attribute_bits};
-ghost use Rattle.rtl_ir.specs.Starts.{inits_of};
+ghost use Rattle.rtl_ir.specs.Starts.{AreInits, inits_of};
 
 use crate::attributes::attribute_bits;
 use crate::wire::Wire;
@@ -26,7 +26,7 @@ pub fn inits(alloc: Global, wires: &[Wire]) -> Result<Vec<Bits>, Memory>
 
 /// The start value of a bit, where no process gives one.
 pub fn start(inits: &[Bits], bit: SigBit) -> Bit
-    ensures value { (wires : List Wire) → inits.now ≡ inits_of wires → result ≡ start_of wires [] bit }
+    ensures value { (wires : List Wire) → AreInits inits.now wires → result ≡ start_of wires [] bit }
 {
     match bit {
         SigBit::Fixed(_) => Bit::X,

@@ -1,9 +1,8 @@
 //! The ports of the modules that a module instantiates.
 
-ghost use Rattle.std.specs.Prelude.{◌≡◌, ◌<◌, IfOk, List, length, map, filter, option_map};
+ghost use Rattle.std.specs.Prelude.{◌≡◌, ◌<◌, IfOk, length, map, filter};
 ghost use Rattle.std.specs.BTreeMap.{values};
-ghost use Rattle.rtl_ir.specs.declared.module.Module.{Module};
-ghost use Rattle.rtl_ir.specs.ModuleTables.{AreByName, instance_of};
+ghost use Rattle.rtl_ir.specs.ModuleTables.{AreByName};
 ghost use Rattle.rtl_ir.specs.Ports.{is_port, is_library_cell, ports_of, in_number_order, instances_of, port_table_of};
 
 use crate::cell::Cell;
@@ -24,7 +23,8 @@ pub struct DesignPorts<'a> {
 }
 
 impl<'a> DesignPorts<'a> {
-    ghost use Rattle.std.specs.Prelude.{◌≡◌, ◌<◌, IfOk, length};
+    ghost use Rattle.std.specs.Prelude.{◌≡◌, ◌<◌, IfOk, length, option_map};
+    ghost use Rattle.rtl_ir.specs.ModuleTables.{instance_of};
     ghost use Rattle.rtl_ir.specs.Ports.{port_table_of};
 
     /// The modules of this design. Of two modules of one name the first counts.
@@ -49,7 +49,7 @@ impl<'a> DesignPorts<'a> {
     {
         let cells = self.modules[at as usize].cells.as_slice();
         let mut tables = Vec::new(alloc);
-        for instance in instances(alloc, &self.by_name, cells)?.as_slice() {
+        for instance in instances(alloc, self, cells)?.as_slice() {
             tables.push(ModulePorts {
                 id: instance.id.copy()?,
                 ports: ports(alloc, instance.wires.as_slice())?,
@@ -58,6 +58,18 @@ impl<'a> DesignPorts<'a> {
         Ok(PortTable {
             modules: Seq::from_vec(tables),
         })
+    }
+
+    /// The module that a cell of this type is an instance of, none of a cell of the library.
+    pub fn instance_of(&self, name: &[u8]) -> Option<&'a Module>
+        ensures value { option_map (λ m. m.now) result ≡ instance_of self.now.modules.now name.now }
+    {
+        let module = self.by_name.get(name)?;
+        if is_library_cell(name) {
+            None
+        } else {
+            Some(*module)
+        }
     }
 }
 
@@ -131,32 +143,19 @@ pub fn is_port(role: Role) -> bool
 /// The modules that the cells are instances of, in order of their names.
 fn instances<'a>(
     alloc: Global,
-    by_name: &HashMap<&'a [u8], &'a Module>,
+    design: &DesignPorts<'a>,
     cells: &[Cell],
 ) -> Result<Vec<&'a Module>, Memory>
-    ensures value { (modules : List Module) → AreByName by_name.now modules →
-        IfOk result (λ found. map (λ m. m.now) found.items ≡ instances_of modules cells.now) }
+    ensures value { IfOk result (λ found.
+        map (λ m. m.now) found.items ≡ instances_of design.now.modules.now cells.now) }
 {
     let mut found = BTreeMap::new(alloc);
     for cell in cells {
-        if let Some(module) = instance_of(by_name, cell.kind_name.as_slice()) {
+        if let Some(module) = design.instance_of(cell.kind_name.as_slice()) {
             found.insert(module.id.as_slice(), module)?;
         }
     }
     values_of(alloc, &found)
-}
-
-/// The module that a cell of this type is an instance of, none of a cell of the library.
-fn instance_of<'a>(by_name: &HashMap<&'a [u8], &'a Module>, name: &[u8]) -> Option<&'a Module>
-    ensures value { (modules : List Module) → AreByName by_name.now modules →
-        option_map (λ m. m.now) result ≡ instance_of modules name.now }
-{
-    let module = by_name.get(name)?;
-    if is_library_cell(name) {
-        None
-    } else {
-        Some(*module)
-    }
 }
 
 /// Whether a cell of the library has the name.

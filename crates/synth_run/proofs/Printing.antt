@@ -33,7 +33,7 @@ synthesis s g e =
     record {
       faultless = g.faultless;
       run = run;
-      again = λ short bytes. reads_design n (cold_reads s.design g.readable short g.faultless s.script stage bytes n run);
+      again = λ short. reads_design n (cold_reads s.design g.readable short g.faultless s.script stage n run);
       one_driver = cold_driven s.design g.readable g.faultless s.script stage n run;
       no_faults = cold_faultless s.design g.readable g.faultless s.script stage n run;
       accepted = λ all. cold_accepted s.design g.readable g.faultless s.script stage n run all;

@@ -11,8 +11,7 @@ use Rattle.net_model.specs.Refine.{HasOneDriver, Refines}
 use Rattle.script_core.specs.declared.word.Word.{Word}
 use Rattle.script_core.specs.Cold.{IsNetlist, cold}
 use Rattle.script_core.specs.Mapping.{maps_all}
-use Rattle.script_core.specs.Words.{flattens}
-use Rattle.readable_runs.specs.Short.{HasByteInstances, HasShortMemories}
+use Rattle.readable_runs.specs.Short.{HasShortMemories}
 use Rattle.desk_read.specs.declared.command.Command.{Command}
 use Rattle.desk_read.specs.declared.command.Command.TheVariants.{Print}
 use Rattle.reply_lines.specs.declared.reply.Reply.{Reply}
@@ -25,11 +24,11 @@ use Rattle.synth_run.specs.Session.{Turn}
 -- of recursion: none at all where `memory` stands before the last `techmap` of the script, and only words of `opt` after that,
 -- and else none as far as the clocks of the write ports of a memory are not compared; it refines the design; its cells are gates
 -- and instances of its modules alone, where the script is such a one; and it is what its text reads as, where no line of a
--- process writes a memory of a longer name than a constant holds, and where the script flattens the names of instances are of bytes
+-- process writes a memory of a longer name than a constant holds
 pub record IsSynthesis (script : List Word) (design netlist : Design) : Type 0 where
   pub faultless : check_faults design.modules ≡ []
   pub run : IsNetlist (cold script design) netlist
-  pub again : HasShortMemories design → (flattens script ≡ true → HasByteInstances design) → Reads (text_of netlist) netlist
+  pub again : HasShortMemories design → Reads (text_of netlist) netlist
   pub one_driver : HasOneDriver netlist
   pub no_faults : faults_within without_processes netlist.modules ≡ []
   pub accepted : maps_all script ≡ true → check_faults netlist.modules ≡ []

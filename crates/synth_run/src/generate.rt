@@ -65,7 +65,8 @@ pub(crate) fn generate<R: Threads + Wait + Sync, K: Sink, G: Gate, L: Send>(
     requires some { 1 ≤ plan.workers }
     requires few { plan.workers ≤ 64 }
     requires modules { count ≤ 4096 }
-    ensures ok { IfOk result (λ error. Appends (K.held sink.old) (K.held sink.new) (generated_said plan.script count).text
+    ensures ok { IfOk result (λ error.
+        Appends (K.held sink.old) (K.held sink.new) (generated_said plan.script count).text
         × ((generated_said plan.script count).error ≡ error)) }
     ensures begun { OnErr result
         ((n : ℕ) × Appends (K.held sink.old) (K.held sink.new) (take n (generated_said plan.script count).text)) }

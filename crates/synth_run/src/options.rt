@@ -154,7 +154,8 @@ impl<'a> Given<'a> {
 
     /// With the option that the words begin with, and the words after it.
     fn with_first(self, word: &'a str, more: &'a [String]) -> Option<(Given<'a>, &'a [String])>
-        ensures value { MatchOption result (given_from (given_as self.entry) (word.now ∷ map string_bytes more.now) ≡ None)
+        ensures value { MatchOption result
+            (given_from (given_as self.entry) (word.now ∷ map string_bytes more.now) ≡ None)
             (λ (next, rest). given_from (given_as self.entry) (word.now ∷ map string_bytes more.now) ≡
             given_from (given_as next) (map string_bytes rest.now)) }
         ensures less { IfSome result (λ (next, rest). length rest.now ≤ length more.now) }

@@ -38,9 +38,9 @@ pub enum Status {
     Usage,
     /// The source failed.
     ReadFault,
-    /// The sink failed; a front of the reply was written.
+    /// The sink failed; a prefix of the reply was written.
     WriteFault,
-    /// There was no memory; a front of the reply was written.
+    /// There was no memory; a prefix of the reply was written.
     Memory,
 }
 
@@ -117,8 +117,8 @@ fn converse<R: Threads + Wait + Sync, S: Source, K: Sink, G: Gate, L: Send>(
 /// reply is written in pieces of 4,096 bytes, of which the last may be shorter. In a session each command is answered
 /// when its last line has come, before more is read; with several desks all is read before any command is answered.
 /// Where a design is made, nothing is read. Each build of a module is a step of the meter. The workers run in threads,
-/// as many as the words say, and a worker calls the gate before and after the job of each module, or, with several desks,
-/// of each desk.
+/// as many as the words say, and a worker calls the gate before and after the job of each module, or, with several
+/// desks, of each desk.
 pub fn run<R: Threads + Wait + Sync, S: Source, K: Sink, G: Gate, L: Send>(
     rt: &R,
     alloc: Global,
@@ -147,14 +147,15 @@ pub fn run<R: Threads + Wait + Sync, S: Source, K: Sink, G: Gate, L: Send>(
     ensures unread { IfSome (plan_of (map string_bytes words.now)) (λ plan.
         (count : ℕ) → plan.mode ≡ Mode.Generate count → source.new ≡ source.old) }
 
-    // Whatever the answer, what was written is a front of the reply.
+    // Whatever the answer, what was written is a prefix of the reply.
     ensures begun { IfSome (plan_of (map string_bytes words.now)) (λ plan.
         HasBegun plan.mode plan.script (S.left source.old) (K.held sink.old) (K.held sink.new)) }
     // In a session of one desk, just the commands were answered whose last line was taken with its LF; else nothing was
     // written.
     ensures read_fault { result ≡ Status.ReadFault → HasRisen (S.faults source.old) (S.faults source.new)
         × IfSome (plan_of (map string_bytes words.now)) (λ plan.
-        HasAnsweredTaken plan.mode plan.script (S.left source.old) (S.left source.new) (K.held sink.old) (K.held sink.new)) }
+        HasAnsweredTaken plan.mode plan.script (S.left source.old) (S.left source.new)
+        (K.held sink.old) (K.held sink.new)) }
     ensures write_fault { result ≡ Status.WriteFault → HasRisen (K.faults sink.old) (K.faults sink.new) }
     // Where memory is wanting, nothing was written, but in a session.
     ensures memory { result ≡ Status.Memory → IfSome (plan_of (map string_bytes words.now)) (λ plan.
@@ -170,10 +171,11 @@ pub fn run<R: Threads + Wait + Sync, S: Source, K: Sink, G: Gate, L: Send>(
 
     // Each netlist that is written, or whose cells are counted, is what the script makes of the design that was present
     // then. No known output bit of any module is lost in it, whatever the stimulus, and its text reads as it.
-    ensures refines { IfSome (plan_of (map string_bytes words.now)) (λ plan. OfInput plan.mode (S.left source.old) (λ input.
+    ensures refines { IfSome (plan_of (map string_bytes words.now)) (λ plan.
+        OfInput plan.mode (S.left source.old) (λ input.
         HasRefined plan.mode result plan.script input (K.held sink.old) (K.held sink.new))) }
-    // Where memory is not wanting, the meter rises by at most the number of different keys that the commands need and that
-    // are not kept.
+    // Where memory is not wanting, the meter rises by at most the number of different keys that the commands need and
+    // that are not kept.
     ensures builds { IfSome (plan_of (map string_bytes words.now)) (λ plan.
         HasCounted plan.mode result plan.script (S.left source.old) (S.left source.new) meter.old meter.new) }
     ensures idle { plan_of (map string_bytes words.now) ≡ None → meter.new ≡ meter.old }

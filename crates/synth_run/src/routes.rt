@@ -34,7 +34,7 @@ pub(crate) enum Tag {
 }
 
 /// The parts of an input so far, in their order, and for each desk the commands among them; the desk that the next
-/// command is for, the reader of commands, and the front of a line whose end has not come.
+/// command is for, the reader of commands, and the bytes of a line whose end has not come.
 #[derive(Drop)]
 pub(crate) struct Router {
     alloc: Global,

@@ -49,7 +49,7 @@ pub(crate) struct Speaker {
     refused: bool,
 }
 
-/// A session: the desk, the reader of its commands, and the front of a line whose end has not come.
+/// A session: the desk, the reader of its commands, and the bytes of a line whose end has not come.
 #[derive(Drop)]
 pub(crate) struct Session {
     speaker: Speaker,
@@ -143,9 +143,10 @@ impl Session {
         sink: &mut K,
         meter: &mut Steps<L>,
     ) -> Result<bool, Stop>
-        ensures ok { IfOk result (λ ended. (turns : List Turn) × TakesLines self.old.reader (line.now ∷
-            []) turns self.new.reader
-            × Speaks self.old.speaker self.new.speaker ended turns (K.held sink.old) (K.held sink.new) meter.old meter.new) }
+        ensures ok { IfOk result (λ ended.
+            (turns : List Turn) × TakesLines self.old.reader (line.now ∷ []) turns self.new.reader
+            × Speaks self.old.speaker self.new.speaker ended turns (K.held sink.old) (K.held sink.new)
+            meter.old meter.new) }
         ensures err { IfErr result (λ stop. (turns : List Turn) × BeginsLines self.old.reader (line.now ∷ []) turns
             × Breaks self.old.speaker.desk.state stop turns (K.held sink.old) (K.held sink.new) meter.old meter.new) }
         ensures line { self.new.line ≡ self.old.line }
@@ -168,7 +169,8 @@ impl Session {
     ) -> Result<bool, Stop>
         ensures ok { IfOk result (λ ended.
             (turns : List Turn) × TakesLines self.old.reader (read_lines (self.old.line ∷ [])) turns self.new.reader
-            × Speaks self.old.speaker self.new.speaker ended turns (K.held sink.old) (K.held sink.new) meter.old meter.new) }
+            × Speaks self.old.speaker self.new.speaker ended turns (K.held sink.old) (K.held sink.new)
+            meter.old meter.new) }
         ensures err { IfErr result (λ stop.
             (turns : List Turn) × BeginsLines self.old.reader (read_lines (self.old.line ∷ [])) turns
             × Breaks self.old.speaker.desk.state stop turns (K.held sink.old) (K.held sink.new) meter.old meter.new) }
@@ -202,11 +204,15 @@ impl Session {
         requires unended { is_unended self.old.line ≡ true }
         ensures unended { is_unended self.new.line ≡ true }
         ensures goes_on { result ≡ Ok false → (lines : List (List ℕ)) × (turns : List Turn)
-            × TakesBytes self.old.line bytes.now lines self.new.line × TakesLines self.old.reader (read_lines lines) turns self.new.reader
-            × Speaks self.old.speaker self.new.speaker false turns (K.held sink.old) (K.held sink.new) meter.old meter.new }
+            × TakesBytes self.old.line bytes.now lines self.new.line
+            × TakesLines self.old.reader (read_lines lines) turns self.new.reader
+            × Speaks self.old.speaker self.new.speaker false turns (K.held sink.old) (K.held sink.new)
+            meter.old meter.new }
         ensures ends { result ≡ Ok true → (lines : List (List ℕ)) × (turns : List Turn)
-            × BeginsBytes self.old.line bytes.now lines × TakesLines self.old.reader (read_lines lines) turns self.new.reader
-            × Speaks self.old.speaker self.new.speaker true turns (K.held sink.old) (K.held sink.new) meter.old meter.new }
+            × BeginsBytes self.old.line bytes.now lines
+            × TakesLines self.old.reader (read_lines lines) turns self.new.reader
+            × Speaks self.old.speaker self.new.speaker true turns (K.held sink.old) (K.held sink.new)
+            meter.old meter.new }
         ensures err { IfErr result (λ stop. (lines : List (List ℕ)) × (turns : List Turn)
             × BeginsBytes self.old.line bytes.now lines × BeginsLines self.old.reader (read_lines lines) turns
             × Breaks self.old.speaker.desk.state stop turns (K.held sink.old) (K.held sink.new) meter.old meter.new) }
@@ -240,7 +246,8 @@ impl Session {
     ) -> Result<bool, Stop>
         ensures ok { IfOk result (λ ended.
             (turns : List Turn) × TakesLines self.old.reader (last_line self.old.line) turns self.new.reader
-            × Speaks self.old.speaker self.new.speaker ended turns (K.held sink.old) (K.held sink.new) meter.old meter.new) }
+            × Speaks self.old.speaker self.new.speaker ended turns (K.held sink.old) (K.held sink.new)
+            meter.old meter.new) }
         ensures err { IfErr result (λ stop.
             (turns : List Turn) × BeginsLines self.old.reader (last_line self.old.line) turns
             × Breaks self.old.speaker.desk.state stop turns (K.held sink.old) (K.held sink.new) meter.old meter.new) }
@@ -300,7 +307,8 @@ impl Session {
     ) -> Result<bool, Stop>
         requires fresh { (self.speaker.refused ≡ false) × (self.reader ≡ None) × (self.line ≡ []) }
         requires some { 0 < length piece.old }
-        ensures ok { IfOk result (λ refused. Held self.speaker.desk.state refused (S.left source.old) (S.left source.new)
+        ensures ok { IfOk result (λ refused.
+            Held self.speaker.desk.state refused (S.left source.old) (S.left source.new)
             (K.held sink.old) (K.held sink.new) meter.old meter.new) }
         ensures err { IfErr result (λ stop. Broken self.speaker.desk.state stop (S.left source.old) (S.left source.new)
             (K.held sink.old) (K.held sink.new) meter.old meter.new) }

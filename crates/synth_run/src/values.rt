@@ -35,7 +35,8 @@ fn options_command<'a>(alloc: Global) -> Result<Command<'a>, AllocError>
 /// The options that the words give. Where the words follow the rule of options, only want of memory refuses.
 pub(crate) fn read_values<'a>(alloc: Global, words: &'a [String]) -> Result<Given<'a>, Error>
     requires meant { is_some (given_from nothing_given (map string_bytes words.now)) ≡ true }
-    ensures value { IfOk result (λ given. given_from nothing_given (map string_bytes words.now) ≡ Some (given_as given)) }
+    ensures value { IfOk result (λ given.
+        given_from nothing_given (map string_bytes words.now) ≡ Some (given_as given)) }
     ensures memory { IfErr result (λ error. kind_of error ≡ ErrorKind.OutOfMemory) }
 {
     let matches = options_command(alloc)?.try_get_matches_from(words)?;
