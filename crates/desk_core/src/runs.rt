@@ -111,7 +111,7 @@ pub fn printed(
     let text = netlist_text(alloc, modules, found)?;
     let mut words = words;
     put_counted(&mut words, b"bytes", text.as_slice().len())?;
-    text_reply(alloc, words.as_slice(), text.as_slice())
+    text_reply(alloc, words.as_slice(), text)
 }
 
 /// The reply to `print` by what was told.

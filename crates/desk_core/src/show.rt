@@ -28,7 +28,7 @@ impl Present {
         };
         let text = module_text(self.alloc, &modules[at])?;
         let words = counted(self.alloc, b"bytes", text.as_slice().len())?;
-        text_reply(self.alloc, words.as_slice(), text.as_slice())
+        text_reply(self.alloc, words.as_slice(), text)
     }
 
     /// The source of a module is run.

@@ -115,8 +115,8 @@ fn holds_by<R: Threads + Wait + Sync>(
     Ok(is_counted && told.text.as_slice() == *replies)
 }
 
-/// Whether the commands of a session are answered with these bytes, and so many builds are counted, by one worker and by
-/// four.
+/// Whether the commands of a session are answered with these bytes, and so many builds are counted, by one worker and
+/// by four.
 pub fn is_answered<R: Threads + Wait + Sync>(
     rt: &R,
     alloc: Global,

@@ -70,8 +70,8 @@ pub fn apply_owned(alloc: Global, module: Module, ports: &PortTable) -> Result<C
     })
 }
 
-/// The module with what is kept of its cells and connections, and whether that is the module itself. The tables by which
-/// it is found are freed at the end.
+/// The module with what is kept of its cells and connections, and whether that is the module itself. The tables by
+/// which it is found are freed at the end.
 fn kept_parts(alloc: Global, module: Module, ports: &PortTable) -> Result<Turned<Module>, Memory>
     requires ready { IsReady (table_ports ports.now.modules) «module» }
     ensures exact { IfOk result (λ kept. kept.value ≡

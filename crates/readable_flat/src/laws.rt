@@ -8,8 +8,8 @@ ghost use Rattle.flat_pass.specs.Flat.{flat_of};
 
 use rtl_ir::Module;
 
-/// The items of a module are such as a text can give after `flatten`, where they were, and those of the modules below it
-/// were. It is within the limits on cells and bits, where it was, and its processes stay.
+/// The items of a module are such as a text can give after `flatten`, where they were, and those of the modules below
+/// it were. It is within the limits on cells and bits, where it was, and its processes stay.
 pub fn flattened_modules_are_readable()
     ensures items { (below : List Module) (m n : Module) → HasReadableItems m → Each HasReadableItems below →
         flat_of below m ≡ Some n → HasReadableItems n }

@@ -72,13 +72,15 @@ pub fn ok_reply(text: Text) -> Reply
     }
 }
 
-/// The reply of a line with these words and of a text behind it.
-pub fn text_reply(alloc: Global, words: &[u8], text: &[u8]) -> Result<Reply, Memory>
-    ensures value { IfOk result (λ reply. reply ≡ ok_reply (ok_line words.now ++ text.now)) }
+/// The reply of a line with these words and of a text after it. A long text is not copied.
+pub fn text_reply(alloc: Global, words: &[u8], text: Text) -> Result<Reply, Memory>
+    ensures value { IfOk result (λ reply. reply ≡ ok_reply (ok_line words.now ++ text)) }
 {
-    let mut whole = ok_line(alloc, words)?;
-    whole.extend(text)?;
-    Ok(ok_reply(whole))
+    let line = ok_line(alloc, words)?;
+    let mut whole = text.into_vec()?;
+    whole.extend_from_slice(line.as_slice())?;
+    whole.rotate_right(line.as_slice().len());
+    Ok(ok_reply(Text::from_vec(whole)?))
 }
 
 /// The reply of a line with a word and a number.

@@ -175,11 +175,17 @@ fn whole(text: &Text) -> &Text
     text
 }
 
-/// The room for a text of the parts and the words: each length has at most 20 digits.
+/// The room for a part with its length before it.
+fn room_of(part: &[u8]) -> usize {
+    let digits = part.len().checked_ilog10().unwrap_or(0).saturating_add(1);
+    part.len().saturating_add(digits as usize).saturating_add(1)
+}
+
+/// The room for a text of the parts and the words.
 fn room_for(body: &[u8], ports: &[u8], below: &[u8], words: &[Word]) -> usize {
-    let parts = body.len().saturating_add(ports.len());
-    let rest = below.len().saturating_add(words.len());
-    parts.saturating_add(rest).saturating_add(3 * 21)
+    let parts = room_of(body).saturating_add(room_of(ports));
+    let rest = room_of(below).saturating_add(words.len());
+    parts.saturating_add(rest)
 }
 
 impl Key {

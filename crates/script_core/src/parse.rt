@@ -38,7 +38,8 @@ fn is_separator(byte: u8) -> bool
     matches!(byte, b' ' | b'\t' | b';')
 }
 
-/// Whether the word with this number, from 1, is the first and not `proc`, or `flatten` and not the second, or the 65th.
+/// Whether the word with this number, from 1, is the first and not `proc`, or `flatten` and not the second, or the
+/// 65th.
 fn is_misplaced(number: u32, spelling: &[u8]) -> bool
     ensures value { result ≡ is_misplaced number spelling.now }
 {

@@ -30,9 +30,9 @@ returns c =
     let text : c.in_ok-text.text ≡ module_text m = c.in_ok-text.ensures.exact in
     let words : c.as_slice-2.result.now ≡ counted (codes "bytes") (length (module_text m)) =
     c.as_slice-2.ensures.value ∙ c.in_ok-words.ensures.value ∙ ap (λ (t : List ℕ). counted (codes "bytes") (length t)) (c.as_slice.ensures.value ∙ text) in
-    let same : ok_reply (ok_line c.as_slice-2.result.now ++ c.as_slice-3.result.now) ≡ printed_reply [] (module_text m) =
-    ap (λ (w : List ℕ). ok_reply (ok_line w ++ c.as_slice-3.result.now)) words
-    ∙ ap (λ (t : List ℕ). ok_reply (ok_line (counted (codes "bytes") (length (module_text m))) ++ t)) (c.as_slice-3.ensures.value ∙ text) in
+    let same : ok_reply (ok_line c.as_slice-2.result.now ++ c.in_ok-text.text) ≡ printed_reply [] (module_text m) =
+    ap (λ (w : List ℕ). ok_reply (ok_line w ++ c.in_ok-text.text)) words
+    ∙ ap (λ (t : List ℕ). ok_reply (ok_line (counted (codes "bytes") (length (module_text m))) ++ t)) text in
     record {
       ok = λ kept. shown (state_with kept c.args.self.now) c.args.name.now c.in-Some.at m c.text_reply.result place own (told_same c.text_reply.result _ _ same c.text_reply.ensures.value);
     }
