@@ -60,4 +60,5 @@ def main():
     print('| in all | | %.2f s | | %.2f s | | %.1f %% | |' % (own, other, 100 * own / max(other, 0.001)))
 
 
-main()
+if __name__ == '__main__':
+    main()
