@@ -8,27 +8,25 @@ use crate::word::Word;
 use rtl_bits::{Copied, Memory, Seq};
 use std::alloc::Global;
 use std::marker::Model;
-use std::sync::Arc;
 
 /// The words of a script, in order: 1 to 64 words, of which the first is `proc`, and no other than the second is
-/// `flatten`. Copies share them. Contracts see the list.
+/// `flatten`. Contracts see the list.
 #[derive(Drop)]
 pub struct Script {
-    words: Arc<Seq<Word>, Global>,
+    words: Seq<Word>,
 }
 
 impl Model for Script {
     ghost use Rattle.std.specs.Prelude.{List};
-    ghost use Rattle.std.specs.Arc.{arc_value};
     ghost use Rattle.script_core.specs.declared.word.Word.{Word};
 
     ghost Value = { List Word };
 
     ghost use Rattle.script_core.specs.Words.{IsScript};
 
-    ghost view = { λ s. arc_value s.words };
+    ghost view = { λ s. s.words };
 
-    ghost invariant = { λ s. IsScript (arc_value s.words) };
+    ghost invariant = { λ s. IsScript s.words };
 }
 
 impl Script {
@@ -38,16 +36,15 @@ impl Script {
     {
         let mut words = Seq::make(alloc);
         words.push(Word::Proc)?;
-        Script::of_words(alloc, words)
+        Ok(Script { words })
     }
 
     /// The script of these words.
-    pub(crate) fn of_words(alloc: Global, words: Seq<Word>) -> Result<Script, Memory>
+    pub(crate) fn of_words(words: Seq<Word>) -> Script
         requires script { IsScript words }
-        ensures value { IfOk result (λ script. script ≡ words) }
+        ensures value { result ≡ words }
     {
-        let words = Arc::new(alloc, words)?;
-        Ok(Script { words })
+        Script { words }
     }
 
     /// Puts the word last. After an error the script is as before.
@@ -56,10 +53,7 @@ impl Script {
         ensures ok { OnOk result (self.new ≡ self.old ++ word ∷ []) }
         ensures err { OnErr result (self.new ≡ self.old) }
     {
-        let mut words = self.words.copy()?;
-        words.push(word)?;
-        self.words = Arc::new(words.allocator(), words)?;
-        Ok(())
+        self.words.push(word)
     }
 
     /// Whether the second word is `flatten`.
@@ -80,7 +74,7 @@ impl Script {
 
 impl Copied for Script {
     fn copy(&self) -> Result<Script, Memory> {
-        let words = Arc::try_clone(&self.words)?;
+        let words = self.words.copy()?;
         Ok(Script { words })
     }
 }
