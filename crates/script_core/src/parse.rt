@@ -86,5 +86,6 @@ pub fn parse_script(alloc: Global, text: &[u8]) -> Result<Script, ScriptFault>
     if words.as_slice().is_empty() {
         return Err(ScriptFault::Bad(1));
     }
-    Ok(Script::of_words(words))
+    let script = Script::of_words(alloc, words)?;
+    Ok(script)
 }

@@ -8,25 +8,27 @@ use crate::word::Word;
 use rtl_bits::{Copied, Memory, Seq};
 use std::alloc::Global;
 use std::marker::Model;
+use std::sync::Arc;
 
 /// The words of a script, in order: 1 to 64 words, of which the first is `proc`, and no other than the second is
-/// `flatten`. Contracts see the list.
+/// `flatten`. Copies share them. Contracts see the list.
 #[derive(Drop)]
 pub struct Script {
-    words: Seq<Word>,
+    words: Arc<Seq<Word>, Global>,
 }
 
 impl Model for Script {
     ghost use Rattle.std.specs.Prelude.{List};
+    ghost use Rattle.std.specs.Arc.{arc_value};
     ghost use Rattle.script_core.specs.declared.word.Word.{Word};
 
     ghost Value = { List Word };
 
     ghost use Rattle.script_core.specs.Words.{IsScript};
 
-    ghost view = { λ s. s.words };
+    ghost view = { λ s. arc_value s.words };
 
-    ghost invariant = { λ s. IsScript s.words };
+    ghost invariant = { λ s. IsScript (arc_value s.words) };
 }
 
 impl Script {
@@ -36,15 +38,16 @@ impl Script {
     {
         let mut words = Seq::make(alloc);
         words.push(Word::Proc)?;
-        Ok(Script { words })
+        Script::of_words(alloc, words)
     }
 
     /// The script of these words.
-    pub(crate) fn of_words(words: Seq<Word>) -> Script
+    pub(crate) fn of_words(alloc: Global, words: Seq<Word>) -> Result<Script, Memory>
         requires script { IsScript words }
-        ensures value { result ≡ words }
+        ensures value { IfOk result (λ script. script ≡ words) }
     {
-        Script { words }
+        let words = Arc::new(alloc, words)?;
+        Ok(Script { words })
     }
 
     /// Puts the word last. After an error the script is as before.
@@ -53,7 +56,10 @@ impl Script {
         ensures ok { OnOk result (self.new ≡ self.old ++ word ∷ []) }
         ensures err { OnErr result (self.new ≡ self.old) }
     {
-        self.words.push(word)
+        let mut words = self.words.copy()?;
+        words.push(word)?;
+        self.words = Arc::new(words.allocator(), words)?;
+        Ok(())
     }
 
     /// Whether the second word is `flatten`.
@@ -74,7 +80,7 @@ impl Script {
 
 impl Copied for Script {
     fn copy(&self) -> Result<Script, Memory> {
-        let words = self.words.copy()?;
+        let words = Arc::try_clone(&self.words)?;
         Ok(Script { words })
     }
 }
