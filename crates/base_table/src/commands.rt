@@ -4,21 +4,39 @@ use desk_read::{Command, CommandReader};
 use rtl_bits::Memory;
 use std::alloc::Global;
 
-/// The name of a command, and what it was given.
-fn parts(command: &Command) -> (&'static [u8], &[u8], &[u8]) {
+/// The name of a command.
+fn name_of(command: &Command) -> &'static str {
     match command {
-        Command::Load(text) => (b"load", text.as_slice(), b""),
-        Command::Edit(text) => (b"edit", text.as_slice(), b""),
-        Command::Remove(name) => (b"drop", name.as_slice(), b""),
-        Command::Script(text) => (b"script", text.as_slice(), b""),
-        Command::Run => (b"run", b"", b""),
-        Command::Print => (b"print", b"", b""),
-        Command::Show(name) => (b"show", name.as_slice(), b""),
-        Command::SimSource(ask) => (b"source", ask.module.as_slice(), ask.steps.as_slice()),
-        Command::SimNetlist(ask) => (b"netlist", ask.module.as_slice(), ask.steps.as_slice()),
-        Command::Quit => (b"quit", b"", b""),
-        Command::Bad => (b"bad", b"", b""),
-        Command::Unclosed => (b"unclosed", b"", b""),
+        Command::Load(_) => "load",
+        Command::Edit(_) => "edit",
+        Command::Remove(_) => "drop",
+        Command::Script(_) => "script",
+        Command::Run => "run",
+        Command::Print => "print",
+        Command::Show(_) => "show",
+        Command::SimSource(_) => "source",
+        Command::SimNetlist(_) => "netlist",
+        Command::Quit => "quit",
+        Command::Bad => "bad",
+        Command::Unclosed => "unclosed",
+    }
+}
+
+/// The first thing that a command was given, or nothing.
+fn first_of(command: &Command) -> &[u8] {
+    match command {
+        Command::Load(text) | Command::Edit(text) | Command::Script(text) => text.as_slice(),
+        Command::Remove(name) | Command::Show(name) => name.as_slice(),
+        Command::SimSource(ask) | Command::SimNetlist(ask) => ask.module.as_slice(),
+        _ => &[],
+    }
+}
+
+/// The steps that a command was given, or nothing.
+fn steps_of(command: &Command) -> &[u8] {
+    match command {
+        Command::SimSource(ask) | Command::SimNetlist(ask) => ask.steps.as_slice(),
+        _ => &[],
     }
 }
 
@@ -35,10 +53,9 @@ fn put_answer(shown: &mut Vec<u8>, answer: &Option<Command>) -> Result<(), Memor
         shown.extend_from_slice(b" -")?;
         return Ok(());
     };
-    let (name, first, second) = parts(command);
-    put_part(shown, b' ', name)?;
-    put_part(shown, b'(', first)?;
-    put_part(shown, b',', second)?;
+    put_part(shown, b' ', name_of(command).as_bytes())?;
+    put_part(shown, b'(', first_of(command))?;
+    put_part(shown, b',', steps_of(command))?;
     shown.push(b')')?;
     Ok(())
 }
