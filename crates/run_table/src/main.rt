@@ -1,10 +1,11 @@
-//! Goes through tables of calls of `run`: what is written, how calls end, and scripts.
+//! Goes through tables of calls of `run` and of the commands of a desk: what is written, how calls end, and scripts.
 #![tactic(auto)]
 
 mod calls;
 mod crews;
 mod cut;
 mod designs;
+mod desk_sessions;
 mod desks;
 mod devices;
 mod keys;
@@ -23,9 +24,18 @@ use std::thread::Threads;
 use table_rows::{LINES, TEXTS, Tally, report};
 
 /// The files whose fields are texts.
-const FILES: [&str; 10] = [
-    "texts", "designs", "widths", "calls", "counts", "accepted", "keys", "scripts", "sessions",
+const FILES: [&str; 11] = [
+    "texts",
+    "designs",
+    "widths",
+    "calls",
+    "counts",
+    "accepted",
+    "keys",
+    "scripts",
+    "sessions",
     "words",
+    "desk_sessions",
 ];
 
 /// Whether a row of the file of this name holds.
@@ -43,6 +53,7 @@ fn holds<R: Threads + Wait + Sync>(
         "scripts" => scripts::is_read(alloc, fields),
         "sessions" => sessions::is_answered(rt, alloc, fields),
         "words" => sessions::is_taken(rt, alloc, fields),
+        "desk_sessions" => desk_sessions::is_answered(rt, alloc, fields),
         _ => Ok(false),
     }
 }
