@@ -117,6 +117,21 @@ def coder(count):
     yield '    assign \\parity { %s }\n    sync always\n  end\nend\n' % ' '.join(reversed(last))
 
 
+def memory_ports(k, address, width, data, enable, read):
+    """The port that writes memory k and the one that reads it, with so many address bits."""
+    unknown = "%d'%s" % (width, 'x' * width)
+    yield ('  cell $memwr_v2 $w%d\n    parameter \\MEMID "\\\\m%d"\n    parameter \\ABITS %d\n    parameter \\WIDTH %d\n'
+           '    parameter \\CLK_ENABLE 1\n    parameter \\CLK_POLARITY 1\n    parameter \\PORTID 0\n'
+           "    parameter \\PRIORITY_MASK 1'0\n    connect \\ADDR \\wa\n    connect \\DATA %s\n    connect \\EN %s\n"
+           '    connect \\CLK \\clk\n  end\n' % (k, k, address, width, data, enable))
+    yield ('  cell $memrd_v2 $r%d\n    parameter \\MEMID "\\\\m%d"\n    parameter \\ABITS %d\n    parameter \\WIDTH %d\n'
+           '    parameter \\CLK_ENABLE 0\n    parameter \\CLK_POLARITY 1\n    parameter \\TRANSPARENCY_MASK 0\'\n'
+           "    parameter \\COLLISION_X_MASK 0'\n    parameter \\ARST_VALUE %s\n    parameter \\SRST_VALUE %s\n"
+           "    parameter \\INIT_VALUE %s\n    parameter \\CE_OVER_SRST 0\n    connect \\ADDR \\ra\n    connect \\DATA %s\n"
+           "    connect \\EN 1'1\n    connect \\CLK 1'x\n    connect \\ARST 1'0\n    connect \\SRST 1'0\n  end\n"
+           % (k, k, address, width, unknown, unknown, unknown, read))
+
+
 def memories(count):
     """Memories of 1,024 words of one bit, each with a port that writes and one that reads."""
     yield 'module \\top\n  wire input 1 \\clk\n  wire width 10 input 2 \\wa\n  wire width 10 input 3 \\ra\n'
@@ -124,15 +139,19 @@ def memories(count):
     for k in range(count):
         yield '  memory width 1 size 1024 \\m%d\n' % k
     for k in range(count):
-        yield ('  cell $memwr_v2 $w%d\n    parameter \\MEMID "\\\\m%d"\n    parameter \\ABITS 10\n    parameter \\WIDTH 1\n'
-               '    parameter \\CLK_ENABLE 1\n    parameter \\CLK_POLARITY 1\n    parameter \\PORTID 0\n'
-               "    parameter \\PRIORITY_MASK 1'0\n    connect \\ADDR \\wa\n    connect \\DATA \\d [%d]\n    connect \\EN \\en [%d]\n"
-               '    connect \\CLK \\clk\n  end\n' % (k, k, k, k))
-        yield ('  cell $memrd_v2 $r%d\n    parameter \\MEMID "\\\\m%d"\n    parameter \\ABITS 10\n    parameter \\WIDTH 1\n'
-               '    parameter \\CLK_ENABLE 0\n    parameter \\CLK_POLARITY 1\n    parameter \\TRANSPARENCY_MASK 0\'\n'
-               "    parameter \\COLLISION_X_MASK 0'\n    parameter \\ARST_VALUE 1'x\n    parameter \\SRST_VALUE 1'x\n"
-               "    parameter \\INIT_VALUE 1'x\n    parameter \\CE_OVER_SRST 0\n    connect \\ADDR \\ra\n    connect \\DATA \\q [%d]\n"
-               "    connect \\EN 1'1\n    connect \\CLK 1'x\n    connect \\ARST 1'0\n    connect \\SRST 1'0\n  end\n" % (k, k, k))
+        yield from memory_ports(k, 10, 1, '\\d [%d]' % k, '\\en [%d]' % k, '\\q [%d]' % k)
+    yield 'end\n'
+
+
+def memory_words(count):
+    """Memories of 2,048 words of 32 bits, each with a port that writes whole words and one that reads."""
+    yield 'module \\top\n  wire input 1 \\clk\n  wire width 11 input 2 \\wa\n  wire width 11 input 3 \\ra\n'
+    yield '  wire width 32 input 4 \\d\n  wire width %d input 5 \\we\n  wire width %d output 6 \\q\n' % (count, 32 * count)
+    for k in range(count):
+        yield '  memory width 32 size 2048 \\m%d\n' % k
+    for k in range(count):
+        enable, read = '\\we [%d] ' % k, '\\q [%d:%d]' % (32 * k + 31, 32 * k)
+        yield from memory_ports(k, 11, 32, '\\d', '{ %s}' % (enable * 32), read)
     yield 'end\n'
 
 
@@ -175,6 +194,7 @@ FAMILIES = {
     'switches': (switches, (64, 128, 256, 512, 1_024, 2_048)),
     'coder': (coder, (64, 256, 1_024)),
     'memories': (memories, (1, 4, 16, 64)),
+    'memory_words': (memory_words, (1, 2, 4)),
     'modules': (modules, (100, 400, 1_600, 4_096)),
     'instances': (instances, (250, 1_000, 4_000)),
 }
