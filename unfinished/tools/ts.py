@@ -1,4 +1,0 @@
-import sys,time
-t0=time.time()
-for l in sys.stdin:
-    sys.stdout.write(f'{time.time()-t0:8.1f} {l}'); sys.stdout.flush()
