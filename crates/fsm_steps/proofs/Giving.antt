@@ -19,6 +19,7 @@ use Rattle.fsm_laws.specs.Short.{AreShort, IsShortIf}
 use Rattle.fsm_laws.proofs.InTurn.{IsFormed, all_formed}
 use Rattle.fsm_laws.proofs.MachinesRefined.{machines_refine}
 use Rattle.fsm_steps.specs.Within.{are_within, fsm_within, machine_within}
+use Rattle.fsm_steps.specs.declared.Recoded.{Recoded}
 use Rattle.fsm_steps.proofs.Turns.{within_limits}
 
 -- within the limits fresh names are short
@@ -66,12 +67,12 @@ module _ (table : PortTable) (m : Module) (ready : IsReady (table_ports table.mo
       by false f g = absurd (cc)
 
   -- of what is answered
-  pub answer_gives : (r : Result Module PassFault) → IfOk r (λ after. fsm_within (table_ports table.modules) m ≡ Some after) → IfOk r (Gives table m)
-  answer_gives r is = IfOk-weaker r (λ after. fsm_within (table_ports table.modules) m ≡ Some after) (Gives table m) fsm_gives is
+  pub answer_gives : (r : Result Recoded PassFault) → IfOk r (λ (done : Recoded). fsm_within (table_ports table.modules) m ≡ Some done.after) → IfOk r (λ (done : Recoded). Gives table m done.after)
+  answer_gives r is = IfOk-weaker r (λ (done : Recoded). fsm_within (table_ports table.modules) m ≡ Some done.after) (λ (done : Recoded). Gives table m done.after) (λ (done : Recoded) e. fsm_gives done.after e) is
 
 -- the answer by the limits
 module _ (ports : Ports) (m : Module) where
-  pub answered : (r : Result Module PassFault) → IfOk r (λ after. after ≡ fsm_of ports m) → OnOk r (are_within ports 0 (length m.wires) m ≡ true) → IfOk r (λ after. fsm_within ports m ≡ Some after)
+  pub answered : (r : Result Recoded PassFault) → IfOk r (λ (done : Recoded). done.after ≡ fsm_of ports m) → OnOk r (are_within ports 0 (length m.wires) m ≡ true) → IfOk r (λ (done : Recoded). fsm_within ports m ≡ Some done.after)
   answered (Ok after) e f = ap (λ t. cond t (Some (fsm_of ports m)) None) f ∙ ap Some (sym e)
   answered (Err fault) e f = tt
 

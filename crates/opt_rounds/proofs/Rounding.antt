@@ -56,6 +56,15 @@ module _ (P : types.Ports) where
       let all : 32 ≡ n + (32 - n) = omega (arith, h) in
       ap (λ k. rounds_of P k m) all ∙ rounds_more n (32 - n) m ∙ rounds_stay (32 - n) (rounds_of P n m) e
 
+  -- behind a round that changes nothing `opt` changes nothing
+  pub opt_stays : (m : Module) → round_of P m ≡ m → opt_of P m ≡ m
+  unfolding opt_of
+  opt_stays m e = rounds_stay 32 m e
+
+  -- so it is of what a round gives that is what it was given
+  pub opt_settles : (m after : Module) → after ≡ round_of P m → after ≡ m → opt_of P after ≡ after
+  opt_settles m after e same = ap (opt_of P) same ∙ opt_stays m (sym e ∙ same) ∙ sym same
+
   -- a round, of what the three passes give
   pub one_round : (m folded merged cleaned : Module) → folded ≡ expr_of P m → merged ≡ merge_of folded → cleaned ≡ clean_of P merged → cleaned ≡ round_of P m
   unfolding round_of

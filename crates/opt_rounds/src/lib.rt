@@ -21,6 +21,15 @@ use std::alloc::Global;
 /// The most rounds.
 const MAX_ROUNDS: u32 = 32;
 
+/// A module after `opt`.
+#[derive(Drop)]
+pub struct Settled {
+    /// The module.
+    pub after: Module,
+    /// Whether it is known that one more `opt` changes nothing: the last round changed nothing.
+    pub is_settled: bool,
+}
+
 /// The module after at most 32 rounds of `opt_expr`, `opt_merge` and `opt_clean`, up to the first that changes nothing.
 /// In the Yosys manual, "Optimization passes", the section "The opt pass".
 pub fn apply(alloc: Global, module: Module, ports: &PortTable) -> Result<Module, Memory>
@@ -29,25 +38,48 @@ pub fn apply(alloc: Global, module: Module, ports: &PortTable) -> Result<Module,
     ensures exact { IfOk result (λ after. after ≡ opt_of (table_ports ports.now.modules) «module») }
     ensures pass { IfOk result (IsPass ports.now «module») }
 {
+    let done = settle(alloc, module, ports)?;
+    Ok(done.after)
+}
+
+/// The module after at most 32 rounds of `opt_expr`, `opt_merge` and `opt_clean`, as `apply` gives it, and whether the last
+/// round changed nothing, so that one more `opt` changes nothing. In the Yosys manual, "Optimization passes", the section
+/// "The opt pass".
+pub fn settle(alloc: Global, module: Module, ports: &PortTable) -> Result<Settled, Memory>
+    requires ready { IsReady (table_ports ports.now.modules) «module» }
+    requires driven { IsWellDriven (flat.table_ports ports.now) «module» }
+    ensures exact { IfOk result (λ done. done.after ≡ opt_of (table_ports ports.now.modules) «module») }
+    ensures settled { IfOk result (λ done. done.is_settled ≡ true →
+        opt_of (table_ports ports.now.modules) done.after ≡ done.after) }
+    ensures pass { IfOk result (λ done. IsPass ports.now «module» done.after) }
+{
     rounds(alloc, module, ports)
 }
 
 /// Rounds, until one changes nothing.
 #[tactic(auto, using(crate::proofs::Rounding::all_left))]
-fn rounds(alloc: Global, module: Module, ports: &PortTable) -> Result<Module, Memory>
+fn rounds(alloc: Global, module: Module, ports: &PortTable) -> Result<Settled, Memory>
     requires ready { IsReady (table_ports ports.now.modules) «module» }
     requires driven { IsWellDriven (flat.table_ports ports.now) «module» }
-    ensures exact { IfOk result (λ after. after ≡ opt_of (table_ports ports.now.modules) «module») }
+    ensures exact { IfOk result (λ done. done.after ≡ opt_of (table_ports ports.now.modules) «module») }
+    ensures settled { IfOk result (λ done. done.is_settled ≡ true →
+        opt_of (table_ports ports.now.modules) done.after ≡ done.after) }
 {
     let mut module = module;
     for _round in 0..MAX_ROUNDS {
         let turn = round(alloc, module, ports)?;
         if turn.is_same {
-            return Ok(turn.after);
+            return Ok(Settled {
+                after: turn.after,
+                is_settled: true,
+            });
         }
         module = turn.after;
     }
-    Ok(module)
+    Ok(Settled {
+        after: module,
+        is_settled: false,
+    })
 }
 
 /// One round. Each pass takes the module over and frees what goes of it.

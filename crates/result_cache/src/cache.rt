@@ -1,6 +1,6 @@
 //! Shards that threads share, each behind a lock.
 
-ghost use Rattle.std.specs.Prelude.{◌≡◌, ◌+◌, ◌<◌, ◌≤◌, true, false, IfOk, OnErr, MatchBool};
+ghost use Rattle.std.specs.Prelude.{◌≡◌, ◌+◌, ◌%◌, ◌<◌, ◌≤◌, true, false, IfOk, OnErr, MatchBool};
 ghost use Rattle.result_cache.specs.declared.call.Act.TheVariants.{GiveBack};
 ghost use Rattle.result_cache.specs.Tickets.{has_ticket, HoldsNoTicket};
 ghost use Rattle.result_cache.specs.Shared.{shard_of};
@@ -166,16 +166,28 @@ impl<V: Keyed> SharedCache<V> {
     }
 }
 
-// The shard of a key, of so many.
+/// A sum of bytes that is greater is brought below the number of shards before the next byte.
+const MOST: usize = 1 << 20;
+
+/// The sum, or where it is large what dividing it by so many leaves.
+fn lowered(sum: usize, shards: usize) -> usize
+    requires some { (0 < shards) × (shards ≤ 64) }
+    ensures small { result ≤ 1048576 }
+    ensures same { result % shards ≡ sum % shards }
+{
+    if sum > MOST { sum % shards } else { sum }
+}
+
+/// The shard of a key, of so many.
 fn place_of(key: &Text, shards: usize) -> usize
     requires some { (0 < shards) × (shards ≤ 64) }
     ensures within { result < shards }
     ensures place { result ≡ shard_of shards key.now }
 {
     let text = key.as_slice();
-    let mut place = 0;
+    let mut sum = 0;
     for byte in text {
-        place = (place + usize::from(*byte)) % shards;
+        sum = lowered(sum, shards) + usize::from(*byte);
     }
-    place
+    sum % shards
 }

@@ -25,3 +25,4 @@ pub mod Under
 pub mod Processed
 pub mod FlatRuns
 pub mod Flattening
+pub mod Settling

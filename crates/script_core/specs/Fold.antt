@@ -1,5 +1,5 @@
 -- What a script makes of a module, word by word.
-use Rattle.std.specs.Prelude.{◌≡◌, ◌⊎◌, cond, List, [], ◌∷◌, drop, Option, Some, None, option_and_then, option_map, if◌then◌else◌}
+use Rattle.std.specs.Prelude.{◌≡◌, ◌⊎◌, cond, Bool, true, List, [], ◌∷◌, drop, Option, Some, None, option_and_then, option_map, if◌then◌else◌}
 use Rattle.rtl_ir.specs.declared.module.Module.{Module}
 use Rattle.rtl_ir.specs.declared.ports.PortTable.{PortTable}
 use Rattle.rtl_ir.specs.Flat.Tree as flat
@@ -47,6 +47,10 @@ pass_of table Reduce m = Some (reduce_of (table_ports table.modules) m)
 pass_of table Dff m = Some (dff_of (table_ports table.modules) m)
 -- over the ports alone `flatten` has nothing to put in: it acts in scripts that flatten, as the second word
 pass_of table Flatten m = Some m
+
+-- where that is known, `opt` changes nothing of a module
+abbrev pub IsSettledIf : Bool → PortTable → Module → Type 0
+IsSettledIf known table m = known ≡ true → opt_of (table_ports table.modules) m ≡ m
 
 -- the rest of a fold, behind a word that gave what the rest goes on with, or passed a limit
 abbrev pub after_word : {A : Type 0} → Word → (A → Outcome) → Option A → Outcome

@@ -1,12 +1,13 @@
 //! The passes of a script, in order.
 
-ghost use Rattle.std.specs.Prelude.{◌≡◌, Err, IfOk, None, Some};
+ghost use Rattle.std.specs.Prelude.{◌≡◌, false, Err, IfOk, None, Some};
 ghost use Rattle.flat_pass.specs.Flat.{flat_of};
 ghost use Rattle.script_core.specs.Fold.{
   AfterWord,
   AreApplicable,
   AreFlatApplicable,
   IsApplicable,
+  IsSettledIf,
   MayBeGiven,
   MayEachStart,
   after_word,
@@ -19,7 +20,7 @@ ghost use Rattle.script_core.specs.Fold.{
   techmap_within,
 };
 ghost use Rattle.script_core.specs.Words.{IsScript};
-ghost use Rattle.script_core.specs.declared.word.Word.TheVariants.{Flatten, Proc, Techmap};
+ghost use Rattle.script_core.specs.declared.word.Word.TheVariants.{Flatten, Fsm, Opt, Proc, Techmap};
 
 use crate::outcome::Outcome;
 use crate::script::Script;
@@ -51,6 +52,84 @@ fn mapped(alloc: Global, module: Module, ports: &PortTable) -> Result<Module, Pa
     tech_map::apply_owned(alloc, module, ports)
 }
 
+/// A module after a word.
+#[derive(Drop)]
+struct Passed {
+    after: Module,
+    /// Whether it is known that `opt` changes nothing of it.
+    is_settled: bool,
+}
+
+/// A module of which nothing is known.
+fn unsettled(after: Module) -> Passed
+    ensures after { result.after ≡ after }
+    ensures unknown { result.is_settled ≡ false }
+{
+    Passed {
+        after,
+        is_settled: false,
+    }
+}
+
+/// What `opt` makes of the module.
+fn optimised(alloc: Global, module: Module, ports: &PortTable) -> Result<Passed, Memory>
+    requires ready { MayBeGiven ports.now Opt «module» }
+    ensures exact { IfOk result (λ step. pass_of ports.now Opt «module» ≡ Some step.after) }
+    ensures settled { IfOk result (λ step. IsSettledIf step.is_settled ports.now step.after) }
+{
+    let done = opt_rounds::settle(alloc, module, ports)?;
+    Ok(Passed {
+        after: done.after,
+        is_settled: done.is_settled,
+    })
+}
+
+/// What `fsm` makes of the module. `Over` where that would pass a limit.
+fn with_codes(
+    alloc: Global,
+    module: Module,
+    is_settled: bool,
+    ports: &PortTable,
+) -> Result<Passed, PassFault>
+    requires ready { MayBeGiven ports.now Fsm «module» }
+    requires settled { IsSettledIf is_settled ports.now «module» }
+    ensures exact { IfOk result (λ step. pass_of ports.now Fsm «module» ≡ Some step.after) }
+    ensures settled { IfOk result (λ step. IsSettledIf step.is_settled ports.now step.after) }
+    ensures over { result ≡ Err PassFault.Over → pass_of ports.now Fsm «module» ≡ None }
+{
+    let done = fsm_steps::recode_all(alloc, module, ports)?;
+    if done.is_same {
+        return Ok(Passed {
+            after: done.after,
+            is_settled,
+        });
+    }
+    Ok(unsettled(done.after))
+}
+
+/// The module without memories. `Over` where the words would pass a limit.
+fn without_memories(
+    alloc: Global,
+    module: Module,
+    is_settled: bool,
+    ports: &PortTable,
+) -> Result<Passed, PassFault>
+    requires ready { MayBeGiven ports.now Word.Memory «module» }
+    requires settled { IsSettledIf is_settled ports.now «module» }
+    ensures exact { IfOk result (λ step. pass_of ports.now Word.Memory «module» ≡ Some step.after) }
+    ensures settled { IfOk result (λ step. IsSettledIf step.is_settled ports.now step.after) }
+    ensures over { result ≡ Err PassFault.Over → pass_of ports.now Word.Memory «module» ≡ None }
+{
+    if module.memories.as_slice().is_empty() {
+        return Ok(Passed {
+            after: module,
+            is_settled,
+        });
+    }
+    let after = mem_steps::apply(alloc, module, ports)?;
+    Ok(unsettled(after))
+}
+
 /// What the pass of a word makes of the module. `Over` where that would pass a limit.
 fn pass(alloc: Global, word: Word, module: Module, ports: &PortTable) -> Result<Module, PassFault>
     requires ready { MayBeGiven ports.now word «module» }
@@ -74,6 +153,36 @@ fn pass(alloc: Global, word: Word, module: Module, ports: &PortTable) -> Result<
     }
 }
 
+/// What the pass of a word makes of a module, of which it may be known that `opt` changes nothing: behind an `opt` that
+/// came to an end, and passes that found nothing to do. Then `opt` is left out. `Over` where a limit would be passed.
+fn step(
+    alloc: Global,
+    word: Word,
+    module: Module,
+    is_settled: bool,
+    ports: &PortTable,
+) -> Result<Passed, PassFault>
+    requires ready { MayBeGiven ports.now word «module» }
+    requires settled { IsSettledIf is_settled ports.now «module» }
+    ensures exact { IfOk result (λ step. pass_of ports.now word «module» ≡ Some step.after) }
+    ensures settled { IfOk result (λ step. IsSettledIf step.is_settled ports.now step.after) }
+    ensures over { result ≡ Err PassFault.Over → pass_of ports.now word «module» ≡ None }
+{
+    match word {
+        Word::Opt if is_settled => Ok(Passed {
+            after: module,
+            is_settled,
+        }),
+        Word::Opt => Ok(optimised(alloc, module, ports)?),
+        Word::Fsm => with_codes(alloc, module, is_settled, ports),
+        Word::Memory => without_memories(alloc, module, is_settled, ports),
+        word => {
+            let after = pass(alloc, word, module, ports)?;
+            Ok(unsettled(after))
+        }
+    }
+}
+
 /// What the words make of the module, in order, up to the first word whose result would pass a limit.
 fn fold_words(
     alloc: Global,
@@ -85,9 +194,13 @@ fn fold_words(
     ensures exact { IfOk result (λ outcome. outcome ≡ fold_words words.now ports.now «module») }
 {
     let mut module = module;
+    let mut is_settled = false;
     for word in words {
-        match pass(alloc, *word, module, ports) {
-            Ok(after) => module = after,
+        match step(alloc, *word, module, is_settled, ports) {
+            Ok(done) => {
+                module = done.after;
+                is_settled = done.is_settled;
+            }
             Err(PassFault::Over) => return Ok(Outcome::Over(*word)),
             Err(PassFault::Memory) => return Err(Memory),
         }

@@ -22,6 +22,7 @@ loop-after-preserved-in_ok-after c =
       inside = omega (arith, is.before);
       free = goes_free (table_ports c.args.ports.now.modules) c.loop-after.after c.loop-after.from c.in_ok-end.end c.in-Some.found.wire c.in-Some.found.machine is c.in_ok-after.after c.in_ok-after.ensures.exact c.loop-after.invariant.free;
       left = goes_left (table_ports c.args.ports.now.modules) c.loop-after.after c.loop-after.from c.in_ok-end.end c.in-Some.found.wire c.in-Some.found.machine is c.in_ok-after.after c.in_ok-after.ensures.exact ∙ c.loop-after.invariant.left;
+      same = λ e. let e = e in absurd (omega (arith, e));
       within = goes_within (table_ports c.args.ports.now.modules) c.loop-after.after c.loop-after.from c.in_ok-end.end c.in-Some.found.wire c.in-Some.found.machine is c.in_ok-after.after c.in_ok-after.ensures.exact c.in_ok-after.ensures.within ∙ c.loop-after.invariant.within;
     }
 
@@ -32,6 +33,7 @@ loop-after-preserved c =
       inside = omega (arith, is.before);
       free = goes_free (table_ports c.args.ports.now.modules) c.loop-after.after c.loop-after.from c.in_ok-end.end c.in-Some.found.wire c.in-Some.found.machine is c.in_ok-after.after c.in_ok-after.ensures.exact c.loop-after.invariant.free;
       left = goes_left (table_ports c.args.ports.now.modules) c.loop-after.after c.loop-after.from c.in_ok-end.end c.in-Some.found.wire c.in-Some.found.machine is c.in_ok-after.after c.in_ok-after.ensures.exact ∙ c.loop-after.invariant.left;
+      same = λ e. let e = e in absurd (omega (arith, e));
       within = goes_within (table_ports c.args.ports.now.modules) c.loop-after.after c.loop-after.from c.in_ok-end.end c.in-Some.found.wire c.in-Some.found.machine is c.in_ok-after.after c.in_ok-after.ensures.exact c.in_ok-after.ensures.within ∙ c.loop-after.invariant.within;
     }
 

@@ -10,6 +10,7 @@ invariant-loop-after l = record {
   inside : l.from ≤ l.end;
   free : l.after.processes ≡ [];
   left : wires_recoded (table_ports l.ports.modules) l.from (l.end - l.from) l.after ≡ fsm_of (table_ports l.ports.modules) l.initial.after;
+  same : l.from ≡ 0 → l.after ≡ l.initial.after;
   within : are_within (table_ports l.ports.modules) l.from (l.end - l.from) l.after ≡ are_within (table_ports l.ports.modules) 0 (length l.initial.after.wires) l.initial.after;
 }
 

@@ -4,7 +4,7 @@ use Rattle.pass_laws.specs.Ready.{IsReady}
 use Rattle.rtl_ir.specs.Flat.Tree as flat
 use Rattle.rtl_ir.specs.Types.{table_ports}
 use Rattle.opt_rounds.specs.Rounds.{opt_of}
-use Rattle.opt_rounds.proofs.Rounding.{fewer_left, last_round, none_left, round_driven, round_ready}
+use Rattle.opt_rounds.proofs.Rounding.{fewer_left, last_round, none_left, opt_settles, round_driven, round_ready}
 use Rattle.opt_rounds.proofs.rounds.Goals as goal
 
 pub returns-then-turn : goal.returns-then-turn
@@ -12,6 +12,7 @@ returns-then-turn c =
     let P = table_ports c.args.ports.now.modules in
     record {
       exact = last_round P c.loop-round._round c.loop-round.module c.in_ok-turn.turn.after (opt_of P c.args.module) c.in_ok-turn.ensures.exact (c.in_ok-turn.ensures.same c.if-turn.true) c.loop-round.invariant.0;
+      settled = λ _. opt_settles P c.loop-round.module c.in_ok-turn.turn.after c.in_ok-turn.ensures.exact (c.in_ok-turn.ensures.same c.if-turn.true);
     }
 
 pub loop-round-preserved : goal.loop-round-preserved
@@ -24,9 +25,7 @@ loop-round-preserved c =
       subst (IsWellDriven (flat.table_ports c.args.ports.now)) (sym c.in_ok-turn.ensures.exact) driven,
     )
 
-pub returns : goal.returns
-returns c =
+pub returns-clause-exact : goal.returns-clause-exact
+returns-clause-exact c =
     let P = table_ports c.args.ports.now.modules in
-    record {
-      exact = none_left P c.loop-round._round c.loop-round.module (opt_of P c.args.module) (omega (arith, c.loop-round-test.false)) c.loop-round.invariant.0;
-    }
+    none_left P c.loop-round._round c.loop-round.module (opt_of P c.args.module) (omega (arith, c.loop-round-test.false)) c.loop-round.invariant.0

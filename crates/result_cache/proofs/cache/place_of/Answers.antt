@@ -20,4 +20,8 @@ loop-byte-preserved c =
     let k = c.loop-byte.byte-index in
     let below : k < length xs = c.loop-byte-test.true in
     let more : sum (take (k + 1) xs) ≡ sum (take k xs) + get_or xs k 0 = sum_more xs k below in
-    (search rules, ap (λ n. (n + c.from.result) % c.args.shards) i.1 ∙ mod_more (sum (take k xs)) c.from.result c.args.shards ∙ ap (λ n. n % c.args.shards) (ap (λ b. sum (take k xs) + b) c.from.ensures ∙ sym more))
+    let m = c.args.shards in
+    let low = c.lowered.result in
+    let b = c.from.result in
+    let kept : (low + b) % m ≡ (sum (take k xs) + b) % m = sym (mod_more low b m) ∙ ap (λ n. (n + b) % m) (c.lowered.ensures.same ∙ i.1) ∙ mod_more (sum (take k xs)) b m in
+    (search rules, kept ∙ ap (λ n. n % m) (ap (λ b. sum (take k xs) + b) c.from.ensures ∙ sym more))
