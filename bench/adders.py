@@ -1,5 +1,5 @@
 #!/usr/bin/env python3
-"""Prints a row for the program `sim_table`: a ripple of full adders, a stimulus, and its trace.
+"""Prints a row of simulations for the program `base_table`: a ripple of full adders, a stimulus, and its trace.
 
 usage: bench/adders.py [ADDERS [STEPS]]      10,000 adders, which are 50,000 gates, and 20 steps without numbers
 """

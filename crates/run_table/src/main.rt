@@ -1,4 +1,4 @@
-//! Goes through tables of calls of `run` and of the commands of a desk: what is written, how calls end, and scripts.
+//! Goes through tables of whole runs, of the commands of desks, of passes, and of what threads share.
 #![tactic(auto)]
 
 mod calls;
@@ -10,9 +10,11 @@ mod desks;
 mod devices;
 mod keys;
 mod outside;
+mod passes;
 mod pieces;
 mod scripts;
 mod sessions;
+mod shared;
 
 use rtl_bits::Memory;
 use std::alloc::Global;
@@ -160,6 +162,8 @@ fn tally_of<R: Files + Threads + Wait + Sync + AllocGlobal>(rt: &R) -> Result<Ta
     count_outside(rt, &mut tally)?;
     count_crews(rt, &mut tally)?;
     count_desks(rt, &mut tally)?;
+    passes::count(rt, &mut tally)?;
+    shared::count(rt, &mut tally)?;
     Ok(tally)
 }
 

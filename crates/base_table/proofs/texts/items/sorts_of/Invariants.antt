@@ -1,0 +1,5 @@
+use Rattle.rtl_lex.specs.Place.{IsPlaceIn}
+use Rattle.base_table.proofs.texts.items.sorts_of.Given as goal
+
+abbrev pub invariant-loop : goal.invariant-loop
+invariant-loop l = IsPlaceIn l.text l.place

@@ -1,5 +1,0 @@
-use Rattle.result_cache.specs.Seats.{IsIdle}
-use Rattle.crew_table.proofs.crowd.turns.Given as goal
-
-abbrev pub invariant-loop-number : goal.invariant-loop-number
-invariant-loop-number g l = IsIdle l.cache.table.shared.table_id l.seat

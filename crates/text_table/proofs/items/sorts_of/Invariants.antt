@@ -1,5 +1,0 @@
-use Rattle.rtl_lex.specs.Place.{IsPlaceIn}
-use Rattle.text_table.proofs.items.sorts_of.Given as goal
-
-abbrev pub invariant-loop : goal.invariant-loop
-invariant-loop l = IsPlaceIn l.text l.place
