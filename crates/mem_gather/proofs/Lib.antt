@@ -1,3 +1,4 @@
+mod Below
 mod Tabling
 mod Starting
 mod Planning

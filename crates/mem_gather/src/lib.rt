@@ -2,6 +2,7 @@
 #![tactic(auto)]
 
 mod inits;
+mod priority;
 mod reads;
 mod starts;
 mod writes;

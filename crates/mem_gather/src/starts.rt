@@ -34,7 +34,7 @@ fn constant_at(signal: &[SigBit], at: u128) -> Bit
 }
 
 /// The bit at a place, past the end x.
-fn bit_at(bits: &[Bit], at: usize) -> Bit
+pub(crate) fn bit_at(bits: &[Bit], at: usize) -> Bit
     ensures value { result ≡ slice_index_or bits.now at X }
 {
     match bits.get(at) {
