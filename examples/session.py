@@ -27,7 +27,7 @@ STATUS = {
 
 
 class Refused(Exception):
-    """The reply is an error line. The design, the script and the kept results are as they were before the command."""
+    """The reply is an error line. The design and the script are as they were before the command, and so are the kept results, but that error 20 keeps those of its command."""
 
     def __init__(self, line):
         super().__init__(line)
