@@ -1,6 +1,7 @@
 //! The program: what the words of the command line ask for, over standard input and output.
 #![tactic(auto)]
 
+pub use generated_design::generated;
 use rtl_bits::Steps;
 use std::alloc::Global;
 use std::io::ErrorKind;

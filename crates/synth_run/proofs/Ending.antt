@@ -1,5 +1,5 @@
 -- How a session ends, by whether it was held to its end or broke off.
-use Rattle.std.proofs.Common.{◌≡◌, ◌⊎◌, ℕ, List, Bool, true, false, Option, Some, None, Result, Ok, Err, inl, inr, refl, sym, subst, ◌∙◌}
+use Rattle.std.proofs.Common.{◌≡◌, ◌⊎◌, ℕ, List, Bool, true, false, Option, Some, None, Result, Ok, Err, inl, inr, refl, sym, ap, subst, ◌∙◌}
 use Rattle.std.specs.Prelude.{IfErr, IfOk, IfSome, OnErr, OnOk, OnSome}
 use Rattle.std.specs.Io.KnownBytes.{Consumes}
 use Rattle.script_core.specs.declared.word.Word.{Word}
@@ -12,7 +12,8 @@ use Rattle.synth_run.specs.declared.words.Mode.TheVariants.{Synth, Session, Gene
 use Rattle.synth_run.specs.declared.words.Plan.{Plan}
 use Rattle.synth_run.specs.declared.session.Stop.{Stop}
 use Rattle.synth_run.specs.declared.session.Stop.TheVariants as halts
-use Rattle.synth_run.specs.Builds.{CountsTurns}
+use Rattle.synth_run.specs.Builds.{CountsTurns, HasCounted}
+use Rattle.synth_run.specs.Desks.{CountsDesks}
 use Rattle.synth_run.specs.Refined.{IsRefinedBy}
 use Rattle.synth_run.specs.Replies.{AnswersTaken, HasAnswered, HasBegun, HasRefined, IsCompleted, IsPrintedDesks, IsPrintedSession, IsReadThrough, status_of}
 use Rattle.synth_run.specs.Taking.{Broken, Held}
@@ -44,10 +45,12 @@ module _ (script : List Word) (good : IsScript script) (left rest had has : Opti
 
   pub counts : (r : Result Bool Stop) → IfOk r (λ refused. Held (first_state script) refused left rest had has m n)
       → IfErr r (λ stop. Broken (first_state script) stop left rest had has m n) → (r ≡ Err halts.Memory → ⊥)
-      → (bytes : List ℕ) × Consumes left rest bytes × CountsTurns script bytes m n
-  counts (Ok refused) h b other = held_counted script refused left rest had has m n h
-  counts (Err halts.Source) h b other = broken_counted script halts.Source left rest had has m n (λ e. absurd cc) b
-  counts (Err halts.Sink) h b other = broken_counted script halts.Sink left rest had has m n (λ e. absurd cc) b
+      → (bytes : List ℕ) × Consumes left rest bytes × CountsTurns script (r ≡ Err halts.Source) left bytes m n
+  counts (Ok refused) h b other = held_counted script refused left rest had has m n h (◌≡◌ {A = Result Bool Stop} (Ok refused) (Err halts.Source)) (λ e. absurd cc)
+  counts (Err halts.Source) h b other =
+      broken_counted script halts.Source left rest had has m n (λ e. absurd cc) b (◌≡◌ {A = Result Bool Stop} (Err halts.Source) (Err halts.Source)) (λ e. refl)
+  counts (Err halts.Sink) h b other =
+      broken_counted script halts.Sink left rest had has m n (λ e. absurd cc) b (◌≡◌ {A = Result Bool Stop} (Err halts.Sink) (Err halts.Source)) (λ e. absurd cc)
   counts (Err halts.Memory) h b other = absurd (other refl)
 
 -- nothing was read or written
@@ -78,7 +81,7 @@ not_done status other is done refused (inl e) = done (sym is ∙ e)
 not_done status other is done refused (inr e) = refused (sym is ∙ e)
 
 -- what holds where the whole reply was written
-pub when_answered : (P : Type 0) (r : Result Bool Stop) (status : Status) → status ≡ status_of r → OnOk r P → (status ≡ statuses.Done) ⊎ (status ≡ statuses.Refused) → P
+when_answered : (P : Type 0) (r : Result Bool Stop) (status : Status) → status ≡ status_of r → OnOk r P → (status ≡ statuses.Done) ⊎ (status ≡ statuses.Refused) → P
 when_answered P (Ok error) status is p e = p
 when_answered P (Err halts.Source) status is p e = absurd (not_done status statuses.ReadFault is (λ d. cc) (λ d. cc) e)
 when_answered P (Err halts.Sink) status is p e = absurd (not_done status statuses.WriteFault is (λ d. cc) (λ d. cc) e)
@@ -145,6 +148,33 @@ was_source (Ok true) status is e = let no : statuses.Refused ≡ statuses.ReadFa
 was_source (Err halts.Source) status is e = refl
 was_source (Err halts.Sink) status is e = let no : statuses.WriteFault ≡ statuses.ReadFault = sym is ∙ e in absurd cc
 was_source (Err halts.Memory) status is e = let no : statuses.Memory ≡ statuses.ReadFault = sym is ∙ e in absurd cc
+
+-- what a session built, by its status
+pub counted_turns : (script : List Word) (left rest : Option (List ℕ)) (m n : ℕ) (r : Result Bool Stop) (status : Status) → status ≡ status_of r
+    → ((r ≡ Err halts.Memory → ⊥) → (bytes : List ℕ) × Consumes left rest bytes × CountsTurns script (r ≡ Err halts.Source) left bytes m n)
+    → HasCounted Session status script left rest m n
+counted_turns script left rest m n r status is counts = λ other.
+    let c = counts (λ e. other (is ∙ ap status_of e)) in (
+      c.0,
+      c.1,
+      record {
+        turns = c.2.turns;
+        steps = c.2.steps;
+        taken = c.2.taken;
+        told = c.2.told;
+        ended = λ e. c.2.ended (was_source r status is e);
+        builds = c.2.builds;
+      },
+    )
+
+-- what several desks built, by it
+pub counted_desks : (count : ℕ) (script : List Word) (left rest : Option (List ℕ)) (m n : ℕ) (r : Result Bool Stop) (status : Status) → status ≡ status_of r
+    → ((r ≡ Err halts.Memory → ⊥) → (r ≡ Err halts.Source → ⊥) → IfSome left (λ input. CountsDesks count script input m n)) → (r ≡ Err halts.Source → n ≡ m)
+    → HasCounted (Desks count) status script left rest m n
+counted_desks count script left rest m n r status is counts none = λ other. (
+  λ e. none (was_source r status is e),
+  λ read. counts (λ e. other (is ∙ ap status_of e)) (λ e. read (is ∙ ap status_of e)),
+)
 
 -- a call that reads nothing ends by its sink alone
 pub completed : (r : Result Bool Stop) (status : Status) (rose : Type 0) → status ≡ status_of r → (r ≡ Err halts.Source → ⊥) → (r ≡ Err halts.Sink → rose) → (rose → ⊥)

@@ -10,7 +10,6 @@ use Rattle.synth_run.specs.declared.words.Plan.{Plan}
 use Rattle.synth_run.specs.declared.program.Status.TheVariants as statuses
 use Rattle.synth_run.specs.Options.{Given, given_from, nothing_given}
 use Rattle.synth_run.specs.Builds.{HasCounted}
-use Rattle.synth_run.specs.Desks.{CountsDesks}
 use Rattle.synth_run.specs.Replies.{HasBegun, HasKept, HasRefined, IsPrintedDesks, IsPrintedSession, OfInput}
 use Rattle.synth_run.specs.Words.{given_script, given_workers, mode_of, plan_by, plan_of, plan_with}
 use Rattle.synth_run.proofs.Replying.{begun_none}
@@ -105,11 +104,7 @@ mode_counted : (mode : Mode) (script : List Word) (left : Option (List ℕ)) (m 
 mode_counted Synth script left m = λ other. absurd (other refl)
 mode_counted Session script left m = λ other. absurd (other refl)
 mode_counted (Generate count) script left m = λ other. absurd (other refl)
-mode_counted (Desks count) script left m = no
-  where
-    no : (statuses.Memory ≡ statuses.Done) ⊎ (statuses.Memory ≡ statuses.Refused) → IfSome left (λ input. CountsDesks count script input m m)
-    no (inl e) = absurd cc
-    no (inr e) = absurd cc
+mode_counted (Desks count) script left m = λ other. absurd (other refl)
 
 pub nothing_counted : (words : List (List ℕ)) (left : Option (List ℕ)) (m : ℕ) → IfSome (plan_of words) (λ plan. HasCounted plan.mode statuses.Memory plan.script left left m m)
 nothing_counted words left m =

@@ -1,5 +1,5 @@
 -- What a session wrote is its reply, or a front of it.
-use Rattle.std.proofs.Common.{◌≡◌, ◌⊎◌, inl, inr, ℕ, List, [], ◌++◌, Bool, true, false, Option, Some, None, length, min, take, refl, sym, ap, subst, ◌∙◌, append_assoc, arith}
+use Rattle.std.proofs.Common.{◌≡◌, ◌⊎◌, inl, inr, ℕ, List, [], ◌++◌, Bool, true, false, Option, Some, None, length, min, take, refl, sym, ap, subst, ◌∙◌, append_assoc, append-nil, arith}
 use Rattle.std.specs.Prelude.{IfSome}
 use Rattle.std.specs.Io.KnownBytes.{Appends, Consumes}
 use Rattle.std.proofs.lemmas.List.{take-append-le, take_min}
@@ -23,7 +23,7 @@ use Rattle.synth_run.specs.Replies.{AnswersTaken, HasAnswered, HasBegun, IsPrint
 use Rattle.synth_run.specs.Said.{Said, said_of, too_long}
 use Rattle.synth_run.specs.Session.{AreTurns, IsSession, Turn, commands_in, input_commands, is_long, is_overlong, session_said, state_after, text_in}
 use Rattle.synth_run.specs.Synth.{IsInputReply, IsSynthReply, IsTextReply, design_said}
-use Rattle.synth_run.specs.Taking.{Broken, Held, IsCut, SpeaksFor}
+use Rattle.synth_run.specs.Taking.{BeginWith, Broken, Held, IsCut, SpeaksFor}
 use Rattle.synth_run.proofs.Desking.{some_desks}
 use Rattle.synth_run.proofs.Printing.{turns_print}
 use Rattle.synth_run.proofs.Speaking.{appends_nothing, commands_both, text_both, turns_both}
@@ -112,10 +112,28 @@ held_prints script refused (Some input) rest had has m n good h =
       netlists = turns_print (first_state script) h.turns (first_good script good) h.steps;
     }
 
+-- the commands of a session that was held to its end are those of its input
+speaks_begins : (script : List Word) (bytes : List ℕ) (left rest : Option (List ℕ)) (turns : List Turn) (over : Bool) → Consumes left rest bytes → AreTurns (first_state script) turns
+    → SpeaksFor bytes rest turns over → IfSome left (λ input. BeginWith (input_commands input) turns)
+speaks_begins script bytes None rest turns over taken steps speaks = tt
+speaks_begins script bytes (Some input) rest turns over taken steps speaks =
+    let is = speaks_input script input bytes rest turns over taken steps speaks in
+    ([], sym is.0.commands ∙ sym (append-nil (commands_in turns)))
+
 pub held_counted : (script : List Word) (refused : Bool) (left rest had has : Option (List ℕ)) (m n : ℕ) → Held (first_state script) refused left rest had has m n
-    → (bytes : List ℕ) × Consumes left rest bytes × CountsTurns script bytes m n
-held_counted script refused left rest had has m n h =
-    (h.bytes, h.taken, record { turns = h.turns; more = h.first.0; steps = h.steps; commands = h.first.1; builds = h.builds })
+    → (failed : Type 0) → (failed → ⊥) → (bytes : List ℕ) × Consumes left rest bytes × CountsTurns script failed left bytes m n
+held_counted script refused left rest had has m n h failed never = (
+  h.bytes,
+  h.taken,
+  record {
+    turns = h.turns;
+    steps = h.steps;
+    taken = h.first;
+    told = speaks_begins script h.bytes left rest h.turns h.over h.taken h.steps h.session;
+    ended = λ f. absurd (never f);
+    builds = h.builds;
+  },
+)
 
 -- ---- a session that broke off
 
@@ -154,6 +172,16 @@ cut_begun script input bytes rest had has turns good taken steps (inr (speaks, (
       (size, written),
     )
 
+-- the commands of a session that broke off are the first of its input
+cut_begins : (script : List Word) (bytes : List ℕ) (left rest had has : Option (List ℕ)) (turns : List Turn) → Consumes left rest bytes → AreTurns (first_state script) turns
+    → IsCut bytes rest turns had has → IfSome left (λ input. BeginWith (input_commands input) turns)
+cut_begins script bytes None rest had has turns taken steps cut = tt
+cut_begins script bytes (Some input) rest had has turns taken steps (inl (begins, written)) =
+    let left = left_of input bytes rest taken in
+    subst (λ (l : List ℕ). BeginWith (input_commands l) turns) (sym left.2) (begins left.0 left.1)
+cut_begins script bytes (Some input) rest had has turns taken steps (inr (speaks, written)) =
+    speaks_begins script bytes (Some input) rest turns true taken steps speaks
+
 pub broken_begun : (script : List Word) (stop : Stop) (left rest had has : Option (List ℕ)) (m n : ℕ) → IsScript script → Broken (first_state script) stop left rest had has m n
     → HasBegun Session script left had has
 broken_begun script stop None rest had has m n good b = tt
@@ -168,6 +196,16 @@ broken_answers script left rest had has m n b =
     record { bytes = b.bytes; turns = b.turns; taken = b.taken; steps = b.steps; commands = is.0; written = is.1 }
 
 pub broken_counted : (script : List Word) (stop : Stop) (left rest had has : Option (List ℕ)) (m n : ℕ) → (stop ≡ halts.Memory → ⊥) → Broken (first_state script) stop left rest had has m n
-    → (bytes : List ℕ) × Consumes left rest bytes × CountsTurns script bytes m n
-broken_counted script stop left rest had has m n other b =
-    (b.bytes, b.taken, record { turns = b.turns; more = b.first.0; steps = b.steps; commands = b.first.1; builds = b.builds other })
+    → (failed : Type 0) → (failed → stop ≡ halts.Source) → (bytes : List ℕ) × Consumes left rest bytes × CountsTurns script failed left bytes m n
+broken_counted script stop left rest had has m n other b failed is = (
+  b.bytes,
+  b.taken,
+  record {
+    turns = b.turns;
+    steps = b.steps;
+    taken = b.first;
+    told = cut_begins script b.bytes left rest had has b.turns b.taken b.steps b.cut;
+    ended = λ f. (b.answered (is f)).0;
+    builds = b.builds other;
+  },
+)

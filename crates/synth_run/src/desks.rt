@@ -248,8 +248,9 @@ pub(crate) fn serve_desks<R: Threads + Wait + Sync, S: Source, K: Sink, G: Gate,
     ensures nothing { result ≡ Err Stop.Source → Keeps (K.held sink.old) (K.held sink.new) }
     ensures prints { OnOk result (IfSome (S.left source.old) (λ input.
         IsPrintedDesks count plan.script input (K.held sink.old) (K.held sink.new))) }
-    ensures counts { OnOk result (IfSome (S.left source.old) (λ input.
-        CountsDesks count plan.script input meter.old meter.new)) }
+    ensures counts { (result ≡ Err Stop.Memory → ⊥) → (result ≡ Err Stop.Source → ⊥) →
+        IfSome (S.left source.old) (λ input. CountsDesks count plan.script input meter.old meter.new) }
+    ensures uncounted { result ≡ Err Stop.Source → meter.new ≡ meter.old }
     ensures taken { TakesAtMost (LIMIT + 1) (S.left source.old) (S.left source.new) }
     ensures read_fault { result ≡ Err Stop.Source → HasRisen (S.faults source.old) (S.faults source.new) }
     ensures write_fault { result ≡ Err Stop.Sink → HasRisen (K.faults sink.old) (K.faults sink.new) }

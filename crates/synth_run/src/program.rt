@@ -94,8 +94,8 @@ fn converse<R: Threads + Wait + Sync, S: Source, K: Sink, G: Gate, L: Send>(
     ensures prints { OnOk result (IfSome (S.left source.old) (λ input.
         IsPrintedSession plan.script input (K.held sink.old) (K.held sink.new))) }
     ensures counts { (result ≡ Err Stop.Memory → ⊥) →
-        (bytes : List ℕ) × Consumes (S.left source.old) (S.left source.new) bytes × CountsTurns plan.script bytes
-        meter.old meter.new }
+        (bytes : List ℕ) × Consumes (S.left source.old) (S.left source.new) bytes
+        × CountsTurns plan.script (result ≡ Err Stop.Source) (S.left source.old) bytes meter.old meter.new }
     ensures taken { TakesAtMost (LIMIT + 1) (S.left source.old) (S.left source.new) }
     ensures read_fault { result ≡ Err Stop.Source → HasRisen (S.faults source.old) (S.faults source.new) }
     ensures write_fault { result ≡ Err Stop.Sink → HasRisen (K.faults sink.old) (K.faults sink.new) }
@@ -174,8 +174,8 @@ pub fn run<R: Threads + Wait + Sync, S: Source, K: Sink, G: Gate, L: Send>(
     ensures refines { IfSome (plan_of (map string_bytes words.now)) (λ plan.
         OfInput plan.mode (S.left source.old) (λ input.
         HasRefined plan.mode result plan.script input (K.held sink.old) (K.held sink.new))) }
-    // Where memory is not wanting, the meter rises by at most the number of different keys that the commands need and
-    // that are not kept.
+    // Where memory is not wanting, the meter rises by at most the number of different keys that the commands taken need
+    // and that are not kept.
     ensures builds { IfSome (plan_of (map string_bytes words.now)) (λ plan.
         HasCounted plan.mode result plan.script (S.left source.old) (S.left source.new) meter.old meter.new) }
     ensures idle { plan_of (map string_bytes words.now) ≡ None → meter.new ≡ meter.old }

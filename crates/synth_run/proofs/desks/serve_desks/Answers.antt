@@ -63,8 +63,13 @@ returns-clause-prints g c =
     c.in_ok-past.past c.in_ok-past.ensures.router c.in-Ok.ensures.count c.in_ok-past.ensures.ok c.in-Ok-answer_all.ensures.replies (g.K.Sink.held c.args.sink.now) (g.K.Sink.held c.write_all.new.sink) c.requires.script c.if-past.false
     (subst (λ (tags : List Tag). Appends (g.K.Sink.held c.args.sink.now) (g.K.Sink.held c.write_all.new.sink) (bytes_of (replies_to tags c.in-Ok-answer_all.answers))) c.as_slice.ensures.value c.in_ok-refused.ensures.ok.1)
 
+pub returns-in_err-refused-clause-counts : goal.returns-in_err-refused-clause-counts
+returns-in_err-refused-clause-counts g c = λ memory source.
+    owes_counts c.args.plan.script c.args.count (length c.in-Ok.router.lists.items) c.read_all.new.self c.in-Ok-answer_all.answers (g.S.Source.left c.args.source.now) (g.S.Source.left c.read_all.new.source)
+    c.in_ok-past.past c.in_ok-past.ensures.router c.in-Ok.ensures.count c.in_ok-past.ensures.ok c.in-Ok-answer_all.ensures.replies c.args.meter.now c.answer_all.new.meter c.in-Ok-answer_all.ensures.builds
+
 pub returns-clause-counts : goal.returns-clause-counts
-returns-clause-counts g c =
+returns-clause-counts g c = λ memory source.
     owes_counts c.args.plan.script c.args.count (length c.in-Ok.router.lists.items) c.read_all.new.self c.in-Ok-answer_all.answers (g.S.Source.left c.args.source.now) (g.S.Source.left c.read_all.new.source)
     c.in_ok-past.past c.in_ok-past.ensures.router c.in-Ok.ensures.count c.in_ok-past.ensures.ok c.in-Ok-answer_all.ensures.replies c.args.meter.now c.answer_all.new.meter c.in-Ok-answer_all.ensures.builds
 
@@ -92,9 +97,9 @@ returns-then-past-clause-through g c =
     c.in_ok-past.past c.in_ok-past.ensures.router c.in-Ok.ensures.count c.in_ok-past.ensures.ok c.in-Ok-answer_all.ensures.replies)
 
 pub returns-then-past-clause-counts : goal.returns-then-past-clause-counts
-returns-then-past-clause-counts g c =
-    owes_any c.refuse_long.result (owes_counts c.args.plan.script c.args.count (length c.in-Ok.router.lists.items) c.read_all.new.self c.in-Ok-answer_all.answers (g.S.Source.left c.args.source.now) (g.S.Source.left c.read_all.new.source)
-    c.in_ok-past.past c.in_ok-past.ensures.router c.in-Ok.ensures.count c.in_ok-past.ensures.ok c.in-Ok-answer_all.ensures.replies c.args.meter.now c.answer_all.new.meter c.in-Ok-answer_all.ensures.builds)
+returns-then-past-clause-counts g c = λ memory source.
+    owes_counts c.args.plan.script c.args.count (length c.in-Ok.router.lists.items) c.read_all.new.self c.in-Ok-answer_all.answers (g.S.Source.left c.args.source.now) (g.S.Source.left c.read_all.new.source)
+    c.in_ok-past.past c.in_ok-past.ensures.router c.in-Ok.ensures.count c.in_ok-past.ensures.ok c.in-Ok-answer_all.ensures.replies c.args.meter.now c.answer_all.new.meter c.in-Ok-answer_all.ensures.builds
 
 pub returns-then-past-clause-sink_count : goal.returns-then-past-clause-sink_count
 returns-then-past-clause-sink_count g c = λ other. c.refuse_long.ensures.same other ∙ c.in_ok-refused.ensures.same (λ e. absurd cc)

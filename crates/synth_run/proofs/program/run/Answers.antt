@@ -1,14 +1,13 @@
-use Rattle.std.proofs.Common.{◌≡◌, ℕ, true, false, inr, refl, sym, ap, subst, ◌∙◌}
+use Rattle.std.proofs.Common.{◌≡◌, ℕ, true, false, inr, refl, sym, subst}
 use Rattle.synth_io.specs.Counts.{HasRisen}
 use Rattle.std.specs.Prelude.{IfSome, map, string_bytes}
 use Rattle.synth_run.specs.declared.words.Mode.{Mode}
 use Rattle.synth_run.specs.declared.words.Mode.TheVariants.{Synth, Session, Generate, Desks}
 use Rattle.synth_run.specs.declared.words.Plan.{Plan}
 use Rattle.synth_run.specs.Builds.{HasCounted}
-use Rattle.synth_run.specs.Desks.{CountsDesks}
-use Rattle.synth_run.specs.Replies.{HasAnswered, HasBegun, HasKept, HasRefined, IsCompleted, IsReadThrough, OfInput, status_of}
+use Rattle.synth_run.specs.Replies.{HasAnswered, HasBegun, HasKept, HasRefined, IsCompleted, IsReadThrough, OfInput}
 use Rattle.synth_run.specs.Words.{plan_of}
-use Rattle.synth_run.proofs.Ending.{begins, completed, on_some, done, planned, refined, refined_desks, refined_text, refused, was_memory, was_source, when_answered}
+use Rattle.synth_run.proofs.Ending.{begins, completed, counted_desks, counted_turns, on_some, done, planned, refined, refined_desks, refined_text, refused, was_memory, was_source}
 use Rattle.synth_run.proofs.Generating as generating
 use Rattle.synth_run.proofs.Planning.{each_plan, never_made, not_desks, not_session, not_synth, nothing_begun, nothing_counted, nothing_refined, nothing_written}
 use Rattle.synth_run.proofs.program.run.Goals as goal
@@ -95,7 +94,7 @@ pub returns-in-Session-clause-builds : goal.returns-in-Session-clause-builds
 returns-in-Session-clause-builds g c =
     planned (plan_of (map string_bytes c.args.words.now)) c.in-Ok.plan (λ (plan : Plan). HasCounted plan.mode c.status_of-in-Session.result plan.script (g.S.Source.left c.args.source.now) (g.S.Source.left c.converse.new.source) c.args.meter.now c.converse.new.meter) c.in-Ok.ensures.plan
     (subst (λ (m : Mode). HasCounted m c.status_of-in-Session.result c.in-Ok.plan.script (g.S.Source.left c.args.source.now) (g.S.Source.left c.converse.new.source) c.args.meter.now c.converse.new.meter) (sym c.in-Session.is)
-    (λ other. c.converse.ensures.counts (λ e. other (c.status_of-in-Session.ensures.value ∙ ap status_of e))))
+    (counted_turns c.in-Ok.plan.script (g.S.Source.left c.args.source.now) (g.S.Source.left c.converse.new.source) c.args.meter.now c.converse.new.meter c.converse.result c.status_of-in-Session.result c.status_of-in-Session.ensures.value c.converse.ensures.counts))
 
 pub returns-in-Desks-clause-done : goal.returns-in-Desks-clause-done
 returns-in-Desks-clause-done g c = λ e.
@@ -131,7 +130,7 @@ pub returns-in-Desks-clause-builds : goal.returns-in-Desks-clause-builds
 returns-in-Desks-clause-builds g c =
     planned (plan_of (map string_bytes c.args.words.now)) c.in-Ok.plan (λ (plan : Plan). HasCounted plan.mode c.status_of-in-Desks.result plan.script (g.S.Source.left c.args.source.now) (g.S.Source.left c.serve_desks.new.source) c.args.meter.now c.serve_desks.new.meter) c.in-Ok.ensures.plan
     (subst (λ (m : Mode). HasCounted m c.status_of-in-Desks.result c.in-Ok.plan.script (g.S.Source.left c.args.source.now) (g.S.Source.left c.serve_desks.new.source) c.args.meter.now c.serve_desks.new.meter) (sym c.in-Desks.is)
-    (when_answered (IfSome (g.S.Source.left c.args.source.now) (λ input. CountsDesks c.in-Desks.count c.in-Ok.plan.script input c.args.meter.now c.serve_desks.new.meter)) c.serve_desks.result c.status_of-in-Desks.result c.status_of-in-Desks.ensures.value c.serve_desks.ensures.counts))
+    (counted_desks c.in-Desks.count c.in-Ok.plan.script (g.S.Source.left c.args.source.now) (g.S.Source.left c.serve_desks.new.source) c.args.meter.now c.serve_desks.new.meter c.serve_desks.result c.status_of-in-Desks.result c.status_of-in-Desks.ensures.value c.serve_desks.ensures.counts c.serve_desks.ensures.uncounted))
 
 pub returns-in-Desks-clause-unread : goal.returns-in-Desks-clause-unread
 returns-in-Desks-clause-unread g c =
