@@ -90,6 +90,29 @@ def latches(count):
     yield '    end\n    sync always\n      update \\q $0\\q\n  end\nend\n'
 
 
+def wide_latch(count):
+    """One latch of so many bits, by one case: the text does not grow with it."""
+    yield 'module \\top\n  wire input 1 \\en\n  wire width %d input 2 \\d\n' % count
+    yield '  wire width %d output 3 \\q\n  wire width %d $0\\q\n  process $p\n    assign $0\\q \\q\n' % (count, count)
+    yield "    switch \\en\n      case 1'1\n        assign $0\\q \\d\n    end\n"
+    yield '    sync always\n      update \\q $0\\q\n  end\nend\n'
+
+
+def resets(count):
+    """Registers of 8 bits with an asynchronous reset, a process each."""
+    yield 'module \\top\n  wire input 1 \\clk\n  wire input 2 \\rst\n  wire width 8 input 3 \\d\n'
+    yield '  wire width %d output 4 \\q\n' % (8 * count)
+    for k in range(count):
+        yield '  wire width 8 $%d\\q\n' % k
+    for k in range(count):
+        yield ("  process $p%d\n    assign $%d\\q \\d\n    switch \\rst\n      case 1'1\n        assign $%d\\q 8'00000000\n    end\n"
+               % (k, k, k))
+        for event in ('clk', 'rst'):
+            yield '    sync posedge \\%s\n      update \\q [%d:%d] $%d\\q\n' % (event, 8 * k + 7, 8 * k, k)
+        yield '  end\n'
+    yield 'end\n'
+
+
 def switches(count):
     """A loop that was unrolled to many switches in sequence."""
     script = os.path.join(TOP, 'bench', 'switches.py')
@@ -191,6 +214,8 @@ FAMILIES = {
     'process_words': (process_words, (250, 500, 1_000)),
     'process_lines': (process_lines, (250, 500, 1_000)),
     'latches': (latches, (250, 500, 1_000)),
+    'wide_latch': (wide_latch, (1_000, 2_000, 4_000)),
+    'resets': (resets, (250, 500, 1_000, 2_000)),
     'switches': (switches, (64, 128, 256, 512, 1_024, 2_048)),
     'coder': (coder, (64, 256, 1_024)),
     'memories': (memories, (1, 4, 16, 64)),
