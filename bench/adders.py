@@ -1,13 +1,13 @@
 #!/usr/bin/env python3
-"""Prints a row of simulations for the program `base_table`: a ripple of full adders, a stimulus, and its trace.
+"""Prints a session that simulates a ripple of full adders, or with --wanted what it answers.
 
-usage: bench/adders.py [ADDERS [STEPS]]      10,000 adders, which are 50,000 gates, and 20 steps without numbers
+usage: bench/adders.py [--wanted] [ADDERS [STEPS]]      10,000 adders, which are 50,000 gates, and 20 steps
 """
 import random
 import sys
 
-adders = int(sys.argv[1]) if len(sys.argv) > 1 else 10_000
-steps = int(sys.argv[2]) if len(sys.argv) > 2 else 20
+numbers = [int(word) for word in sys.argv[1:] if word != '--wanted']
+adders, steps = (numbers + [10_000, 20][len(numbers):])[:2]
 GATE = '  cell $_%s_ $%s$%d\n    connect \\A %s\n    connect \\B %s\n    connect \\Y %s\n  end\n'
 
 
@@ -29,10 +29,14 @@ def design():
     yield '  connect \\carry [0] \\c\n  connect \\o \\carry [%d]\nend\n' % adders
 
 
+random.seed(1)
 stimulus, trace = [], []
 for _ in range(steps):
     c, a, b = random.getrandbits(1), random.getrandbits(adders), random.getrandbits(adders)
     total = a + b + c
     stimulus.append('%d %s %s' % (c, format(a, '0%db' % adders), format(b, '0%db' % adders)))
     trace.append('%s %d' % (format(total % 2 ** adders, '0%db' % adders), total >> adders))
-sys.stdout.buffer.write(b'\xff'.join(field.encode() for field in (''.join(design()), '\\m', '\n'.join(stimulus), '\n'.join(trace))))
+if '--wanted' in sys.argv:
+    print('\n'.join(['ok modules 1', 'ok steps %d' % steps, *trace, 'ok']))
+else:
+    print('load\n%s.\nsim source \\m\n%s\n.\nquit' % (''.join(design()), '\n'.join(stimulus)))

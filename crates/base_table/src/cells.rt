@@ -1,29 +1,16 @@
-//! Rows of cells: their names, their shapes, and their values.
+//! Rows of cells: their names and their shapes.
 
 mod cell;
-mod gates;
 mod names;
-mod pins;
 mod shapes;
 mod show;
-mod storage;
-mod words;
 
 use rtl_bits::Memory;
 use std::alloc::Global;
 use table_rows::{LINES, Tally};
 
 /// The files of the tables.
-const FILES: [&str; 8] = [
-    "cells/names",
-    "cells/cells",
-    "cells/limits",
-    "cells/shapes",
-    "cells/words",
-    "cells/gates",
-    "cells/storage_gates",
-    "cells/storage_cells",
-];
+const FILES: [&str; 4] = ["cells/names", "cells/cells", "cells/limits", "cells/shapes"];
 
 /// Whether a row of the file of this name holds.
 fn holds(alloc: Global, file: &str, fields: &[&[u8]]) -> Result<bool, Memory> {
@@ -32,9 +19,6 @@ fn holds(alloc: Global, file: &str, fields: &[&[u8]]) -> Result<bool, Memory> {
         "cells/cells" => shapes::is_in_order(alloc, fields),
         "cells/limits" => shapes::is_answered(alloc, fields),
         "cells/shapes" => show::has_shape(alloc, fields),
-        "cells/words" => words::has_values(alloc, fields),
-        "cells/gates" => gates::has_values(alloc, fields),
-        "cells/storage_gates" | "cells/storage_cells" => storage::has_trace(alloc, fields),
         _ => Ok(false),
     }
 }

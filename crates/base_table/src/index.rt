@@ -1,7 +1,6 @@
 //! Rows that ask the index of a module what number a bit has, what drives it, what reads it, and where connections
 //! lead from it, and that add to modules up to the limits, and one item more.
 
-mod gates;
 mod limits;
 
 use crate::fields::design_of;
@@ -146,6 +145,5 @@ fn holds(alloc: Global, fields: &[&[u8]]) -> Result<bool, Memory> {
 /// Counts the rows of the files.
 pub(crate) fn count(rt: &HostRuntime, tally: &mut Tally) -> Result<(), Memory> {
     tally.file(rt, "index/bits", TEXTS, holds)?;
-    tally.file(rt, "index/limits", TEXTS, limits::hold)?;
-    tally.file(rt, "index/gates", TEXTS, gates::fill)
+    tally.file(rt, "index/limits", TEXTS, limits::hold)
 }

@@ -1,12 +1,11 @@
-//! Goes through tables of what the crates below the passes answer: of bits, names and ports, of cells, of texts, of
-//! indexes of modules, and of simulations.
+//! Goes through tables of what the crates below the passes answer: of bits, names and ports, of cells, of texts, and of
+//! indexes of modules.
 #![tactic(auto)]
 
 mod base;
 mod cells;
 mod fields;
 mod index;
-mod sim;
 mod texts;
 
 use rtl_bits::Memory;
@@ -20,7 +19,6 @@ fn tally_of(rt: &HostRuntime) -> Result<Tally, Memory> {
     cells::count(rt, &mut tally)?;
     texts::count(rt, &mut tally)?;
     index::count(rt, &mut tally)?;
-    sim::count(rt, &mut tally)?;
     Ok(tally)
 }
 

@@ -3,7 +3,7 @@ use Rattle.std.proofs.Common.{Global, Vec, ◌≡◌, ◌≢◌, inl, inr, ℕ, 
 use Rattle.std.specs.Prelude.{IfOk, OnErr, codes, replicate}
 use Rattle.rtl_bits.specs.declared.memory.Memory.{Memory}
 use Rattle.desk_read.specs.declared.command.Command.{Command}
-use Rattle.desk_read.specs.declared.command.Command.TheVariants.{Load, Edit, Remove, Script, Run, Print, Show, SimSource, SimNetlist, Quit, Bad, Unclosed}
+use Rattle.desk_read.specs.declared.command.Command.TheVariants.{Load, Edit, Remove, Script, Run, Print, Show, Version, Modules, Ports, SimSource, SimNetlist, Quit, Bad, Unclosed}
 use Rattle.desk_read.specs.declared.command.SimAsk.{SimAsk}
 use Rattle.rtl_ir.specs.declared.module.Design.{Design}
 use Rattle.rtl_ir.specs.declared.module.Module.{Module}
@@ -120,6 +120,9 @@ plain (Script text) run print simulate = refl
 plain Run run print simulate = absurd (run refl)
 plain Print run print simulate = absurd (print refl)
 plain (Show name) run print simulate = refl
+plain Version run print simulate = refl
+plain Modules run print simulate = refl
+plain (Ports name) run print simulate = refl
 plain (SimSource ask) run print simulate = refl
 plain (SimNetlist ask) run print simulate = absurd (simulate ask refl)
 plain Quit run print simulate = refl
@@ -135,6 +138,9 @@ asked_none (Script text) s none = refl
 asked_none Run s none = absurd cc
 asked_none Print s none = absurd cc
 asked_none (Show name) s none = refl
+asked_none Version s none = refl
+asked_none Modules s none = refl
+asked_none (Ports name) s none = refl
 asked_none (SimSource ask) s none = refl
 asked_none (SimNetlist ask) s none = absurd cc
 asked_none Quit s none = refl

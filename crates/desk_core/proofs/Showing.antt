@@ -2,6 +2,7 @@
 use Rattle.std.proofs.Common.{◌≡◌, ℕ, List, [], ◌++◌, Option, Some, None, Result, Ok, Err, get_or, sym, ap, ◌∙◌}
 use Rattle.std.specs.Prelude.{IfOk, codes}
 use Rattle.std.specs.Fmt.{decimal}
+use Rattle.std.specs.List.{flat_map}
 use Rattle.std.specs.Option.{option_map_or}
 use Rattle.std.proofs.lemmas.Option.{slice_get-get_or}
 use Rattle.rtl_bits.specs.declared.bit.Bit.{Bit}
@@ -10,12 +11,14 @@ use Rattle.desk_read.specs.declared.command.Command.TheVariants.{SimNetlist}
 use Rattle.desk_read.specs.declared.command.SimAsk.{SimAsk}
 use Rattle.rtl_ir.specs.declared.module.Module.{Module}
 use Rattle.rtl_ir.specs.Faults.Recursion.{place_named}
+use Rattle.rtl_ir.specs.Ports.{ports_of}
 use Rattle.rtl_write.specs.Text.{module_text}
 use Rattle.design_edit.proofs.Naming.{named_at, place_within, unnamed}
 use Rattle.reply_lines.specs.declared.reply.Reply.{Reply}
 use Rattle.reply_lines.specs.Lines.{error_reply}
+use Rattle.net_model.specs.declared.order.Order.{Order}
 use Rattle.sim_trace.specs.Stimulus.{stimulus_of}
-use Rattle.desk_core.specs.Answers.{by_module, by_stimulus, printed_reply, refusal, show_answer, source_answer, source_reply, unchanged}
+use Rattle.desk_core.specs.Answers.{by_module, by_stimulus, port_line, ports_answer, printed_reply, refusal, show_answer, source_answer, source_reply, unchanged}
 use Rattle.desk_core.specs.Builds.{asked_by, if_stimulus, present_keys}
 use Rattle.desk_core.specs.State.{Answer, State, answer}
 
@@ -39,14 +42,22 @@ pub shown : (s : State) (name : List ℕ) (at : ℕ) (m : Module) (r : Result Re
 shown s name at m (Err memory) place is told = tt
 shown s name at m (Ok reply) place is told = ap (λ (r : Reply). answer r s) told ∙ sym (by_found s name at m (λ n. unchanged s (printed_reply (codes "") (module_text n))) place is)
 
--- the source of a module is run
-pub sourced : (s : State) (name text : List ℕ) (at : ℕ) (m : Module) (stimulus : List (List Bit)) (r : Result Reply Memory) → Some at ≡ place_named s.design.modules name → m ≡ get_or s.design.modules at m
-    → stimulus_of m text ≡ Ok stimulus → IfOk r (λ reply. reply ≡ source_reply s m stimulus) → IfOk r (λ reply. answer reply s ≡ source_answer s name text)
-sourced s name text at m stimulus (Err memory) place is reads told = tt
-sourced s name text at m stimulus (Ok reply) place is reads told =
+-- the ports of a module are listed
+pub ported : (s : State) (name : List ℕ) (at : ℕ) (m : Module) (r : Result Reply Memory) → Some at ≡ place_named s.design.modules name → m ≡ get_or s.design.modules at m
+    → IfOk r (λ reply. reply ≡ printed_reply [] (flat_map port_line (ports_of m.wires))) → IfOk r (λ reply. answer reply s ≡ ports_answer s name)
+ported s name at m (Err memory) place is told = tt
+ported s name at m (Ok reply) place is told =
     ap (λ (r : Reply). answer r s) told
-    ∙ sym (by_found s name at m (λ n. by_stimulus s (stimulus_of n text) (λ stimulus. unchanged s (source_reply s n stimulus))) place is
-    ∙ ap (λ (o : Result (List (List Bit)) ℕ). by_stimulus s o (λ stimulus. unchanged s (source_reply s m stimulus))) reads)
+    ∙ sym (by_found s name at m (λ n. unchanged s (printed_reply [] (flat_map port_line (ports_of n.wires)))) place is)
+
+-- the source of a module is run
+pub sourced : (s : State) (order : Order) (name text : List ℕ) (at : ℕ) (m : Module) (stimulus : List (List Bit)) (r : Result Reply Memory) → Some at ≡ place_named s.design.modules name → m ≡ get_or s.design.modules at m
+    → stimulus_of m text ≡ Ok stimulus → IfOk r (λ reply. reply ≡ source_reply s order m stimulus) → IfOk r (λ reply. answer reply s ≡ source_answer s order name text)
+sourced s order name text at m stimulus (Err memory) place is reads told = tt
+sourced s order name text at m stimulus (Ok reply) place is reads told =
+    ap (λ (r : Reply). answer r s) told
+    ∙ sym (by_found s name at m (λ n. by_stimulus s (stimulus_of n text) (λ stimulus. unchanged s (source_reply s order n stimulus))) place is
+    ∙ ap (λ (o : Result (List (List Bit)) ℕ). by_stimulus s o (λ stimulus. unchanged s (source_reply s order m stimulus))) reads)
 
 -- a line of the stimulus is bad
 pub bad_line : (s : State) (name text : List ℕ) (at : ℕ) (m : Module) (number : ℕ) (run : Module → List (List Bit) → Answer) (r : Result Reply Memory) → Some at ≡ place_named s.design.modules name → m ≡ get_or s.design.modules at m

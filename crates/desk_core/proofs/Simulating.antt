@@ -20,6 +20,7 @@ use Rattle.script_core.specs.Cold.{cold, named, outcome_of}
 use Rattle.script_core.specs.Built.{unnamed}
 use Rattle.script_core.specs.Fold.{fold_script}
 use Rattle.script_core.specs.Reached.{below_of, table_of}
+use Rattle.net_model.specs.declared.order.Order.{Order}
 use Rattle.sim_trace.specs.Stimulus.{stimulus_of, trace_text}
 use Rattle.desk_core.specs.declared.runs.Told.{Told}
 use Rattle.desk_core.specs.declared.runs.Told.TheVariants.{Built, Over as WasOver}
@@ -96,13 +97,13 @@ inside [] name at h = absurd (let no : None ≡ Some at = h in cc)
 inside (m ∷ ms) name at h = place_within (m ∷ ms) name at m h
 
 -- the reply of the trace of the module at a place of the netlist
-module _ (at : ℕ) (words : List ℕ) (stimulus : List (List Bit)) where
+module _ (order : Order) (at : ℕ) (words : List ℕ) (stimulus : List (List Bit)) where
   abbrev traced_reply : Design → Module → Reply
-  traced_reply netlist m = ok_reply (ok_line (words ++ counted (codes "steps") (length stimulus)) ++ trace_text netlist m stimulus)
+  traced_reply netlist m = ok_reply (ok_line (words ++ counted (codes "steps") (length stimulus)) ++ trace_text order netlist m stimulus)
 
   told_at : (s : State) (name : List ℕ) (reply : Reply) → Built words ≡ told_of s → place_named s.design.modules name ≡ Some at
       → ((m : Module) → slice_get (netlist_of s).modules at ≡ Some m → reply ≡ traced_reply (netlist_of s) m)
-      → reply ≡ (netlist_answer s (netlist_reply s name stimulus (module_named (netlist_of s).modules name))).reply
+      → reply ≡ (netlist_answer s (netlist_reply s order name stimulus (module_named (netlist_of s).modules name))).reply
   told_at s name reply told place traces =
       let over = over_words s.design.modules (cold s.script s.design) in
       let none : over ≡ None = none_over_built s words over told in
@@ -110,13 +111,13 @@ module _ (at : ℕ) (words : List ℕ) (stimulus : List (List Bit)) where
       let one = item (netlist_of s).modules at (within_netlist s words (netlist_of s).modules at told refl (inside s.design.modules name at place)) in
       let own : module_named (netlist_of s).modules name ≡ Some one.0 = named_at (netlist_of s).modules name at one.0 there ∙ one.1 in
       traces one.0 one.1
-      ∙ reply_built s (λ w. ok_reply (ok_line (w ++ counted (codes "steps") (length stimulus)) ++ trace_text (netlist_of s) one.0 stimulus)) words over told
-      ∙ ap (λ (o : Option Module). unless_over s (netlist_reply s name stimulus o) over) (sym own)
+      ∙ reply_built s (λ w. ok_reply (ok_line (w ++ counted (codes "steps") (length stimulus)) ++ trace_text order (netlist_of s) one.0 stimulus)) words over told
+      ∙ ap (λ (o : Option Module). unless_over s (netlist_reply s order name stimulus o) over) (sym own)
 
   pub trace_told : (told : Told) (outcomes : List Outcome) (r : Result Reply Memory) → told ≡ Built words
       → ((m : Module) → slice_get (done_modules outcomes) at ≡ Some m → IfOk r (λ reply. reply ≡ traced_reply (record { modules = done_modules outcomes }) m))
       → IfOk r (λ reply. (s : State) (name : List ℕ) → told ≡ told_of s → outcomes ≡ cold s.script s.design → place_named s.design.modules name ≡ Some at
-      → reply ≡ (netlist_answer s (netlist_reply s name stimulus (module_named (netlist_of s).modules name))).reply)
+      → reply ≡ (netlist_answer s (netlist_reply s order name stimulus (module_named (netlist_of s).modules name))).reply)
   trace_told told outcomes (Err memory) built traces = tt
   trace_told told outcomes (Ok reply) built traces = λ s name same are place.
       told_at s name reply (sym built ∙ same) place
@@ -125,11 +126,11 @@ module _ (at : ℕ) (words : List ℕ) (stimulus : List (List Bit)) where
       ∙ ap (λ (os : List Outcome). traced_reply (record { modules = done_modules os }) m) are)
 
 -- a module of the netlist is run over the stimulus of a text
-pub simulated : (s after : State) (name text : List ℕ) (at : ℕ) (m : Module) (stimulus : List (List Bit)) (r : Result Reply Memory) → Some at ≡ place_named s.design.modules name → m ≡ get_or s.design.modules at m
-    → stimulus_of m text ≡ Ok stimulus → IfOk r (λ reply. answer reply after ≡ netlist_answer s (netlist_reply s name stimulus (module_named (netlist_of s).modules name)))
-    → IfOk r (λ reply. answer reply after ≡ netlist_run_answer s name text)
-simulated s after name text at m stimulus (Err memory) place is reads told = tt
-simulated s after name text at m stimulus (Ok reply) place is reads told =
+pub simulated : (s after : State) (order : Order) (name text : List ℕ) (at : ℕ) (m : Module) (stimulus : List (List Bit)) (r : Result Reply Memory) → Some at ≡ place_named s.design.modules name → m ≡ get_or s.design.modules at m
+    → stimulus_of m text ≡ Ok stimulus → IfOk r (λ reply. answer reply after ≡ netlist_answer s (netlist_reply s order name stimulus (module_named (netlist_of s).modules name)))
+    → IfOk r (λ reply. answer reply after ≡ netlist_run_answer s order name text)
+simulated s after order name text at m stimulus (Err memory) place is reads told = tt
+simulated s after order name text at m stimulus (Ok reply) place is reads told =
     told
-    ∙ sym (by_found s name at m (λ n. by_stimulus s (stimulus_of n text) (λ steps. netlist_answer s (netlist_reply s name steps (module_named (netlist_of s).modules name)))) place is
-    ∙ ap (λ (o : Result (List (List Bit)) ℕ). by_stimulus s o (λ steps. netlist_answer s (netlist_reply s name steps (module_named (netlist_of s).modules name)))) reads)
+    ∙ sym (by_found s name at m (λ n. by_stimulus s (stimulus_of n text) (λ steps. netlist_answer s (netlist_reply s order name steps (module_named (netlist_of s).modules name)))) place is
+    ∙ ap (λ (o : Result (List (List Bit)) ℕ). by_stimulus s o (λ steps. netlist_answer s (netlist_reply s order name steps (module_named (netlist_of s).modules name)))) reads)

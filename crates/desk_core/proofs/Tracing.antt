@@ -24,6 +24,7 @@ use Rattle.script_core.proofs.Stepping.{starts}
 use Rattle.sim_text.specs.Digits.{digit_of}
 use Rattle.sim_text.specs.Lines.{port_words, step_line, word_of}
 use Rattle.sim_text.specs.Ports.{port_widths, same_role}
+use Rattle.net_model.specs.declared.order.Order.{Order}
 use Rattle.sim_trace.specs.Stimulus.{stimulus_of, trace_text}
 use Rattle.desk_core.specs.Answers.{by_stimulus, netlist_reply, netlist_run_answer, refusal, source_reply, unchanged}
 use Rattle.desk_core.specs.Netlist.{netlist_answer, netlist_of, over_words, unless_over}
@@ -120,12 +121,12 @@ lines_below widths (x ∷ a) (y ∷ b) h =
     (lines_below widths a b h.1)
 
 -- the traces of a module and of one that it is below
-traces_below : (d e : Design) (m n : Module) (stimulus : List (List Bit)) → ModuleBelow d e m n → IsTraceBelow (trace_text d m stimulus) (trace_text e n stimulus)
-traces_below d e m n stimulus h =
+traces_below : (order : Order) (d e : Design) (m n : Module) (stimulus : List (List Bit)) → ModuleBelow d e m n → IsTraceBelow (trace_text order d m stimulus) (trace_text order e n stimulus)
+traces_below order d e m n stimulus h =
     let widths : port_widths Output m ≡ port_widths Output n =
     ap (λ (ports : List PortLine). map (λ (p : PortLine). p.width) (filter (λ (p : PortLine). same_role Output p.role) ports)) h.1 in
-    subst (λ (w : List ℕ). IsTraceBelow (trace_text d m stimulus) (lines w (run_of e n stimulus))) widths
-    (lines_below (port_widths Output m) (run_of d m stimulus) (run_of e n stimulus) (h.2 stimulus))
+    subst (λ (w : List ℕ). IsTraceBelow (trace_text order d m stimulus) (lines w (run_of order e n stimulus))) widths
+    (lines_below (port_widths Output m) (run_of order d m stimulus) (run_of order e n stimulus) (h.2 order stimulus))
 
 -- the modules of one name
 named_below : (d e : Design) (ms ns : List Module) (name : List ℕ) (m n : Module) → ModulesBelow d e ms ns → module_named ms name ≡ Some m → module_named ns name ≡ Some n → ModuleBelow d e m n
@@ -147,49 +148,49 @@ named_below d e (x ∷ ms) (y ∷ ns) name m n h im iv =
         let same : bytes_eq y.id name ≡ false = ap (λ (i : List ℕ). bytes_eq i name) (sym h.0.0) ∙ is in
         later jm (ap (λ (t : Bool). cond t (Some y) (module_named ns name)) (sym same) ∙ jn)
 
-module _ (s : State) (readable : IsReadable s.design) (fine : check_faults s.design.modules ≡ []) (script : IsScript s.script) (name text : List ℕ) where
+module _ (s : State) (readable : IsReadable s.design) (fine : check_faults s.design.modules ≡ []) (script : IsScript s.script) (order : Order) (name text : List ℕ) where
   refined : over_words s.design.modules (cold s.script s.design) ≡ None → Refines s.design (netlist_of s)
   refined none =
       cold_refines s.design readable fine s.script (starts s.script script) (netlist_of s)
       (none_over (outcome_of s.script s.design.modules) s.design.modules none)
 
   traces : (m n : Module) (stimulus : List (List Bit)) → module_named s.design.modules name ≡ Some m → stimulus_of m text ≡ Ok stimulus → module_named (netlist_of s).modules name ≡ Some n
-      → over_words s.design.modules (cold s.script s.design) ≡ None → HasTraces s name text
+      → over_words s.design.modules (cold s.script s.design) ≡ None → HasTraces s order name text
   traces m n stimulus there reads own none = record {
     source = m;
     target = n;
     stimulus = stimulus;
     source_is =
-        ap (λ (o : Option Module). (option_map_or (λ (k : Module). by_stimulus s (stimulus_of k text) (λ steps. unchanged s (source_reply s k steps))) o (refusal s (codes "18 " ++ name))).reply) there
-        ∙ ap (λ (o : Result (List (List Bit)) ℕ). (by_stimulus s o (λ steps. unchanged s (source_reply s m steps))).reply) reads;
+        ap (λ (o : Option Module). (option_map_or (λ (k : Module). by_stimulus s (stimulus_of k text) (λ steps. unchanged s (source_reply s order k steps))) o (refusal s (codes "18 " ++ name))).reply) there
+        ∙ ap (λ (o : Result (List (List Bit)) ℕ). (by_stimulus s o (λ steps. unchanged s (source_reply s order m steps))).reply) reads;
     netlist_is =
-        ap (λ (o : Option Module). (option_map_or (λ (k : Module). by_stimulus s (stimulus_of k text) (λ steps. netlist_answer s (netlist_reply s name steps (module_named (netlist_of s).modules name)))) o (refusal s (codes "18 " ++ name))).reply) there
-        ∙ ap (λ (o : Result (List (List Bit)) ℕ). (by_stimulus s o (λ steps. netlist_answer s (netlist_reply s name steps (module_named (netlist_of s).modules name)))).reply) reads
-        ∙ ap (unless_over s (netlist_reply s name stimulus (module_named (netlist_of s).modules name))) none
-        ∙ ap (netlist_reply s name stimulus) own;
-    below = traces_below s.design (netlist_of s) m n stimulus (named_below s.design (netlist_of s) s.design.modules (netlist_of s).modules name m n (refined none) there own);
+        ap (λ (o : Option Module). (option_map_or (λ (k : Module). by_stimulus s (stimulus_of k text) (λ steps. netlist_answer s (netlist_reply s order name steps (module_named (netlist_of s).modules name)))) o (refusal s (codes "18 " ++ name))).reply) there
+        ∙ ap (λ (o : Result (List (List Bit)) ℕ). (by_stimulus s o (λ steps. netlist_answer s (netlist_reply s order name steps (module_named (netlist_of s).modules name)))).reply) reads
+        ∙ ap (unless_over s (netlist_reply s order name stimulus (module_named (netlist_of s).modules name))) none
+        ∙ ap (netlist_reply s order name stimulus) own;
+    below = traces_below order s.design (netlist_of s) m n stimulus (named_below s.design (netlist_of s) s.design.modules (netlist_of s).modules name m n (refined none) there own);
   }
 
-  pub has_traces : (netlist_run_answer s name text).reply.error ≡ false → HasTraces s name text
+  pub has_traces : (netlist_run_answer s order name text).reply.error ≡ false → HasTraces s order name text
   has_traces ok = by_named (module_named s.design.modules name) refl ok
     where
       by_target : (m : Module) (stimulus : List (List Bit)) → module_named s.design.modules name ≡ Some m → stimulus_of m text ≡ Ok stimulus → over_words s.design.modules (cold s.script s.design) ≡ None
-          → (found : Option Module) → module_named (netlist_of s).modules name ≡ found → (netlist_reply s name stimulus found).error ≡ false → HasTraces s name text
+          → (found : Option Module) → module_named (netlist_of s).modules name ≡ found → (netlist_reply s order name stimulus found).error ≡ false → HasTraces s order name text
       by_target m stimulus there reads none None own h = absurd (true≢false h)
       by_target m stimulus there reads none (Some n) own h = traces m n stimulus there reads own none
 
       by_over : (m : Module) (stimulus : List (List Bit)) → module_named s.design.modules name ≡ Some m → stimulus_of m text ≡ Ok stimulus → (over : Option (List ℕ)) → over_words s.design.modules (cold s.script s.design) ≡ over
-          → (unless_over s (netlist_reply s name stimulus (module_named (netlist_of s).modules name)) over).error ≡ false → HasTraces s name text
+          → (unless_over s (netlist_reply s order name stimulus (module_named (netlist_of s).modules name)) over).error ≡ false → HasTraces s order name text
       by_over m stimulus there reads None none h = by_target m stimulus there reads none (module_named (netlist_of s).modules name) refl h
       by_over m stimulus there reads (Some words) none h = absurd (true≢false h)
 
       by_read : (m : Module) → module_named s.design.modules name ≡ Some m → (steps : Result (List (List Bit)) ℕ) → stimulus_of m text ≡ steps
-          → (by_stimulus s steps (λ stimulus. netlist_answer s (netlist_reply s name stimulus (module_named (netlist_of s).modules name)))).reply.error ≡ false → HasTraces s name text
+          → (by_stimulus s steps (λ stimulus. netlist_answer s (netlist_reply s order name stimulus (module_named (netlist_of s).modules name)))).reply.error ≡ false → HasTraces s order name text
       by_read m there (Err number) reads h = absurd (true≢false h)
       by_read m there (Ok stimulus) reads h = by_over m stimulus there reads (over_words s.design.modules (cold s.script s.design)) refl h
 
       by_named : (found : Option Module) → module_named s.design.modules name ≡ found
-          → (option_map_or (λ (m : Module). by_stimulus s (stimulus_of m text) (λ stimulus. netlist_answer s (netlist_reply s name stimulus (module_named (netlist_of s).modules name)))) found (refusal s (codes "18 " ++ name))).reply.error ≡ false
-          → HasTraces s name text
+          → (option_map_or (λ (m : Module). by_stimulus s (stimulus_of m text) (λ stimulus. netlist_answer s (netlist_reply s order name stimulus (module_named (netlist_of s).modules name)))) found (refusal s (codes "18 " ++ name))).reply.error ≡ false
+          → HasTraces s order name text
       by_named None there h = absurd (true≢false h)
       by_named (Some m) there h = by_read m there (stimulus_of m text) refl h

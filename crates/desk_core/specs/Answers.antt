@@ -2,11 +2,16 @@
 use Rattle.std.specs.Prelude.{◌≡◌, ◌⊎◌, ℕ, ◌≤◌, List, [], ◌++◌, Option, Some, None, Result, Ok, Err, codes, length, if◌then◌else◌}
 use Rattle.std.specs.Option.{option_map_or}
 use Rattle.std.specs.Fmt.{decimal}
+use Rattle.std.specs.List.{flat_map}
 use Rattle.rtl_bits.specs.declared.bit.Bit.{Bit}
 use Rattle.rtl_ir.specs.declared.module.Design.{Design}
 use Rattle.rtl_ir.specs.declared.module.Module.{Module}
 use Rattle.rtl_ir.specs.declared.limits.TheConstants.{MAX_MODULES}
+use Rattle.rtl_ir.specs.declared.ports.PortLine.{PortLine}
+use Rattle.rtl_ir.specs.declared.wire.Role.{Role}
+use Rattle.rtl_ir.specs.declared.wire.Role.TheVariants.{Inner, Input, Output, Inout}
 use Rattle.rtl_ir.specs.Faults.{check_faults}
+use Rattle.rtl_ir.specs.Ports.{ports_of}
 use Rattle.rtl_ir.specs.Types.{module_named}
 use Rattle.rtl_lex.specs.Items.{Seen}
 use Rattle.rtl_lex.specs.Place.{place_text}
@@ -23,6 +28,7 @@ use Rattle.design_edit.specs.Modules.{PassesAt, has_module, with_modules, withou
 use Rattle.design_edit.specs.Places.{module_place}
 use Rattle.desk_core.specs.Netlist.{built_words, netlist_answer, netlist_of}
 use Rattle.desk_core.specs.State.{Answer, State}
+use Rattle.net_model.specs.declared.order.Order.{Order}
 use Rattle.sim_trace.specs.Stimulus.{stimulus_of, trace_text}
 
 -- a reply that leaves the state as it was
@@ -105,27 +111,56 @@ abbrev pub show_answer : State → List ℕ → Answer
 show_answer s name = by_module s name (λ m.
     unchanged s (printed_reply [] (module_text m)))
 
+-- the version of the program is written
+abbrev pub version_answer : State → Answer
+version_answer s = unchanged s (printed_reply [] (codes "rtlsyn 2026.12\n"))
+
+-- the names of modules, one a line
+abbrev pub names_text : List Module → List ℕ
+names_text modules = flat_map (λ m. m.id ++ codes "\n") modules
+
+-- the names of the present modules are written
+abbrev pub modules_answer : State → Answer
+modules_answer s = unchanged s (printed_reply [] (names_text s.design.modules))
+
+-- the word of the role of a port
+abbrev pub direction : Role → List ℕ
+direction Inner = codes "inner"
+direction Input = codes "input"
+direction Output = codes "output"
+direction Inout = codes "inout"
+
+-- the line of a port: its name, its direction and its width
+abbrev pub port_line : PortLine → List ℕ
+port_line port = port.name ++ codes " " ++ direction port.role ++ codes " " ++ decimal port.width ++ codes "\n"
+
+-- the ports of a module are written, in the order of their numbers
+abbrev pub ports_answer : State → List ℕ → Answer
+ports_answer s name = by_module s name (λ m.
+    unchanged s (printed_reply [] (flat_map port_line (ports_of m.wires))))
+
 -- what is answered by the stimulus of a text: an error where a line of it is bad
 abbrev pub by_stimulus : State → Result (List (List Bit)) ℕ → (List (List Bit) → Answer) → Answer
 by_stimulus s (Ok stimulus) answer = answer stimulus
 by_stimulus s (Err number) answer = refusal s (codes "23 " ++ decimal number)
 
--- a module's source is run over a stimulus
-abbrev pub source_reply : State → Module → List (List Bit) → Reply
-source_reply s m stimulus = ok_reply (ok_line (counted (codes "steps") (length stimulus)) ++ trace_text s.design m stimulus)
+-- a module's source is run in an order of time over a stimulus
+abbrev pub source_reply : State → Order → Module → List (List Bit) → Reply
+source_reply s order m stimulus =
+    ok_reply (ok_line (counted (codes "steps") (length stimulus)) ++ trace_text order s.design m stimulus)
 
-abbrev pub source_answer : State → List ℕ → List ℕ → Answer
-source_answer s name text = by_module s name (λ m.
-    by_stimulus s (stimulus_of m text) (λ stimulus. unchanged s (source_reply s m stimulus)))
+abbrev pub source_answer : State → Order → List ℕ → List ℕ → Answer
+source_answer s order name text = by_module s name (λ m.
+    by_stimulus s (stimulus_of m text) (λ stimulus. unchanged s (source_reply s order m stimulus)))
 
--- a module of the netlist is run over a stimulus
-abbrev pub netlist_reply : State → List ℕ → List (List Bit) → Option Module → Reply
-netlist_reply s name stimulus None = error_reply (codes "18 " ++ name)
-netlist_reply s name stimulus (Some m) =
-    ok_reply (ok_line (built_words s ++ counted (codes "steps") (length stimulus)) ++ trace_text (netlist_of s) m stimulus)
+-- a module of the netlist is run in an order of time over a stimulus
+abbrev pub netlist_reply : State → Order → List ℕ → List (List Bit) → Option Module → Reply
+netlist_reply s order name stimulus None = error_reply (codes "18 " ++ name)
+netlist_reply s order name stimulus (Some m) =
+    ok_reply (ok_line (built_words s ++ counted (codes "steps") (length stimulus)) ++ trace_text order (netlist_of s) m stimulus)
 
 -- as for `run`, and then the module of the netlist is run
-abbrev pub netlist_run_answer : State → List ℕ → List ℕ → Answer
-netlist_run_answer s name text = by_module s name (λ m.
+abbrev pub netlist_run_answer : State → Order → List ℕ → List ℕ → Answer
+netlist_run_answer s order name text = by_module s name (λ m.
     by_stimulus s (stimulus_of m text) (λ stimulus.
-    netlist_answer s (netlist_reply s name stimulus (module_named (netlist_of s).modules name))))
+    netlist_answer s (netlist_reply s order name stimulus (module_named (netlist_of s).modules name))))

@@ -1,9 +1,9 @@
 -- The steps of a desk.
 use Rattle.std.specs.Prelude.{◌≡◌, List, [], ◌∷◌, codes}
 use Rattle.desk_read.specs.declared.command.Command.{Command}
-use Rattle.desk_read.specs.declared.command.Command.TheVariants.{Load, Edit, Remove, Script, Run, Print, Show, SimSource, SimNetlist, Quit, Bad, Unclosed}
+use Rattle.desk_read.specs.declared.command.Command.TheVariants.{Load, Edit, Remove, Script, Run, Print, Show, Version, Modules, Ports, SimSource, SimNetlist, Quit, Bad, Unclosed}
 use Rattle.reply_lines.specs.declared.reply.Reply.{Reply}
-use Rattle.desk_core.specs.Answers.{IsEditAnswer, IsLoadAnswer, netlist_run_answer, print_answer, refusal, remove_answer, run_answer, script_answer, show_answer, source_answer, unchanged}
+use Rattle.desk_core.specs.Answers.{IsEditAnswer, IsLoadAnswer, modules_answer, netlist_run_answer, ports_answer, print_answer, refusal, remove_answer, run_answer, script_answer, show_answer, source_answer, unchanged, version_answer}
 use Rattle.reply_lines.specs.Lines.{last_reply}
 use Rattle.desk_core.specs.State.{Answer, State, answer}
 
@@ -16,8 +16,11 @@ IsAnswer s (Script text) a = a ≡ script_answer s text
 IsAnswer s Run a = a ≡ run_answer s
 IsAnswer s Print a = a ≡ print_answer s
 IsAnswer s (Show name) a = a ≡ show_answer s name
-IsAnswer s (SimSource ask) a = a ≡ source_answer s ask.module ask.steps
-IsAnswer s (SimNetlist ask) a = a ≡ netlist_run_answer s ask.module ask.steps
+IsAnswer s Version a = a ≡ version_answer s
+IsAnswer s Modules a = a ≡ modules_answer s
+IsAnswer s (Ports name) a = a ≡ ports_answer s name
+IsAnswer s (SimSource ask) a = a ≡ source_answer s ask.order ask.module ask.steps
+IsAnswer s (SimNetlist ask) a = a ≡ netlist_run_answer s ask.order ask.module ask.steps
 IsAnswer s Quit a = a ≡ unchanged s last_reply
 IsAnswer s Bad a = a ≡ refusal s (codes "21")
 IsAnswer s Unclosed a = a ≡ refusal s (codes "22")

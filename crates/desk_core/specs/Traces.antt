@@ -2,6 +2,7 @@
 use Rattle.std.specs.Prelude.{◌≡◌, ◌⊎◌, ℕ, List, [], ◌∷◌, Some}
 use Rattle.rtl_bits.specs.declared.bit.Bit.{Bit}
 use Rattle.rtl_ir.specs.declared.module.Module.{Module}
+use Rattle.net_model.specs.declared.order.Order.{Order}
 use Rattle.sim_trace.specs.Stimulus.{trace_text}
 use Rattle.desk_core.specs.Answers.{netlist_reply, netlist_run_answer, source_answer, source_reply}
 use Rattle.desk_core.specs.Netlist.{netlist_of}
@@ -18,11 +19,12 @@ IsTraceBelow [] (b ∷ bs) = ⊥
 IsTraceBelow (a ∷ as') [] = ⊥
 IsTraceBelow (a ∷ as') (b ∷ bs) = SaysNoMore a b × IsTraceBelow as' bs
 
--- `sim source` and `sim netlist` of a module over a stimulus are answered with traces, and the first is below the second
-pub record HasTraces (s : State) (name text : List ℕ) : Type 0 where
+-- `sim source` and `sim netlist` of a module over a stimulus are answered in an order of time with traces, and the first is below
+-- the second
+pub record HasTraces (s : State) (order : Order) (name text : List ℕ) : Type 0 where
   pub source : Module
   pub target : Module
   pub stimulus : List (List Bit)
-  pub source_is : (source_answer s name text).reply ≡ source_reply s source stimulus
-  pub netlist_is : (netlist_run_answer s name text).reply ≡ netlist_reply s name stimulus (Some target)
-  pub below : IsTraceBelow (trace_text s.design source stimulus) (trace_text (netlist_of s) target stimulus)
+  pub source_is : (source_answer s order name text).reply ≡ source_reply s order source stimulus
+  pub netlist_is : (netlist_run_answer s order name text).reply ≡ netlist_reply s order name stimulus (Some target)
+  pub below : IsTraceBelow (trace_text order s.design source stimulus) (trace_text order (netlist_of s) target stimulus)

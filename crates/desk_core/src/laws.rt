@@ -9,6 +9,7 @@ ghost use Rattle.script_core.specs.Words.{IsScript};
 ghost use Rattle.reply_lines.specs.declared.reply.Reply.{Reply};
 ghost use Rattle.script_core.specs.declared.built.Built.{Built};
 ghost use Rattle.desk_core.specs.Ages.{texts_of};
+ghost use Rattle.net_model.specs.declared.order.Order.{Order};
 ghost use Rattle.desk_core.specs.Answers.{netlist_run_answer, print_answer};
 ghost use Rattle.desk_core.specs.Crew.{Crew, Event};
 ghost use Rattle.desk_core.specs.CrewBuilds.{AgreesWithDesk, BuildHolds, IsBuild};
@@ -59,10 +60,10 @@ pub fn crew_runs()
         AgreesWithDesk s last }
 {}
 
-/// Where `sim netlist` is answered with a trace, so is `sim source` of the same module over the same stimulus, and the
-/// trace of the source is below that of the netlist: of each step and output bit it says no more.
+/// Where `sim netlist` is answered with a trace, so is `sim source` of the same module over the same stimulus in the same
+/// order of time, and the trace of the source is below that of the netlist: of each step and output bit it says no more.
 pub fn source_traces_are_below()
     ensures { (s : State) → IsReadable s.design → check_faults s.design.modules ≡ [] → IsScript s.script →
-        (name text : List ℕ) →
-        (netlist_run_answer s name text).reply.error ≡ false → HasTraces s name text }
+        (order : Order) (name text : List ℕ) →
+        (netlist_run_answer s order name text).reply.error ≡ false → HasTraces s order name text }
 {}

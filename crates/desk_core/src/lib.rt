@@ -15,6 +15,7 @@ mod kept;
 mod key_order;
 mod keys;
 pub mod laws;
+mod listing;
 mod modules;
 mod needed;
 mod netlist;

@@ -25,10 +25,11 @@ use crate::netlist::netlist_modules;
 use crate::runs::{Told, over_reply, tell};
 use design_edit::place_named;
 use desk_read::SimAsk;
+use net_model::Order;
 use reply_lines::{Reply, number_reply, ok_line, ok_reply, put_counted, told_reply};
 use rtl_bits::{Bits, Memory, Steps, Text};
 use rtl_check::Checked;
-use sim_trace::{StimulusFault, put_titled_trace, stimulus_of};
+use sim_trace::{StimulusFault, put_titled_trace_in, stimulus_of};
 use std::alloc::Global;
 use std::marker::{Send, Sync};
 use std::sync::Wait;
@@ -45,7 +46,7 @@ impl Desk {
         meter: &mut Steps<L>,
     ) -> Result<Reply, Memory>
         ensures ok { IfOk result (λ reply. answer reply self.new.state ≡
-            netlist_run_answer self.old.state ask.now.module ask.now.steps) }
+            netlist_run_answer self.old.state ask.now.order ask.now.module ask.now.steps) }
         ensures claims { OnOk result (HasClaims (asked_by (SimNetlist ask.now) self.old.state) self.old.seats
             self.new.seats) }
         ensures ticks { OnOk result (RisesUpTo (builds_of (SimNetlist ask.now) self.old.state) meter.old meter.new) }
@@ -58,7 +59,7 @@ impl Desk {
             return told_reply(self.present.alloc, b"18 ", ask.module.as_slice());
         };
         match stimulus_of(self.present.alloc, &modules[at], ask.steps.as_slice()) {
-            Ok(stimulus) => self.netlist_trace(crew, at, stimulus.as_slice(), meter),
+            Ok(stimulus) => self.netlist_trace(crew, at, ask.order, stimulus.as_slice(), meter),
             Err(StimulusFault::Bad(number)) => number_reply(self.present.alloc, b"23 ", number),
             Err(StimulusFault::Memory) => Err(Memory),
         }
@@ -70,6 +71,7 @@ impl Desk {
         &mut self,
         crew: &Crew<R, G>,
         at: usize,
+        order: Order,
         stimulus: &[Bits],
         meter: &mut Steps<L>,
     ) -> Result<Reply, Memory>
@@ -77,7 +79,7 @@ impl Desk {
         ensures ok { (name : List ℕ) → place_named self.old.state.design.modules name ≡ Some at →
             IfOk result (λ reply. answer reply self.new.state ≡
             netlist_answer self.old.state
-            (netlist_reply self.old.state name stimulus.now (module_named (netlist_of self.old.state).modules name))) }
+            (netlist_reply self.old.state order name stimulus.now (module_named (netlist_of self.old.state).modules name))) }
         ensures claims { OnOk result (HasClaims (present_keys self.old.state) self.old.seats self.new.seats) }
         ensures ticks { OnOk result (RisesUpTo (built_count self.old.state) meter.old meter.new) }
         ensures err { OnErr result (KeepsAll self.old.state self.new.state) }
@@ -95,18 +97,19 @@ impl Desk {
         )?;
         let found = self.results.found.as_slice();
         let design = &self.present.design;
-        let reply = trace_reply(self.present.alloc, design, found, at, stimulus, told)?;
+        let reply = trace_reply(self.present.alloc, design, found, at, order, stimulus, told)?;
         self.results.end(crew.rt, &needed);
         Ok(reply)
     }
 }
 
-/// The reply of the trace of the module at this place of the netlist, behind a line with these words.
+/// The reply of the trace of the module at this place of the netlist in an order of time, behind a line with these words.
 pub fn traced(
     alloc: Global,
     design: &Checked,
     found: &[Option<Kept>],
     at: usize,
+    order: Order,
     stimulus: &[Bits],
     words: Text,
 ) -> Result<Reply, Memory>
@@ -116,7 +119,7 @@ pub fn traced(
     ensures value { («module» : Module) →
         slice_get (done_modules (outcomes_of design.now.design.modules found.now)) at ≡ Some «module» →
         IfOk result (λ reply. reply ≡ ok_reply (ok_line (words ++ counted (codes "steps") (length stimulus.now)) ++
-        trace_text (record {
+        trace_text order (record {
           modules =
               done_modules (outcomes_of design.now.design.modules found.now);
         }) «module» stimulus.now)) }
@@ -126,7 +129,7 @@ pub fn traced(
     let mut words = words;
     put_counted(&mut words, b"steps", stimulus.len())?;
     let mut text = ok_line(alloc, words.as_slice())?;
-    put_titled_trace(&mut text, netlist.as_slice(), at, stimulus)?;
+    put_titled_trace_in(&mut text, netlist.as_slice(), at, stimulus, order)?;
     Ok(ok_reply(text))
 }
 
@@ -136,6 +139,7 @@ pub fn trace_reply(
     design: &Checked,
     found: &[Option<Kept>],
     at: usize,
+    order: Order,
     stimulus: &[Bits],
     told: Told,
 ) -> Result<Reply, Memory>
@@ -146,10 +150,10 @@ pub fn trace_reply(
         outcomes_of design.now.design.modules found.now ≡ cold s.script s.design →
         place_named s.design.modules name ≡ Some at →
         reply ≡ (netlist_answer s
-        (netlist_reply s name stimulus.now (module_named (netlist_of s).modules name))).reply) }
+        (netlist_reply s order name stimulus.now (module_named (netlist_of s).modules name))).reply) }
 {
     match told {
-        Told::Built(words) => traced(alloc, design, found, at, stimulus, words),
+        Told::Built(words) => traced(alloc, design, found, at, order, stimulus, words),
         Told::Over(words) => over_reply(alloc, words),
     }
 }

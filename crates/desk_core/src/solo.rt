@@ -64,7 +64,7 @@ impl SoloDesk {
     /// Answers a command. The cache is asked, with the seat, for the keys of the command that the desk does not keep.
     /// Each build of a module is a step of the meter. It may wait for other seats.
     ///
-    /// After an error the design and the script are as before; further keys may be kept, each with its result.
+    /// After an error the state is as before; the cache may have further results.
     #[tactic(auto, using(crate::proofs::Changing::plain, crate::proofs::Rises::rises_none, crate::proofs::OwnCalls::builds_none))]
     pub fn command<R: Wait, L>(
         &mut self,

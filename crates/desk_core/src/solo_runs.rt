@@ -26,6 +26,7 @@ use crate::simulate::trace_reply;
 use crate::solo::SoloDesk;
 use design_edit::place_named;
 use desk_read::SimAsk;
+use net_model::Order;
 use reply_lines::{Reply, number_reply, told_reply};
 use result_cache::Seat;
 use rtl_bits::{Bits, Memory, Steps};
@@ -138,7 +139,7 @@ impl SoloDesk {
         requires idle { IsIdle access.now.cache.now.table.shared.table_id seat.old }
         ensures idle { IsIdle access.now.cache.now.table.shared.table_id seat.new }
         ensures ok { IfOk result (λ reply. answer reply self.new ≡
-            netlist_run_answer self.old ask.now.module ask.now.steps) }
+            netlist_run_answer self.old ask.now.order ask.now.module ask.now.steps) }
         ensures built { OnOk result (Builds (texts_of self.old.kept) (asked_by (SimNetlist ask.now) self.old) seat.old
             seat.new meter.old meter.new) }
         ensures ticks { RisesUpTo (builds_of (SimNetlist ask.now) self.old) meter.old meter.new }
@@ -150,7 +151,9 @@ impl SoloDesk {
             return told_reply(alloc, b"18 ", ask.module.as_slice());
         };
         match stimulus_of(alloc, &modules[at], ask.steps.as_slice()) {
-            Ok(stimulus) => self.netlist_trace(access, at, stimulus.as_slice(), seat, meter),
+            Ok(stimulus) => {
+                self.netlist_trace(access, at, ask.order, stimulus.as_slice(), seat, meter)
+            }
             Err(StimulusFault::Bad(number)) => number_reply(alloc, b"23 ", number),
             Err(StimulusFault::Memory) => Err(Memory),
         }
@@ -162,6 +165,7 @@ impl SoloDesk {
         &mut self,
         access: &Access<R>,
         at: usize,
+        order: Order,
         stimulus: &[Bits],
         seat: &mut Seat,
         meter: &mut Steps<L>,
@@ -171,7 +175,7 @@ impl SoloDesk {
         ensures idle { IsIdle access.now.cache.now.table.shared.table_id seat.new }
         ensures ok { (name : List ℕ) → place_named self.old.design.modules name ≡ Some at →
             IfOk result (λ reply. answer reply self.new ≡ netlist_answer self.old
-            (netlist_reply self.old name stimulus.now (module_named (netlist_of self.old).modules name))) }
+            (netlist_reply self.old order name stimulus.now (module_named (netlist_of self.old).modules name))) }
         ensures built { OnOk result (Builds (texts_of self.old.kept) (present_keys self.old) seat.old seat.new
             meter.old meter.new) }
         ensures ticks { RisesUpTo (built_count self.old) meter.old meter.new }
@@ -182,7 +186,7 @@ impl SoloDesk {
         let (told, needed) = tell(access, &self.present, &mut self.results, seat, meter)?;
         let found = self.results.found.as_slice();
         let design = &self.present.design;
-        let reply = trace_reply(access.alloc, design, found, at, stimulus, told)?;
+        let reply = trace_reply(access.alloc, design, found, at, order, stimulus, told)?;
         self.results.end(&needed);
         Ok(reply)
     }

@@ -18,8 +18,8 @@ is_end line = bytes_eq line (codes ".")
 abbrev pub block_command : Opening → List ℕ → Command
 block_command opening.Load text = Load text
 block_command opening.Edit text = Edit text
-block_command (opening.SimSource name) text = SimSource (record { «module» = name; steps = text })
-block_command (opening.SimNetlist name) text = SimNetlist (record { «module» = name; steps = text })
+block_command (opening.SimSource asked) text = SimSource (record { «module» = asked.module; order = asked.order; steps = text })
+block_command (opening.SimNetlist asked) text = SimNetlist (record { «module» = asked.module; order = asked.order; steps = text })
 
 -- the lines inside a block up to its end, as a text, and the commands of the lines behind that end
 pub record Block : Type 0 where

@@ -1,5 +1,6 @@
 //! The commands of a session.
 
+use net_model::Order;
 use rtl_bits::Text;
 
 /// A command, with what it was given. A block's text is its lines, each ended by one LF.
@@ -19,9 +20,15 @@ pub enum Command {
     Print,
     /// `show` and the name of a module: its present source is written.
     Show(Text),
-    /// `sim source`, the name of a module and a block: its present source is run.
+    /// `version`: the version of the program is written.
+    Version,
+    /// `modules`: the names of the modules are written, one a line, in the order of the design.
+    Modules,
+    /// `ports` and the name of a module: its ports are written, one a line, in the order of their numbers.
+    Ports(Text),
+    /// `sim source`, the name of a module, maybe `released`, and a block: its present source is run.
     SimSource(SimAsk),
-    /// `sim netlist`, the name of a module and a block: as `run`, then the module is run in the netlist.
+    /// `sim netlist`, the name of a module, maybe `released`, and a block: as `run`, then the module is run in the netlist.
     SimNetlist(SimAsk),
     /// `quit`: the session ends.
     Quit,
@@ -36,6 +43,8 @@ pub enum Command {
 pub struct SimAsk {
     /// The name of the module.
     pub module: Text,
+    /// The order of time: `Released` where the line has the word `released` behind the name.
+    pub order: Order,
     /// The text of the block, of which each line is a step.
     pub steps: Text,
 }

@@ -5,7 +5,7 @@ ghost use Rattle.desk_read.specs.Commands.{block_command, is_end};
 ghost use Rattle.desk_read.specs.Taking.{CompletesNone, Takes, answer_to, block_after, commands_from};
 
 use crate::command::{Command, SimAsk};
-use crate::head::{Head, Opening, head_of};
+use crate::head::{Head, Opening, Simulated, head_of};
 use rtl_bits::{Memory, Text};
 use std::alloc::Global;
 use std::marker::Model;
@@ -119,14 +119,22 @@ fn closed(block: Block) -> Command
     match opening {
         Opening::Load => Command::Load(text),
         Opening::Edit => Command::Edit(text),
-        Opening::SimSource(module) => Command::SimSource(SimAsk {
-            module,
-            steps: text,
-        }),
-        Opening::SimNetlist(module) => Command::SimNetlist(SimAsk {
-            module,
-            steps: text,
-        }),
+        Opening::SimSource(asked) => Command::SimSource(simulation(asked, text)),
+        Opening::SimNetlist(asked) => Command::SimNetlist(simulation(asked, text)),
+    }
+}
+
+/// What a simulation is given by its first line and by its block.
+fn simulation(asked: Simulated, steps: Text) -> SimAsk
+    ensures module { result.module ≡ asked.module }
+    ensures order { result.order ≡ asked.order }
+    ensures steps { result.steps ≡ steps }
+{
+    let Simulated { module, order } = asked;
+    SimAsk {
+        module,
+        order,
+        steps,
     }
 }
 

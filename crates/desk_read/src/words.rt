@@ -7,13 +7,13 @@ ghost use Rattle.desk_read.specs.Words.{is_blank, text_behind, words_of};
 use rtl_bits::Memory;
 use std::alloc::Global;
 
-/// The first words of a line, four at most: no command has more than three.
+/// The first words of a line, five at most: no command has more than four.
 pub fn first_words(alloc: Global, line: &[u8]) -> Result<Vec<&[u8]>, Memory>
-    ensures value { IfOk result (λ words. map (λ word. word.now) words.items ≡ take 4 (words_of line.now)) }
+    ensures value { IfOk result (λ words. map (λ word. word.now) words.items ≡ take 5 (words_of line.now)) }
 {
     let parts = line.split(|byte| is_blank(*byte));
     let words = parts.filter(|part| !part.is_empty());
-    Ok(words.take(4).collect(alloc)?)
+    Ok(words.take(5).collect(alloc)?)
 }
 
 /// All that stands behind the first word of a line, where that word has so many bytes.

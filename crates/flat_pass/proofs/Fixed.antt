@@ -98,13 +98,14 @@ module _ (go : Move) where
   fair_stays : (d : Driver) → Stay (read_points d) → IsFair go d
   fair_stays (Held start value tree own) h =
       λ s i j. mark_of (own_stays own (h (At own) (inl refl)) j) (h s (inr (inr (leaf_reads tree s i))) j)
+  fair_stays (Raced start clock clock_level reset reset_level tree own) h =
+      λ s i j. mark_of (own_stays own (h (At own) (inl refl)) j) (h s (inr (inr (inr (leaf_reads tree s i)))) j)
   fair_stays Nothing h = tt
   fair_stays (Given at) h = tt
   fair_stays (Joined from) h = tt
   fair_stays (Worked shape inputs at) h = tt
   fair_stays (Stored start shape at pins own) h = tt
   fair_stays (Decided tree) h = tt
-  fair_stays (Raced start clock clock_level reset reset_level tree own) h = tt
   fair_stays (Remembered start clock level address ports own) h = tt
   fair_stays (Fetched address first words) h = tt
 

@@ -8,6 +8,7 @@ use Rattle.rtl_ir.specs.declared.module.Module.{Module}
 use Rattle.rtl_ir.specs.Flat.Driver.{Driven}
 use Rattle.rtl_ir.specs.Flat.Place.{Place, place_same}
 use Rattle.rtl_ir.specs.Flat.Tree.{driven_rows, flat, output_places, places, root, tree_points, undriven, undriven_rows}
+use Rattle.net_model.specs.declared.order.Order.{Order}
 use Rattle.net_model.specs.Lists.{In, Distinct}
 use Rattle.net_model.specs.Settle.{applied}
 use Rattle.net_model.specs.Run.{Time, Start, Step, TimeBelow, TraceBelow, row_at, rows_at, run}
@@ -68,12 +69,12 @@ module _ (go : Move) (d e : Design) (m n : Module) (rows : (x : Driven) → In x
   seen v w h = subst (λ z. AreBelow (map v (output_places m)) (map w z)) outs (seen_all (output_places m) v w h)
 
   -- the trace of the first is below that of the second
-  pub moved_run : (stimulus : List (List Bit)) → TraceBelow (run_of d m stimulus) (run_of e n stimulus)
+  pub moved_run : (order : Order) (stimulus : List (List Bit)) → TraceBelow (run_of order d m stimulus) (run_of order e n stimulus)
   unfolding Behind Any
-  moved_run stimulus =
+  moved_run order stimulus =
       let more : List Driven = undriven_rows (driven_rows e n) (places (tree_points e (root n) n)) in
       let parts : meanings (flat e n) ≡ meanings (driven_rows e n) ++ meanings more = map-append meaning (driven_rows e n) more in
       let mono : AlwaysMonotone FlatBelow (meanings (driven_rows e n) ++ meanings more) = subst (λ z. AlwaysMonotone FlatBelow z) parts (meanings_kept FlatBelow flat_order (flat e n)) in
       let once : Distinct (map (λ z. z.bit) (meanings (driven_rows e n))) = subst Distinct (sym (map-map meaning (λ z. z.bit) (driven_rows e n))) distinct in
-      let below : TraceBelow (run_of d m stimulus) (run place_same (meanings (driven_rows e n) ++ meanings more) (output_places n) stimulus) = run_below place_same place_same place_same-same Behind Any (meanings (flat d m)) (meanings (driven_rows e n)) (meanings more) (output_places m) (output_places n) mono once (λ w s. tt) (λ v x f w q s. tt) (λ w q. tt) kept seen stimulus in
-      subst (λ z. TraceBelow (run_of d m stimulus) (run place_same z (output_places n) stimulus)) (sym parts) below
+      let below : TraceBelow (run_of order d m stimulus) (run place_same (meanings (driven_rows e n) ++ meanings more) (output_places n) order stimulus) = run_below place_same place_same place_same-same Behind Any (meanings (flat d m)) (meanings (driven_rows e n)) (meanings more) (output_places m) (output_places n) mono once (λ w s. tt) (λ v x f w q s. tt) (λ w q. tt) kept seen order stimulus in
+      subst (λ z. TraceBelow (run_of order d m stimulus) (run place_same z (output_places n) order stimulus)) (sym parts) below

@@ -1,21 +1,24 @@
 -- Rows whose bits move: what their drivers give.
-use Rattle.std.proofs.Common.{◌≡◌, ℕ, Bool, List, [], ◌∷◌, ◌++◌, map, inl, refl, ◌∙◌, ap}
+use Rattle.std.proofs.Common.{◌≡◌, ℕ, Bool, true, false, List, [], ◌∷◌, ◌++◌, map, inl, refl, ◌∙◌, ap}
+use Rattle.std.specs.Prelude.{if◌then◌else◌}
 use Rattle.rtl_bits.specs.declared.bit.Bit.{Bit}
 use Rattle.cell_types.specs.declared.level.Level.{Level}
-use Rattle.rtl_bits.specs.declared.bit.Bit.TheVariants.{X}
+use Rattle.rtl_bits.specs.declared.bit.Bit.TheVariants.{S0, S1, X}
 use Rattle.rtl_bits.specs.Tables.{and_of, or_of}
 use Rattle.cell_gate.specs.Control.{active_of, edge_of, pick_of, was_of}
-use Rattle.cell_gate.specs.Storage.{store_bit_of}
 use Rattle.rtl_ir.specs.Flat.Driver.{StorePoints, PortPoints, Driver, Nothing, Given, Joined, Worked, Stored, Decided, Held, Raced, Remembered, Fetched, Driven}
 use Rattle.rtl_ir.specs.Flat.Pick.{Pick, Is, Where, WhereReset}
-use Rattle.rtl_ir.specs.Flat.Place.{Place}
+use Rattle.rtl_ir.specs.Flat.Place.{Place, place_same}
 use Rattle.rtl_ir.specs.Flat.Point.{Point, Constant, At}
+use Rattle.net_model.specs.declared.order.Order.{Order}
+use Rattle.net_model.specs.declared.order.Order.TheVariants.{Together, Released}
 use Rattle.net_model.specs.Lists.{In}
-use Rattle.net_model.specs.Picked.{case_match, chosen_of, held_of, mark_of, pattern_match, picked, picked_by, place_match, tested_of}
+use Rattle.net_model.specs.Order.{next_bit_of}
+use Rattle.net_model.specs.Picked.{case_match, chosen_of, held_of, mark_of, own_or, pattern_match, picked, picked_by, place_match, tested_of}
 use Rattle.net_model.specs.Race.{raced_of}
 use Rattle.net_model.specs.Run.{Time, Start, Step}
 use Rattle.net_model.specs.Valuation.{Valuation, passed_of, read, read_all, read_words}
-use Rattle.net_model.specs.Value.{edge_at, level_bit, pins_of, raced_at, value_of, worked_of}
+use Rattle.net_model.specs.Value.{clocked_at, edge_at, level_bit, pins_of, raced_at, raced_in, released_at, value_of, worked_of}
 use Rattle.net_model.specs.Words.{address_is, after_ports, fetched_of, followed_by, hit_of}
 use Rattle.net_model.proofs.Members.{In-left, In-right}
 
@@ -82,7 +85,7 @@ module _ (go : Move) where
 
   abbrev pub time_back : Time Place → Time Place
   time_back Start = Start
-  time_back (Step before inputs first) = Step (back before) inputs first
+  time_back (Step before inputs manner) = Step (back before) inputs manner
 
   read_back : (w : Valuation) (p : Point) → read w (moved_point p) ≡ read (back w) p
   read_back w (Constant b) = refl
@@ -159,29 +162,68 @@ module _ (go : Move) where
       is : picked before (read now (moved_point reset)) (moved_pick tree) ≡ picked (back before) (read (back now) reset) tree
       is = ap (λ z. picked before z (moved_pick tree)) (read_back now reset) ∙ pick_back before (read (back now) reset) tree
 
+  -- a leaf that is the bit itself goes where the bit goes, and no other leaf does
+  own_back : (own : Place) (a : Bit) (w : Valuation) (s : Point) → mark_of (go own) (moved_point s) ≡ mark_of own s → own_or (go own) a w (moved_point s) ≡ own_or own a (back w) s
+  own_back own a w (Constant b) h = refl
+  own_back own a w (At q) h =
+      by (place_same (go q) (go own)) (place_same q own) h
+    where
+      by : (t u : Bool) → (if t then S1 else S0) ≡ (if u then S1 else S0) → (if t then a else w (go q)) ≡ (if u then a else w (go q))
+      by true true e = refl
+      by false false e = refl
+      by true false e = absurd (cc)
+      by false true e = absurd (cc)
+
+  clocked_back : (before now : Valuation) (first : Bool) (clock : Point) (clock_level : Level) (reset : Point) (tree : Pick) (own : Place) → clocked_at before now first (moved_point clock) clock_level (moved_point reset) (moved_pick tree) (go own) ≡ clocked_at (back before) (back now) first clock clock_level reset tree own
+  clocked_back before now first clock clock_level reset tree own =
+      λ i. pick_of (edge_back before now first clock clock_level i) (was i) (before (go own))
+    where
+      was : picked before (was_of first (read before (moved_point reset))) (moved_pick tree) ≡ picked (back before) (was_of first (read (back before) reset)) tree
+      was = ap (λ z. picked before (was_of first z) (moved_pick tree)) (read_back before reset) ∙ pick_back before (was_of first (read (back before) reset)) tree
+
+  released_back : (before now : Valuation) (first : Bool) (clock : Point) (clock_level : Level) (reset : Point) (reset_level : Level) (tree : Pick) (own : Place) → ((s : Point) → In s (leaves tree) → mark_of (go own) (moved_point s) ≡ mark_of own s) → released_at before now first (moved_point clock) clock_level (moved_point reset) reset_level (moved_pick tree) (go own) ≡ released_at (back before) (back now) first clock clock_level reset reset_level tree own
+  released_back before now first clock clock_level reset reset_level tree own h =
+      λ i. pick_of (active_of reset_level (read_back now reset i)) (active i) (clocked i)
+    where
+      clocked : clocked_at before now first (moved_point clock) clock_level (moved_point reset) (moved_pick tree) (go own) ≡ clocked_at (back before) (back now) first clock clock_level reset tree own
+      clocked = clocked_back before now first clock clock_level reset tree own
+
+      active : picked_by (own_or (go own) (clocked_at before now first (moved_point clock) clock_level (moved_point reset) (moved_pick tree) (go own)) before) before (level_bit reset_level) (moved_pick tree) ≡ picked_by (own_or own (clocked_at (back before) (back now) first clock clock_level reset tree own) (back before)) (back before) (level_bit reset_level) tree
+      active =
+          ap (λ z. picked_by (own_or (go own) z before) before (level_bit reset_level) (moved_pick tree)) clocked
+          ∙ picked_back before (own_or (go own) (clocked_at (back before) (back now) first clock clock_level reset tree own) before) (own_or own (clocked_at (back before) (back now) first clock clock_level reset tree own) (back before)) (level_bit reset_level) tree (λ s i. own_back own (clocked_at (back before) (back now) first clock clock_level reset tree own) before s (h s i))
+
+  -- in either order of time
+  ordered_back : (order : Order) (before now : Valuation) (first : Bool) (clock : Point) (clock_level : Level) (reset : Point) (reset_level : Level) (tree : Pick) (own : Place) → ((s : Point) → In s (leaves tree) → mark_of (go own) (moved_point s) ≡ mark_of own s) → raced_in order before now first (moved_point clock) clock_level (moved_point reset) reset_level (moved_pick tree) (go own) ≡ raced_in order (back before) (back now) first clock clock_level reset reset_level tree own
+  ordered_back Together before now first clock clock_level reset reset_level tree own h =
+      raced_back before now first clock clock_level reset reset_level tree own
+  ordered_back Released before now first clock clock_level reset reset_level tree own h =
+      released_back before now first clock clock_level reset reset_level tree own h
+
   -- a bit that may hold is told from the other leaves of its value where they go
   abbrev pub IsFair : Driver → Type 0
   IsFair (Held start value tree own) = (s : Point) → In s (leaves tree) → mark_of (go own) (moved_point s) ≡ mark_of own s
+  IsFair (Raced start clock clock_level reset reset_level tree own) = (s : Point) → In s (leaves tree) → mark_of (go own) (moved_point s) ≡ mark_of own s
   IsFair d = Unit {0}
 
   -- a driver that moves gives over a valuation what it gave over what the bits have where they came from
   pub value_back : (d : Driver) → IsFair d → (t : Time Place) (w : Valuation) → value_of (moved_driver d) t w ≡ value_of d (time_back t) (back w)
   value_back Nothing h t w = refl
   value_back (Given at) h Start w = refl
-  value_back (Given at) h (Step before inputs first) w = refl
+  value_back (Given at) h (Step before inputs manner) w = refl
   value_back (Joined from) h t w = ap passed_of (read_back w from)
   value_back (Worked shape inputs at) h t w = ap (λ z. worked_of shape.kind shape z at) (words_back w inputs)
   value_back (Stored start shape at pins own) h Start w = refl
-  value_back (Stored start shape at pins own) h (Step before inputs first) w =
-      λ i. store_bit_of shape at (pins_back before pins own i) (pins_back w pins own i) first
+  value_back (Stored start shape at pins own) h (Step before inputs manner) w =
+      λ i. next_bit_of manner shape at (pins_back before pins own i) (pins_back w pins own i)
   value_back (Decided tree) h t w = pick_back w X tree
   value_back (Held start value tree own) h Start w = refl
-  value_back (Held start value tree own) h (Step before inputs first) w =
+  value_back (Held start value tree own) h (Step before inputs manner) w =
       λ i. held_of (picked_back w (mark_of (go own)) (mark_of own) X tree h i) (before (go own)) (read_back w value i)
   value_back (Raced start clock clock_level reset reset_level tree own) h Start w = refl
-  value_back (Raced start clock clock_level reset reset_level tree own) h (Step before inputs first) w =
-      raced_back before w first clock clock_level reset reset_level tree own
+  value_back (Raced start clock clock_level reset reset_level tree own) h (Step before inputs manner) w =
+      ordered_back manner.order before w manner.first clock clock_level reset reset_level tree own h
   value_back (Remembered start clock level address ports own) h Start w = refl
-  value_back (Remembered start clock level address ports own) h (Step before inputs first) w =
-      λ i. pick_of (edge_back before w first clock level i) (ports_back before address [] ports (before (go own)) i) (before (go own))
+  value_back (Remembered start clock level address ports own) h (Step before inputs manner) w =
+      λ i. pick_of (edge_back before w manner.first clock level i) (ports_back before address [] ports (before (go own)) i) (before (go own))
   value_back (Fetched address first words) h t w = λ i. fetched_of (word_back w address i) first (word_back w words i)

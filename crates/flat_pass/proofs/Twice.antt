@@ -88,13 +88,14 @@ module _ (go next : Move) where
   fair_twice : (d : Driver) → IsFair go d → IsFair next (moved_driver go d) → IsFair twice d
   fair_twice (Held start value tree own) h k =
       λ s i. ap (mark_of (twice own)) (sym (point_twice s)) ∙ k (moved_point go s) (subst (In (moved_point go s)) (sym (leaves_moved tree)) (In-map (moved_point go) s (leaves tree) i)) ∙ h s i
+  fair_twice (Raced start clock clock_level reset reset_level tree own) h k =
+      λ s i. ap (mark_of (twice own)) (sym (point_twice s)) ∙ k (moved_point go s) (subst (In (moved_point go s)) (sym (leaves_moved tree)) (In-map (moved_point go) s (leaves tree) i)) ∙ h s i
   fair_twice Nothing h k = tt
   fair_twice (Given at) h k = tt
   fair_twice (Joined from) h k = tt
   fair_twice (Worked shape inputs at) h k = tt
   fair_twice (Stored start shape at pins own) h k = tt
   fair_twice (Decided tree) h k = tt
-  fair_twice (Raced start clock clock_level reset reset_level tree own) h k = tt
   fair_twice (Remembered start clock level address ports own) h k = tt
   fair_twice (Fetched address first words) h k = tt
 
@@ -168,7 +169,7 @@ module _ (go : Move) (d e : Design) (now : AreWellDriven e) where
   module_below m l h i = (
     h.id,
     h.ports,
-    λ stimulus. moved_run go d e m l h.rows (outs m l h) ((one_driver e now).rows l i) stimulus,
+    λ order stimulus. moved_run go d e m l h.rows (outs m l h) ((one_driver e now).rows l i) order stimulus,
   )
 
   all_below : (ms ls : List Module) → Paired (ModuleGoes go d e) ms ls → ((l : Module) → In l ls → In l e.modules) → ModulesBelow d e ms ls

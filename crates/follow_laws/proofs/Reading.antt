@@ -170,29 +170,29 @@ module _ (v : Valuation) (address : ℕ) where
 -- in the step before, and now
 abbrev BeforeLower : Time Place → Point → Point → Type 0
 BeforeLower Start a b = Unit {0}
-BeforeLower (Step v x first) a b = Lower v a b
+BeforeLower (Step v x manner) a b = Lower v a b
 
 stored_lower : (t : Time Place) (w : Valuation) (start : Bit) (shape : Shape) (at : ℕ) (a b : StorePoints) (own : Place) → StoresBy (BeforeLower t) a b → StoresBy (Lower w) a b → Below (value_of (Stored start shape at a own) t w) (value_of (Stored start shape at b own) t w)
 stored_lower Start w start shape at a b own h k = Below_refl start
-stored_lower (Step v x first) w start shape at a b own h k =
-    below.storage shape at first _ _ _ _ (pins_lower v a b own h) (pins_lower w a b own k)
+stored_lower (Step v x manner) w start shape at a b own h k =
+    below.storage shape at manner _ _ _ _ (pins_lower v a b own h) (pins_lower w a b own k)
 
 remembered_lower : (t : Time Place) (w : Valuation) (start : Bit) (a b : Point) (level : Level) (address : ℕ) (low high : List PortPoints) (own : Place) → BeforeLower t a b → Lower w a b → InPairs (PortBy (BeforeLower t)) low high → Below (value_of (Remembered start a level address low own) t w) (value_of (Remembered start b level address high own) t w)
 remembered_lower Start w start a b level address low high own h k l = Below_refl start
-remembered_lower (Step v x first) w start a b level address low high own h k l =
-    pick_kept Below below _ _ _ _ _ _ (edge_lower level first v w a b h k) (ports_lower v address low high [] [] (v own) (v own) l tt (Below_refl (v own))) (Below_refl (v own))
+remembered_lower (Step v x manner) w start a b level address low high own h k l =
+    pick_kept Below below _ _ _ _ _ _ (edge_lower level manner.first v w a b h k) (ports_lower v address low high [] [] (v own) (v own) l tt (Below_refl (v own))) (Below_refl (v own))
 
 before_there : (t : Time Place) (a b : Point) → AlikeBefore t a b → BeforeLower t a b
 before_there Start a b h = tt
-before_there (Step v x first) a b h = h.there
+before_there (Step v x manner) a b h = h.there
 
 before_back : (t : Time Place) (a b : Point) → AlikeBefore t a b → BeforeLower t b a
 before_back Start a b h = tt
-before_back (Step v x first) a b h = h.back
+before_back (Step v x manner) a b h = h.back
 
 before_refl : (t : Time Place) (a : Point) → AlikeBefore t a a
 before_refl Start a = tt
-before_refl (Step v x first) a = Alike_refl v a
+before_refl (Step v x manner) a = Alike_refl v a
 
 module _ (t : Time Place) (w : Valuation) where
   abbrev words_there : (low high : List (List Point)) → InPairs (InPairs (ReadAlike t w)) low high → InPairs (InPairs (Lower w)) low high

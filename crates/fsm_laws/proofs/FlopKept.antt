@@ -31,6 +31,7 @@ use Rattle.net_model.specs.Fsm.Find.{at_pin}
 use Rattle.net_model.specs.Lists.{Distinct, In}
 use Rattle.net_model.specs.Refine.{IsMet}
 use Rattle.net_model.specs.Relate.{Related}
+use Rattle.net_model.specs.Order.{Manner}
 use Rattle.net_model.specs.Run.{Step}
 use Rattle.net_model.specs.Valuation.{Valuation, read}
 use Rattle.net_model.specs.Value.{value_of}
@@ -44,7 +45,7 @@ use Rattle.fsm_laws.specs.Codes.{apart}
 use Rattle.fsm_laws.specs.States.{AreStates}
 use Rattle.fsm_laws.proofs.Arms.{arm_apart, has, has_some}
 use Rattle.fsm_laws.proofs.Carrying.{IsOwn, carried_apart}
-use Rattle.fsm_laws.proofs.Flops.{adff_like_takes, adff_takes, control_mono, dff_like_takes, dff_takes, edge_mono, edge_to, point_of, registered, registered_apart, reset_apart}
+use Rattle.fsm_laws.proofs.Flops.{adff_like_takes, adff_takes, control_mono, dff_like_takes, dff_takes, edge_mono, edge_to, point_of, registered, registered_apart, reset_apart, taken_apart, taken_in, was_active, was_active_mono}
 use Rattle.fsm_laws.proofs.ForkKept.{IsFree, free_has}
 use Rattle.fsm_laws.proofs.Forks.{read_at}
 use Rattle.fsm_laws.proofs.States.{constant_coded}
@@ -62,14 +63,14 @@ module _ (links : List Link) (wires fresh : List Wire) (named : Distinct (map (�
     starts_kept k i r q o begins met = Below_trans (apart (start (OnWire q)) (slice_index_or r k X)) (start (OnWire o)) (w (bit_place p grown o)) begins met
 
   -- each further step
-  module _ (a z v w : Valuation) (old : Relates a z) (rel : Relates v w) (alike : (s : SigBit) → Alike z (point p (wires ++ fresh) s) (point p (wires ++ fresh) (follow links s))) (f g : Bool) (same : f ≡ g) (xs ys : List Bit) where
+  module _ (a z v w : Valuation) (old : Relates a z) (rel : Relates v w) (alike : (s : SigBit) → Alike z (point p (wires ++ fresh) s) (point p (wires ++ fresh) (follow links s))) (f g : Manner) (same : f ≡ g) (xs ys : List Bit) where
     edge_kept : (level : Level) (clock : List SigBit) → Each (IsFree links wires fresh named outputs width states are) clock
-        → Below (edge_to level f (point_of start p grown clock 0 a) (point_of start p grown clock 0 v)) (edge_to level g (point_of start p grown clock 0 z) (point_of start p grown clock 0 w))
+        → Below (edge_to level f.first (point_of start p grown clock 0 a) (point_of start p grown clock 0 v)) (edge_to level g.first (point_of start p grown clock 0 z) (point_of start p grown clock 0 w))
     edge_kept level clock free =
         let before : Below (point_of start p grown clock 0 a) (point_of start p grown clock 0 z) = free_points a z old in
         let now : Below (point_of start p grown clock 0 v) (point_of start p grown clock 0 w) = free_points v w rel in
-        subst (λ h. Below (edge_to level f (point_of start p grown clock 0 a) (point_of start p grown clock 0 v)) (edge_to level h (point_of start p grown clock 0 z) (point_of start p grown clock 0 w))) same
-        (edge_mono level f (point_of start p grown clock 0 a) (point_of start p grown clock 0 z) (point_of start p grown clock 0 v) (point_of start p grown clock 0 w) before now)
+        subst (λ h. Below (edge_to level f.first (point_of start p grown clock 0 a) (point_of start p grown clock 0 v)) (edge_to level h.first (point_of start p grown clock 0 z) (point_of start p grown clock 0 w))) same
+        (edge_mono level f.first (point_of start p grown clock 0 a) (point_of start p grown clock 0 z) (point_of start p grown clock 0 v) (point_of start p grown clock 0 w) before now)
       where
         free_points : (x y : Valuation) → Relates x y → Below (point_of start p grown clock 0 x) (point_of start p grown clock 0 y)
         free_points x y h =
@@ -92,12 +93,16 @@ module _ (links : List Link) (wires fresh : List Wire) (named : Distinct (map (�
       abbrev level : Level
       level = level_in (given_params c.params) ClkPolarity
 
-      register_kept : Below (apart (registered (edge_to level f (point_of start p grown (at_pin c Clk) 0 a) (point_of start p grown (at_pin c Clk) 0 v)) (point_of start p grown (at_pin c D) k a) (a (bit_place p grown q))) (slice_index_or r k X))
-          (registered (edge_to level g (point_of start p grown (at_pin c Clk) 0 z) (point_of start p grown (at_pin c Clk) 0 w)) (point_of start p grown d i z) (z (bit_place p grown o)))
-      register_kept =
-          registered_apart (edge_to level f (point_of start p grown (at_pin c Clk) 0 a) (point_of start p grown (at_pin c Clk) 0 v)) (edge_to level g (point_of start p grown (at_pin c Clk) 0 z) (point_of start p grown (at_pin c Clk) 0 w))
-          (point_of start p grown (at_pin c D) k a) (a (bit_place p grown q)) (slice_index_or r k X) (point_of start p grown d i z) (z (bit_place p grown o))
-          (edge_kept level (at_pin c Clk) free_clock) (data_kept (at_pin c D) d own_d stands k lt i r there) (state_kept code k i q o own_q carried at r there)
+      register_kept : (x y : Bit) → Below (apart x (slice_index_or r k X)) y
+          → Below (apart (registered (edge_to level f.first (point_of start p grown (at_pin c Clk) 0 a) (point_of start p grown (at_pin c Clk) 0 v)) x (a (bit_place p grown q))) (slice_index_or r k X))
+          (registered (edge_to level g.first (point_of start p grown (at_pin c Clk) 0 z) (point_of start p grown (at_pin c Clk) 0 w)) y (z (bit_place p grown o)))
+      register_kept x y given =
+          registered_apart (edge_to level f.first (point_of start p grown (at_pin c Clk) 0 a) (point_of start p grown (at_pin c Clk) 0 v)) (edge_to level g.first (point_of start p grown (at_pin c Clk) 0 z) (point_of start p grown (at_pin c Clk) 0 w))
+          x (a (bit_place p grown q)) (slice_index_or r k X) y (z (bit_place p grown o))
+          (edge_kept level (at_pin c Clk) free_clock) given (state_kept code k i q o own_q carried at r there)
+
+      datum_kept : Below (apart (point_of start p grown (at_pin c D) k a) (slice_index_or r k X)) (point_of start p grown d i z)
+      datum_kept = data_kept (at_pin c D) d own_d stands k lt i r there
 
       -- without a reset
       pub dff_kept : ((x : Driven) → In x (kind_rows start p grown (dff_like c count level (at_pin c Clk) d code) (Storage Dff)) → IsMet x (Step z ys g) w)
@@ -106,7 +111,7 @@ module _ (links : List Link) (wires fresh : List Wire) (named : Distinct (map (�
           let made : Cell = dff_like c count level (at_pin c Clk) d code in
           let row = met (row_of p grown o (own_driver start p grown made (Storage Dff) i o)) (own_in p grown start made (Storage Dff) refl i o at) in
           subst (λ b. Below (apart b (slice_index_or r k X)) (read w (point p grown (OnWire o)))) (sym (dff_takes start p grown c k q a xs f v))
-          (Below_trans _ _ _ register_kept (subst (λ b. Below b (read w (point p grown (OnWire o)))) (dff_like_takes start p grown c count level (at_pin c Clk) d code i o z ys g w) row))
+          (Below_trans _ _ _ (register_kept _ _ datum_kept) (subst (λ b. Below b (read w (point p grown (OnWire o)))) (dff_like_takes start p grown c count level (at_pin c Clk) d code i o z ys g w) row))
 
       -- with one
       pub adff_kept : Each (IsFree links wires fresh named outputs width states are) (at_pin c Arst) → AreKnown (value_in (given_params c.params) ArstValue) → length (value_in (given_params c.params) ArstValue) ≡ width
@@ -118,9 +123,14 @@ module _ (links : List Link) (wires fresh : List Wire) (named : Distinct (map (�
           let new : List Bit = code_of states (number_of value) in
           let made : Cell = adff_like c count level reset new (at_pin c Clk) (at_pin c Arst) d code in
           let row = met (row_of p grown o (own_driver start p grown made (Storage Adff) i o)) (own_in p grown start made (Storage Adff) refl i o at) in
-          let control : Below (point_of start p grown (at_pin c Arst) 0 v) (point_of start p grown (at_pin c Arst) 0 w) = subst (λ b. Below b (point_of start p grown (at_pin c Arst) 0 w)) (read_at v (points p grown (at_pin c Arst)) 0) (subst (Below (has p grown v (at_pin c Arst) 0)) (read_at w (points p grown (at_pin c Arst)) 0) (free_has links wires fresh named outputs width states are over frames p v w rel (at_pin c Arst) free_reset 0)) in
+          let control : (x y : Valuation) → Relates x y → Below (point_of start p grown (at_pin c Arst) 0 x) (point_of start p grown (at_pin c Arst) 0 y) = λ x y h. subst (λ b. Below b (point_of start p grown (at_pin c Arst) 0 y)) (read_at x (points p grown (at_pin c Arst)) 0) (subst (Below (has p grown x (at_pin c Arst) 0)) (read_at y (points p grown (at_pin c Arst)) 0) (free_has links wires fresh named outputs width states are over frames p x y h (at_pin c Arst) free_reset 0)) in
+          let coded = constant_coded width states are value r i there known wide k lt in
+          let was = was_active_mono reset f.first (point_of start p grown (at_pin c Arst) 0 a) (point_of start p grown (at_pin c Arst) 0 z) (control a z old) in
+          let taken : Below (apart (taken_in f.order (was_active reset f.first (point_of start p grown (at_pin c Arst) 0 a)) (slice_index_or value k X) (point_of start p grown (at_pin c D) k a)) (slice_index_or r k X)) (taken_in g.order (was_active reset g.first (point_of start p grown (at_pin c Arst) 0 z)) (slice_index_or new i X) (point_of start p grown d i z)) =
+          subst (λ h. Below (apart (taken_in f.order (was_active reset f.first (point_of start p grown (at_pin c Arst) 0 a)) (slice_index_or value k X) (point_of start p grown (at_pin c D) k a)) (slice_index_or r k X)) (taken_in h.order (was_active reset h.first (point_of start p grown (at_pin c Arst) 0 z)) (slice_index_or new i X) (point_of start p grown d i z))) same
+          (taken_apart f.order (was_active reset f.first (point_of start p grown (at_pin c Arst) 0 a)) (was_active reset f.first (point_of start p grown (at_pin c Arst) 0 z)) (slice_index_or value k X) (point_of start p grown (at_pin c D) k a) (slice_index_or r k X) (slice_index_or new i X) (point_of start p grown d i z) was coded datum_kept) in
           subst (λ b. Below (apart b (slice_index_or r k X)) (read w (point p grown (OnWire o)))) (sym (adff_takes start p grown c k q a xs f v))
           (Below_trans _ _ _
           (reset_apart (active_of reset (point_of start p grown (at_pin c Arst) 0 v)) (active_of reset (point_of start p grown (at_pin c Arst) 0 w)) (slice_index_or value k X) _ (slice_index_or r k X) (slice_index_or new i X) _
-          (control_mono reset (point_of start p grown (at_pin c Arst) 0 v) (point_of start p grown (at_pin c Arst) 0 w) control) (constant_coded width states are value r i there known wide k lt) register_kept)
+          (control_mono reset (point_of start p grown (at_pin c Arst) 0 v) (point_of start p grown (at_pin c Arst) 0 w) (control v w rel)) coded (register_kept _ _ taken))
           (subst (λ b. Below b (read w (point p grown (OnWire o)))) (adff_like_takes start p grown c count level reset new (at_pin c Clk) (at_pin c Arst) d code i o z ys g w) row))

@@ -42,7 +42,7 @@ use Rattle.fsm_laws.specs.Trees.{Chosen, Constant, IsCodeTree, Picked, State, Un
 use Rattle.fsm_laws.proofs.Arms.{has, has_fixed, has_some}
 use Rattle.fsm_laws.proofs.Choices.{chosen_hot}
 use Rattle.fsm_laws.proofs.Coded.{hot_from, mux_hot, unknown_hot}
-use Rattle.fsm_laws.proofs.Flops.{adff_like_takes, dff_like_takes, edge_to, point_of, registered, registered_hot, reset_hot, reset_to}
+use Rattle.fsm_laws.proofs.Flops.{adff_like_takes, dff_like_takes, edge_to, point_of, registered, registered_hot, reset_hot, reset_to, taken_hot, taken_in, was_active}
 use Rattle.fsm_laws.proofs.ForkKept.{has_get}
 use Rattle.fsm_laws.proofs.Forks.{mux_like_gives, pmux_like_gives, read_at}
 use Rattle.fsm_laws.proofs.Parts.{joined_bit, joined_end}
@@ -148,7 +148,7 @@ module _ (width : ℕ) (states : List (List Bit)) (are : AreStates width states)
       dff_hot (suc n) (Step z x g) w r =
           let before = dff_hot n r.2.0 z r.2.1 in
           let next = data_hot z d (tree_hot r.2.0 z (reached_solved rows n r.2.0 z r.2.1) before d tree) in
-          let edge : Bit = edge_to level g (point_of start p wires clock 0 z) (point_of start p wires clock 0 w) in
+          let edge : Bit = edge_to level g.first (point_of start p wires clock 0 z) (point_of start p wires clock 0 w) in
           wire_hot w code_wire (λ i. registered edge (point_of start p wires d i z) (z (bit_place p wires (code_bit i)))) (registered_hot count edge _ _ next (old_hot z before))
           (λ i lt. let value = dff_like_takes start p wires c count level clock d code i (code_bit i) z x g w in
           (subst (λ b. Below b (w (bit_place p wires (code_bit i)))) value (r.0.met _ (dff_row i lt)), subst (Below (w (bit_place p wires (code_bit i)))) value (r.0.tight _ (dff_row i lt))))
@@ -168,10 +168,11 @@ module _ (width : ℕ) (states : List (List Bit)) (are : AreStates width states)
       adff_hot (suc n) (Step z x g) w r =
           let before = adff_hot n r.2.0 z r.2.1 in
           let next = data_hot z d (tree_hot r.2.0 z (reached_solved rows n r.2.0 z r.2.1) before d tree) in
-          let edge : Bit = edge_to level g (point_of start p wires clock 0 z) (point_of start p wires clock 0 w) in
+          let edge : Bit = edge_to level g.first (point_of start p wires clock 0 z) (point_of start p wires clock 0 w) in
           let control : Bit = active_of reset_level (point_of start p wires reset 0 w) in
-          wire_hot w code_wire (λ i. reset_to control (slice_index_or (code_of states value) i X) (registered edge (point_of start p wires d i z) (z (bit_place p wires (code_bit i)))))
-          (reset_hot count control _ _ (constant_hot width states are value k s at number) (registered_hot count edge _ _ next (old_hot z before)))
+          let was : Bit = was_active reset_level g.first (point_of start p wires reset 0 z) in
+          wire_hot w code_wire (λ i. reset_to control (slice_index_or (code_of states value) i X) (registered edge (taken_in g.order was (slice_index_or (code_of states value) i X) (point_of start p wires d i z)) (z (bit_place p wires (code_bit i)))))
+          (reset_hot count control _ _ (constant_hot width states are value k s at number) (registered_hot count edge _ _ (taken_hot g.order count was _ _ (constant_hot width states are value k s at number) next) (old_hot z before)))
           (λ i lt. let takes = adff_like_takes start p wires c count level reset_level (code_of states value) clock reset d code i (code_bit i) z x g w in
           (subst (λ b. Below b (w (bit_place p wires (code_bit i)))) takes (r.0.met _ (adff_row i lt)), subst (Below (w (bit_place p wires (code_bit i)))) takes (r.0.tight _ (adff_row i lt))))
       adff_hot zero (Step z x g) w r = absurd r

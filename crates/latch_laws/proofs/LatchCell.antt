@@ -29,6 +29,8 @@ use Rattle.rtl_sig.specs.declared.sig.WireBit.{WireBit}
 use Rattle.net_model.specs.Picked.{held_of, holds_of}
 use Rattle.net_model.specs.Run.{Start, Step, Time}
 use Rattle.net_model.specs.Value.{value_of}
+use Rattle.net_model.specs.declared.order.Order.{Order}
+use Rattle.net_model.specs.declared.order.Order.TheVariants.{Together, Released}
 use Rattle.pass_laws.proofs.Driving.{own_driver, own_in, row_of}
 use Rattle.build_laws.proofs.Moments.{IsCellMet, Moment, seen}
 
@@ -67,10 +69,20 @@ module _ (m : Moment) where
       → Below (value_of (Held (m.start (OnWire q)) (point m.path m.wires source) tree (bit_place m.path m.wires q)) t m.has) (value_of (latch_driver name q new enable) t m.has)
   unfolding cell_shape
   held_below name q new enable source tree Start h k = Below_refl (m.start (OnWire q))
-  held_below name q new enable source tree (Step before inputs first) h k =
-      let level : (if number_of (low_bits 1 32) == 0 then Low else High) ≡ High = ap (λ n. if n == 0 then Low else High) one_number in
-      subst (λ (l : Level). Below (held_of (holds_of (bit_place m.path m.wires q) m.has tree) (before (bit_place m.path m.wires q)) (seen m source)) (mux_of (before (bit_place m.path m.wires q)) (seen m new) (active_of l (seen m enable)))) (sym level)
-      (held_latched (holds_of (bit_place m.path m.wires q) m.has tree) (before (bit_place m.path m.wires q)) (seen m source) (seen m enable) (seen m new) h k)
+  held_below name q new enable source tree (Step before inputs manner) h k = by manner.order
+    where
+      level : (if number_of (low_bits 1 32) == 0 then Low else High) ≡ High
+      level = ap (λ n. if n == 0 then Low else High) one_number
+
+      latched : Below (held_of (holds_of (bit_place m.path m.wires q) m.has tree) (before (bit_place m.path m.wires q)) (seen m source)) (mux_of (before (bit_place m.path m.wires q)) (seen m new) (active_of (if number_of (low_bits 1 32) == 0 then Low else High) (seen m enable)))
+      latched =
+          subst (λ (l : Level). Below (held_of (holds_of (bit_place m.path m.wires q) m.has tree) (before (bit_place m.path m.wires q)) (seen m source)) (mux_of (before (bit_place m.path m.wires q)) (seen m new) (active_of l (seen m enable)))) (sym level)
+          (held_latched (holds_of (bit_place m.path m.wires q) m.has tree) (before (bit_place m.path m.wires q)) (seen m source) (seen m enable) (seen m new) h k)
+
+      -- a latch has no clock, so both orders of time give the same
+      by : (o : Order) → Below (value_of (Held (m.start (OnWire q)) (point m.path m.wires source) tree (bit_place m.path m.wires q)) (Step before inputs manner) m.has) (value_of (latch_driver name q new enable) (Step before inputs (record { first = manner.first; order = o })) m.has)
+      by Together = latched
+      by Released = latched
 
   pub held_met : (name : List ℕ) (q : WireBit) (new enable source : SigBit) (tree : Pick) → IsCellMet m (latch_made name q new enable) → Below (not_of (holds_of (bit_place m.path m.wires q) m.has tree)) (seen m enable) → (holds_of (bit_place m.path m.wires q) m.has tree ≡ S0 → Below (seen m source) (seen m new))
       → Below (value_of (Held (m.start (OnWire q)) (point m.path m.wires source) tree (bit_place m.path m.wires q)) m.time m.has) (seen m (OnWire q))

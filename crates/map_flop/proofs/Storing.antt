@@ -2,7 +2,7 @@
 use Rattle.std.proofs.Common.{◌≡◌, ℕ, zero, suc, Bool, List, [], ◌∷◌, refl, sym, subst}
 use Rattle.std.specs.Prelude.{slice_index_or}
 use Rattle.cell_gate.specs.Control.{edge_of, pick_of}
-use Rattle.cell_gate.specs.Storage.{enabled_of, next_of, store_bit_of, stored_of}
+use Rattle.cell_gate.specs.Storage.{enabled_of, next_of}
 use Rattle.cell_gate.specs.Store.{reset_at, storage_kind}
 use Rattle.cell_gate.specs.declared.pins.Pins.{Pins}
 use Rattle.cell_types.specs.Shape.{bit_of, gate_resets}
@@ -26,6 +26,9 @@ use Rattle.rtl_ir.specs.declared.cell.Cell.{Cell}
 use Rattle.rtl_ir.specs.declared.wire.Wire.{Wire}
 use Rattle.rtl_sig.specs.declared.sig.SigBit.{SigBit}
 use Rattle.rtl_sig.specs.declared.sig.SigBit.TheVariants.{Fixed}
+use Rattle.net_model.specs.declared.order.Order.{Order}
+use Rattle.net_model.specs.declared.order.Order.TheVariants.{Together, Released}
+use Rattle.net_model.specs.Order.{Manner, next_bit_of, released_of, stored_in}
 use Rattle.net_model.specs.Run.{Time, Start, Step}
 use Rattle.net_model.specs.Valuation.{Valuation}
 use Rattle.net_model.specs.Value.{pins_of, value_of}
@@ -63,6 +66,22 @@ module _ (before now : Pins) where
   value_kept Dlatch a b h = Below_refl (next_of Dlatch a before now)
   value_kept Dlatchsr a b h = Below_refl (next_of Dlatchsr a before now)
   value_kept Sr a b h = Below_refl (next_of Sr a before now)
+
+  released_kept : (kind : StorageKind) (a b : Bit) → Below a b → (x y : Bit) → Below x y → Below (released_of kind a before now x) (released_of kind b before now y)
+  released_kept Adff a b h x y k =
+      picks now.arst a b _ _ h (picks edge _ _ _ _ (picks before.arst a b _ _ h (Below_refl before.d)) (Below_refl before.q))
+  released_kept Adffe a b h x y k =
+      picks now.arst a b _ _ h (picks edge _ _ _ _ (picks before.arst a b _ _ h (Below_refl (enabled_of before before.d))) (Below_refl before.q))
+  released_kept Aldff a b h x y k = Below_refl (released_of Aldff a before now x)
+  released_kept Aldffe a b h x y k = Below_refl (released_of Aldffe a before now x)
+  released_kept Dffsr a b h x y k = Below_refl (released_of Dffsr a before now x)
+  released_kept Dffsre a b h x y k = Below_refl (released_of Dffsre a before now x)
+  released_kept kind a b h x y k = k
+
+-- in either order of time
+ordered_kept : (order : Order) (kind : StorageKind) (levels : Levels) (a b : Bit) → Below a b → (before now : Pins) (first : Bool) → Below (stored_in order kind levels a before now first) (stored_in order kind levels b before now first)
+ordered_kept Together kind levels a b h before now first = value_kept _ _ kind a b h
+ordered_kept Released kind levels a b h before now first = released_kept _ _ kind a b h _ _ (value_kept _ _ kind a b h)
 
 -- the value of a reset, with what is not known as 0
 one_above : (b : Bit) → Below b (bit_of (is_one b))
@@ -135,13 +154,17 @@ module _ (p : Path) (wires : List Wire) where
     gate_reads kind levels value q = gate_store p wires (gate_pins kind (gate_for kind levels value) c at q) 0
 
     -- what a bit is next, by what it reads
-    abbrev next_bit : StorageKind → Levels → Bit → StorePoints → Place → Valuation → Valuation → Bool → Bit
-    next_bit kind levels value pins own before w first =
-        stored_of (record { kind = kind; levels = levels; value = value }) (pins_of before pins own) (pins_of w pins own) first
+    abbrev next_bit : Order → StorageKind → Levels → Bit → StorePoints → Place → Valuation → Valuation → Bool → Bit
+    next_bit order kind levels value pins own before w first =
+        stored_in order kind levels value (pins_of before pins own) (pins_of w pins own) first
 
     module _ (levels : Levels) (value : Bool) (q : SigBit) (own : Place) (before w : Valuation) (first : Bool) where
+      abbrev gate_bit : Order → StorageKind → Bit
+      gate_bit order kind =
+          next_bit_of (record { first = first; order = order }) (cell_shape (StorageGate (gate_for kind levels value)) []) 0 (pins_of before (gate_reads kind levels value q) own) (pins_of w (gate_reads kind levels value q) own)
+
       -- the gate of a kind has the meaning of the kind
-      same_bit : (kind : StorageKind) → store_bit_of (cell_shape (StorageGate (gate_for kind levels value)) []) 0 (pins_of before (gate_reads kind levels value q) own) (pins_of w (gate_reads kind levels value q) own) first ≡ next_bit kind levels (gate_reset kind levels value) reads own before w first
+      same_bit : (kind : StorageKind) → gate_bit Together kind ≡ next_bit Together kind levels (gate_reset kind levels value) reads own before w first
       unfolding cell_shape
       same_bit Ff = refl
       same_bit Dff = refl
@@ -160,22 +183,43 @@ module _ (p : Path) (wires : List Wire) where
       same_bit Dlatchsr = refl
       same_bit Sr = refl
 
+      -- in both orders of time
+      ordered_bit : (order : Order) (kind : StorageKind) → gate_bit order kind ≡ next_bit order kind levels (gate_reset kind levels value) reads own before w first
+      unfolding cell_shape
+      ordered_bit Together kind = same_bit kind
+      ordered_bit Released Ff = refl
+      ordered_bit Released Dff = refl
+      ordered_bit Released Dffe = refl
+      ordered_bit Released Sdff = refl
+      ordered_bit Released Sdffe = refl
+      ordered_bit Released Sdffce = refl
+      ordered_bit Released Adff = refl
+      ordered_bit Released Adffe = refl
+      ordered_bit Released Aldff = refl
+      ordered_bit Released Aldffe = refl
+      ordered_bit Released Dffsr = refl
+      ordered_bit Released Dffsre = refl
+      ordered_bit Released Dlatch = refl
+      ordered_bit Released Adlatch = refl
+      ordered_bit Released Dlatchsr = refl
+      ordered_bit Released Sr = refl
+
     module _ (kind : StorageKind) (shape : Shape) (is : shape.kind ≡ Storage kind) (q : SigBit) (own : Place) where
       abbrev value : Bool
       value = is_one (reset_at kind shape.resets at)
 
       -- the cell's bit, by the bits at its pins
-      word_bit : (before w : Valuation) (first : Bool) → next_bit kind shape.levels (reset_at kind shape.resets at) reads own before w first ≡ store_bit_of shape at (pins_of before (word_store p wires c.pins at) own) (pins_of w (word_store p wires c.pins at) own) first
-      word_bit before w first = λ i. next_bit (storage_kind (sym is i)) shape.levels (reset_at (storage_kind (sym is i)) shape.resets at) (word_reads i) own before w first
+      word_bit : (before w : Valuation) (manner : Manner) → next_bit manner.order kind shape.levels (reset_at kind shape.resets at) reads own before w manner.first ≡ next_bit_of manner shape at (pins_of before (word_store p wires c.pins at) own) (pins_of w (word_store p wires c.pins at) own)
+      word_bit before w manner = λ i. next_bit manner.order (storage_kind (sym is i)) shape.levels (reset_at (storage_kind (sym is i)) shape.resets at) (word_reads i) own before w manner.first
 
-      bit_above : (before w : Valuation) (first : Bool) (z : Bit) → Below (store_bit_of (cell_shape (StorageGate (bit_gate kind shape at)) []) 0 (pins_of before (gate_reads kind shape.levels value q) own) (pins_of w (gate_reads kind shape.levels value q) own) first) z → Below (store_bit_of shape at (pins_of before (word_store p wires c.pins at) own) (pins_of w (word_store p wires c.pins at) own) first) z
-      bit_above before w first z h =
-          subst (λ v. Below v z) (word_bit before w first)
-          (Below_trans _ (next_bit kind shape.levels (gate_reset kind shape.levels value) reads own before w first) z
-          (value_kept _ _ kind _ _ (reset_above kind shape.levels shape.resets at))
-          (subst (λ v. Below v z) (same_bit shape.levels value q own before w first kind) h))
+      bit_above : (before w : Valuation) (manner : Manner) (z : Bit) → Below (next_bit_of manner (cell_shape (StorageGate (bit_gate kind shape at)) []) 0 (pins_of before (gate_reads kind shape.levels value q) own) (pins_of w (gate_reads kind shape.levels value q) own)) z → Below (next_bit_of manner shape at (pins_of before (word_store p wires c.pins at) own) (pins_of w (word_store p wires c.pins at) own)) z
+      bit_above before w manner z h =
+          subst (λ v. Below v z) (word_bit before w manner)
+          (Below_trans _ (next_bit manner.order kind shape.levels (gate_reset kind shape.levels value) reads own before w manner.first) z
+          (ordered_kept manner.order kind shape.levels _ _ (reset_above kind shape.levels shape.resets at) _ _ manner.first)
+          (subst (λ v. Below v z) (ordered_bit shape.levels value q own before w manner.first manner.order kind) h))
 
       -- a row of the gate says no less than the row of the cell's bit
       pub row_above : (start : Bit) (t : Time Place) (w : Valuation) (z : Bit) → Below (value_of (Stored start (cell_shape (StorageGate (bit_gate kind shape at)) []) 0 (gate_reads kind shape.levels value q) own) t w) z → Below (value_of (Stored start shape at (word_store p wires c.pins at) own) t w) z
       row_above start Start w z h = h
-      row_above start (Step before inputs first) w z h = bit_above before w first z h
+      row_above start (Step before inputs manner) w z h = bit_above before w manner z h

@@ -19,9 +19,11 @@ use Rattle.rtl_ir.specs.Flat.Place.{Path, Place}
 use Rattle.rtl_ir.specs.Flat.Point.{bit_place, point, point_at, points}
 use Rattle.rtl_ir.specs.declared.cell.Cell.{Cell}
 use Rattle.rtl_ir.specs.declared.wire.Wire.{Wire}
+use Rattle.net_model.specs.Order.{Manner}
 use Rattle.net_model.specs.Run.{Time, Start, Step}
 use Rattle.net_model.specs.Valuation.{Valuation, read}
 use Rattle.net_model.specs.Value.{edge_at}
+use Rattle.net_model.proofs.Released.{no_control}
 use Rattle.pass_laws.proofs.Driving.{own_driver, own_in, row_of}
 use Rattle.build_laws.proofs.Moments.{IsCellMet, Moment}
 
@@ -56,10 +58,10 @@ module _ (start : SigBit → Bit) (ports : Ports) (p : Path) (wires : List Wire)
       met (row_of p wires b (own_driver start p wires c (Storage Dff) k b)) (own_in p wires start c (Storage Dff) refl k b e)
 
   -- and takes its data at an edge
-  pub dff_gives : (before : Valuation) (inputs : List Bit) (first : Bool) (name : List ℕ) (width : ℕ) (rising : Bool) (clock : SigBit) (d q : List SigBit) → IsCellMet (moment_of (Step before inputs first)) (dff_made name width rising clock d q) → (k : ℕ) (b : WireBit) → slice_get q k ≡ Some (OnWire b)
-      → Below (pick_of (edge_at before w first (point p wires clock) (level_of rising)) (read before (point_at (points p wires d) k)) (before (bit_place p wires b))) (read w (point p wires (OnWire b)))
+  pub dff_gives : (before : Valuation) (inputs : List Bit) (manner : Manner) (name : List ℕ) (width : ℕ) (rising : Bool) (clock : SigBit) (d q : List SigBit) → IsCellMet (moment_of (Step before inputs manner)) (dff_made name width rising clock d q) → (k : ℕ) (b : WireBit) → slice_get q k ≡ Some (OnWire b)
+      → Below (pick_of (edge_at before w manner.first (point p wires clock) (level_of rising)) (read before (point_at (points p wires d) k)) (before (bit_place p wires b))) (read w (point p wires (OnWire b)))
   unfolding cell_kind cell_shape
-  dff_gives before inputs first name width rising clock d q met k b e =
+  dff_gives before inputs manner name width rising clock d q met k b e =
       let c : Cell = dff_made name width rising clock d q in
-      let here = met (row_of p wires b (own_driver start p wires c (Storage Dff) k b)) (own_in p wires start c (Storage Dff) refl k b e) in
-      subst (λ l. Below (pick_of (edge_at before w first (point p wires clock) l) (read before (point_at (points p wires d) k)) (before (bit_place p wires b))) (read w (point p wires (OnWire b)))) (level_is rising) here
+      let here = subst (λ z. Below z (read w (point p wires (OnWire b)))) (no_control manner.order Dff _ _ _ _ manner.first tt) (met (row_of p wires b (own_driver start p wires c (Storage Dff) k b)) (own_in p wires start c (Storage Dff) refl k b e)) in
+      subst (λ l. Below (pick_of (edge_at before w manner.first (point p wires clock) l) (read before (point_at (points p wires d) k)) (before (bit_place p wires b))) (read w (point p wires (OnWire b)))) (level_is rising) here

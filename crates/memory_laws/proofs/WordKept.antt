@@ -28,6 +28,7 @@ use Rattle.net_model.specs.Mem.Expand.{Word, word_at, word_step, word_wires}
 use Rattle.net_model.specs.Mem.Gather.{write_port}
 use Rattle.net_model.specs.Refine.{Solved}
 use Rattle.net_model.specs.Relate.{Reached, Related, SameMoment}
+use Rattle.net_model.specs.Order.{Manner}
 use Rattle.net_model.specs.Run.{Time, Start, Step}
 use Rattle.net_model.specs.Valuation.{Valuation}
 use Rattle.net_model.specs.Value.{edge_at, value_of}
@@ -142,12 +143,12 @@ module _ (n : Module) (s : Store) (place : ℕ) (over : Ports) (frames : List Fr
           (body_before (moment_of (start n s place) over p (wires n s place) w t) (word_step (plan n s place) wide_word among.from) (built n s place) among.grows (body t w solved)).cells
 
       -- the value of a bit, of what it had
-      abbrev edge : List Access → Valuation → Valuation → Bool → Bit
-      edge accesses a v f = edge_at a v f (point_at (points p (wires n s place) (first_trigger accesses).signal) 0) (first_trigger accesses).level
+      abbrev edge : List Access → Valuation → Valuation → Manner → Bit
+      edge accesses a v f = edge_at a v f.first (point_at (points p (wires n s place) (first_trigger accesses).signal) 0) (first_trigger accesses).level
 
-      edge_is : (z w : Valuation) (g : Bool) → edge_at z w g (point p (wires n s place) (plan n s place).clock) (level_of (plan n s place).rising) ≡ edge (writes n s place) z w g
+      edge_is : (z w : Valuation) (g : Manner) → edge_at z w g.first (point p (wires n s place) (plan n s place).clock) (level_of (plan n s place).rising) ≡ edge (writes n s place) z w g
       edge_is z w g =
-          λ i. edge_at z w g (sym (clock_is p (wires n s place) (first_trigger (writes n s place)).signal) i) (rising_is (first_trigger (writes n s place)).level i)
+          λ i. edge_at z w g.first (sym (clock_is p (wires n s place) (first_trigger (writes n s place)).signal) i) (rising_is (first_trigger (writes n s place)).level i)
 
       wire_kept : (t u : Time Place) → SameMoment over frames (says n s place) p t u → (v w : Valuation) → Related over frames (says n s place) p v w → (r : ℕ) → Reached r rows u w → Below (value_of (remembered (writes n s place)) t v) (stands w)
       wire_kept Start Start st v w rel r reached =
@@ -165,7 +166,7 @@ module _ (n : Module) (s : Store) (place : ℕ) (over : Ports) (frames : List Fr
           let after' : Below (pick_of (edge (writes n s place) z w g) (after_ports z address [] points' (a own)) (a own)) (w bit_at) = subst (λ e. Below (pick_of e (after_ports z address [] points' (a own)) (a own)) (w bit_at)) (edge_is z w g) after in
           let ports_low : Below (after_ports a address [] points' (a own)) (after_ports z address [] points' (a own)) = ports_kept Below below_order a z address points' [] [] (a own) (a own) tt (ports_on s.name (wires n s place) (words n s place) over frames p a z st.0 k [] (writes n s place)) (Below_refl (a own)) in
           let clock = (first_trigger (writes n s place)).signal in
-          let edges : Below (edge (writes n s place) a v f) (edge (writes n s place) z w g) = subst (λ h. Below (edge (writes n s place) a v f) (edge (writes n s place) z w h)) st.2 (edge_mono a z v w f (point_at (points p (wires n s place) clock) 0) (first_trigger (writes n s place)).level (place_on s.name (wires n s place) (words n s place) over frames p a z st.0 clock 0) (place_on s.name (wires n s place) (words n s place) over frames p v w rel clock 0)) in
+          let edges : Below (edge (writes n s place) a v f) (edge (writes n s place) z w g) = subst (λ h. Below (edge (writes n s place) a v f) (edge (writes n s place) z w h)) st.2 (edge_mono a z v w f.first (point_at (points p (wires n s place) clock) 0) (first_trigger (writes n s place)).level (place_on s.name (wires n s place) (words n s place) over frames p a z st.0 clock 0) (place_on s.name (wires n s place) (words n s place) over frames p v w rel clock 0)) in
           subst (Below (value_of (remembered (writes n s place)) (Step a x f) v)) (sym (is_wire w))
           (Below_trans (pick_of (edge (writes n s place) a v f) (after_ports a address [] points' (a own)) (a own)) (pick_of (edge (writes n s place) z w g) (after_ports z address [] points' (a own)) (a own)) (w bit_at)
           (mux_of_mono (a own) (a own) _ _ _ _ (Below_refl (a own)) ports_low edges) after')

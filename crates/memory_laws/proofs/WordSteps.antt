@@ -29,6 +29,7 @@ use Rattle.rtl_ir.specs.declared.wire.Wire.{Wire}
 use Rattle.net_model.proofs.Ranges.{each_more, each_none}
 use Rattle.net_model.specs.Mem.Expand.{Word, ports_step, word_step, word_wires, words_step}
 use Rattle.net_model.specs.Mem.Gather.{write_port}
+use Rattle.net_model.specs.Order.{Manner}
 use Rattle.net_model.specs.Run.{Time, Start, Step}
 use Rattle.net_model.specs.Valuation.{Valuation}
 use Rattle.net_model.specs.Value.{edge_at}
@@ -95,9 +96,9 @@ module _ (start : SigBit → Bit) (ports : Ports) (p : Path) (wires : List Wire)
       let acc = ports_step address plan.writes (whole wire width) b in
       dff_starts start ports p wires w (made_name acc.1.next) (length (whole wire width)) plan.rising plan.clock acc.0 (whole wire width) (met_last (moment_of start ports p wires w Start) acc.1.body.cells _ met) k bit (whole_get wire width k lt)
 
-  module _ (few : width ≤ 65536) (wide : AreWide width plan.writes) (t : Time Place) (z w : Valuation) (inputs : List Bit) (first : Bool) (before : AreMet (moment_of start ports p wires z t) (word_step plan word b).body.cells) (now : AreMet (moment_of start ports p wires w (Step z inputs first)) (word_step plan word b).body.cells) where
+  module _ (few : width ≤ 65536) (wide : AreWide width plan.writes) (t : Time Place) (z w : Valuation) (inputs : List Bit) (manner : Manner) (before : AreMet (moment_of start ports p wires z t) (word_step plan word b).body.cells) (now : AreMet (moment_of start ports p wires w (Step z inputs manner)) (word_step plan word b).body.cells) where
     abbrev edge : Bit
-    edge = edge_at z w first (point p wires plan.clock) (level_of plan.rising)
+    edge = edge_at z w manner.first (point p wires plan.clock) (level_of plan.rising)
 
     -- and keeps at an edge what the chain makes of it
     pub word_keeps : Below (pick_of edge (chained p wires z address k plan.writes (z (bit_place p wires bit))) (z (bit_place p wires bit))) (w (bit_place p wires bit))
@@ -113,7 +114,7 @@ module _ (start : SigBit → Bit) (ports : Ports) (p : Path) (wires : List Wire)
         let data_low' = subst (λ x. Below (chained p wires z address k plan.writes x) (at m acc.0 k)) here data_low in
         Below_trans (pick_of edge (chained p wires z address k plan.writes (z (bit_place p wires bit))) (z (bit_place p wires bit))) (pick_of edge (at m acc.0 k) (z (bit_place p wires bit))) (w (bit_place p wires bit))
         (mux_of_mono (z (bit_place p wires bit)) (z (bit_place p wires bit)) _ _ edge edge (Below_refl (z (bit_place p wires bit))) data_low' (Below_refl edge))
-        (dff_gives start ports p wires w z inputs first (made_name acc.1.next) (length (whole wire width)) plan.rising plan.clock acc.0 (whole wire width) (met_last (moment_of start ports p wires w (Step z inputs first)) acc.1.body.cells _ now) k bit (whole_get wire width k lt))
+        (dff_gives start ports p wires w z inputs manner (made_name acc.1.next) (length (whole wire width)) plan.rising plan.clock acc.0 (whole wire width) (met_last (moment_of start ports p wires w (Step z inputs manner)) acc.1.body.cells _ now) k bit (whole_get wire width k lt))
 
     -- and so no less than what is remembered
     pub word_remembers : (accesses : List Access) → plan.writes ≡ map write_port accesses → (hits : List Bit) (others : List Access) (old : Bit) → Below old (z (bit_place p wires bit)) → Below (pick_of edge (after_ports z address hits (port_points p wires k others accesses) old) old) (w (bit_place p wires bit))

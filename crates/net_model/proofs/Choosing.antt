@@ -1,16 +1,16 @@
 -- Picks and bits that hold keep an order.
 use Rattle.std.proofs.Common.{Bool, true, false, List, [], ◌∷◌, ◌++◌, inl, inr, refl, sym, subst}
-use Rattle.std.specs.Prelude.{flat_map}
+use Rattle.std.specs.Prelude.{flat_map, if◌then◌else◌}
 use Rattle.rtl_bits.specs.declared.bit.Bit.{Bit}
 use Rattle.rtl_bits.specs.declared.bit.Bit.TheVariants.{S0, S1, X, Z, M, Dash}
 use Rattle.rtl_bits.specs.Knowledge.{Placewise}
 use Rattle.rtl_bits.specs.Tables.{seen_of, merge_of}
 use Rattle.rtl_ir.specs.Flat.Pick.{Pick, Is, Where, WhereReset, pick_points}
-use Rattle.rtl_ir.specs.Flat.Place.{Place}
+use Rattle.rtl_ir.specs.Flat.Place.{Place, place_same}
 use Rattle.rtl_ir.specs.Flat.Point.{Point, Constant, At}
 use Rattle.net_model.specs.Lists.{In}
 use Rattle.net_model.specs.Valuation.{Valuation, read, read_all}
-use Rattle.net_model.specs.Picked.{equal_of, place_match, pattern_match, case_match, chosen_of, tested_of, picked_by, picked, mark_of, holds_of, held_of}
+use Rattle.net_model.specs.Picked.{equal_of, place_match, pattern_match, case_match, chosen_of, tested_of, picked_by, picked, own_or, mark_of, holds_of, held_of}
 use Rattle.net_model.proofs.Members.{In-left, In-right}
 use Rattle.net_model.proofs.Orders.{Kept}
 use Rattle.net_model.proofs.Reading.{PointsOn, on_left, on_right, word_on}
@@ -82,6 +82,16 @@ module _ (order : Bit → Bit → Type 0) (k : Kept order) where
 
   pub picked_kept : (v w : Valuation) (r r' : Bit) → order r r' → (tree : Pick) → PointsOn order k (pick_points tree) v w → order (picked v r tree) (picked w r' tree)
   picked_kept v w r r' e tree i = picked_by_kept (read v) (read w) v w r r' e tree (λ s j. i s j) i
+
+  -- a pick that reads another value for the bit itself
+  pub owned_kept : (own : Place) (v w : Valuation) (a a' : Bit) → order a a' → (r : Bit) (tree : Pick) → PointsOn order k (pick_points tree) v w → order (picked_by (own_or own a v) v r tree) (picked_by (own_or own a' w) w r tree)
+  owned_kept own v w a a' e r tree i =
+      picked_by_kept (own_or own a v) (own_or own a' w) v w r r (k.bits.self r) tree (λ s j. leaf s (i s j)) i
+    where
+      leaf : (s : Point) → order (read v s) (read w s) → order (own_or own a v s) (own_or own a' w s)
+      leaf (Constant b) h = k.bits.self b
+      leaf (At q) h =
+          elim (place_same q own) as (λ t. order (if t then a else v q) (if t then a' else w q)) [ true ↦ e | false ↦ h ]
 
   pub holds_kept : (own : Place) (v w : Valuation) (tree : Pick) → PointsOn order k (pick_points tree) v w → order (holds_of own v tree) (holds_of own w tree)
   holds_kept own v w tree i =

@@ -43,7 +43,7 @@ module _ (d e f : Design) where
   modules_trans : (ls ms ns : List Module) → ModulesBelow d e ls ms → ModulesBelow e f ms ns → ModulesBelow d f ls ns
   modules_trans [] [] [] h k = tt
   modules_trans (l ∷ ls) (m ∷ ms) (n ∷ ns) h k =
-      ((h.0.0 ∙ k.0.0, h.0.1 ∙ k.0.1, λ s. TraceBelow_trans (run_of d l s) (run_of e m s) (run_of f n s) (h.0.2 s) (k.0.2 s)), modules_trans ls ms ns h.1 k.1)
+      ((h.0.0 ∙ k.0.0, h.0.1 ∙ k.0.1, λ o s. TraceBelow_trans (run_of o d l s) (run_of o e m s) (run_of o f n s) (h.0.2 o s) (k.0.2 o s)), modules_trans ls ms ns h.1 k.1)
   modules_trans [] (m ∷ ms) ns h k = absurd h
   modules_trans (l ∷ ls) [] ns h k = absurd h
   modules_trans [] [] (n ∷ ns) h k = absurd k
@@ -54,7 +54,7 @@ Refines_trans d e f h k = modules_trans d e f d.modules e.modules f.modules h k
 
 modules_refl : (d : Design) (ms : List Module) → ModulesBelow d d ms ms
 modules_refl d [] = tt
-modules_refl d (m ∷ ms) = ((refl, refl, λ s. TraceBelow_refl (run_of d m s)), modules_refl d ms)
+modules_refl d (m ∷ ms) = ((refl, refl, λ o s. TraceBelow_refl (run_of o d m s)), modules_refl d ms)
 
 pub Refines_refl : (d : Design) → Refines d d
 Refines_refl d = modules_refl d d.modules

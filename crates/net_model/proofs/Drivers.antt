@@ -12,18 +12,22 @@ use Rattle.cell_word.specs.Values.{InputsBelow}
 use Rattle.cell_gate.specs.Control.{active_of, was_of}
 use Rattle.cell_gate.specs.Storage.{PinsBelow}
 use Rattle.rtl_ir.specs.Flat.Place.{Place}
+use Rattle.rtl_ir.specs.Flat.Pick.{Pick, pick_points}
 use Rattle.rtl_ir.specs.Flat.Point.{Point, At}
 use Rattle.rtl_ir.specs.Flat.Driver.{StorePoints, Driver, Nothing, Given, Joined, Worked, Stored, Decided, Held, Raced, Remembered, Fetched, Driven}
 use Rattle.rtl_ir.specs.Flat.Reads.{store_list, read_points, reads}
+use Rattle.net_model.specs.declared.order.Order.{Order}
+use Rattle.net_model.specs.declared.order.Order.TheVariants.{Together, Released}
 use Rattle.net_model.specs.Lists.{In}
+use Rattle.net_model.specs.Order.{Manner}
 use Rattle.net_model.specs.Settle.{Pointwise, KeepsOrder}
 use Rattle.net_model.specs.Run.{Time, Start, Step, TimeBelow}
 use Rattle.net_model.specs.Valuation.{Valuation, read}
-use Rattle.net_model.specs.Value.{worked_of, pins_of, edge_at, level_bit, value_of, meaning, meanings}
+use Rattle.net_model.specs.Value.{worked_of, pins_of, edge_at, level_bit, raced_in, value_of, meaning, meanings}
 use Rattle.net_model.proofs.Members.{In-mapped}
 use Rattle.net_model.proofs.Orders.{Kept}
 use Rattle.net_model.proofs.Reading.{BelowOn as BelowAt, PointsOn, points_on, on_left, on_right, word_on, words_on, at_kept}
-use Rattle.net_model.proofs.Choosing.{picked_kept, holds_kept, held_kept}
+use Rattle.net_model.proofs.Choosing.{picked_kept, owned_kept, holds_kept, held_kept}
 use Rattle.net_model.proofs.Racing.{raced_kept}
 use Rattle.net_model.proofs.Writing.{pick_kept, ports_kept, fetched_kept}
 use Rattle.net_model.proofs.Running.{AlwaysMonotone}
@@ -74,8 +78,25 @@ module _ (order : Bit → Bit → Type 0) (k : Kept order) where
   edge_kept a b v w first s level h i =
       k.bits.and _ _ _ _ (k.bits.not _ _ (active_kept level _ _ (was_kept first _ _ h))) (active_kept level _ _ i)
 
+  -- a bit of a process with two edges keeps the order, in either order of time
+  raced_on : (o : Order) (f : Bool) (a b v w : Valuation) (clock : Point) (clock_level : Level) (reset : Point) (reset_level : Level) (tree : Pick) (own : Place) → order (read a clock) (read b clock) → order (read v clock) (read w clock) → order (read a reset) (read b reset) → order (read v reset) (read w reset) → PointsOn order k (pick_points tree) a b → order (a own) (b own) → order (raced_in o a v f clock clock_level reset reset_level tree own) (raced_in o b w f clock clock_level reset reset_level tree own)
+  raced_on Together f a b v w clock clock_level reset reset_level tree own c c' was is before old =
+      raced_kept order k _ _ _ _ _ _ _ _ _ _ _ _
+      (edge_kept a b v w f clock clock_level c c')
+      (edge_kept a b v w f reset reset_level was is)
+      (picked_kept order k a b _ _ (was_kept f _ _ was) tree before)
+      (picked_kept order k a b _ _ is tree before)
+      (picked_kept order k a b _ _ (k.bits.self (level_bit reset_level)) tree before)
+      old
+  raced_on Released f a b v w clock clock_level reset reset_level tree own c c' was is before old =
+      let clocked = pick_kept order k _ _ _ _ _ _ (edge_kept a b v w f clock clock_level c c') (picked_kept order k a b _ _ (was_kept f _ _ was) tree before) old in
+      pick_kept order k _ _ _ _ _ _
+      (active_kept reset_level _ _ is)
+      (owned_kept order k own a b _ _ clocked (level_bit reset_level) tree before)
+      clocked
+
   -- a driver keeps the order in the points that it reads, in a step of two runs with the same inputs
-  step_on : (d : Driver) (x : List Bit) (f : Bool) (a b : Valuation) → PointsOn order k (read_points d) a b → (v w : Valuation) → PointsOn order k (read_points d) v w → order (value_of d (Step a x f) v) (value_of d (Step b x f) w)
+  step_on : (d : Driver) (x : List Bit) (f : Manner) (a b : Valuation) → PointsOn order k (read_points d) a b → (v w : Valuation) → PointsOn order k (read_points d) v w → order (value_of d (Step a x f) v) (value_of d (Step b x f) w)
   step_on Nothing x f a b e v w h = k.bits.self X
   step_on (Given at) x f a b e v w h = k.bits.self (slice_index_or x at X)
   step_on (Joined from) x f a b e v w h = k.passed _ _ (h from (inl refl))
@@ -86,20 +107,14 @@ module _ (order : Bit → Bit → Type 0) (k : Kept order) where
   step_on (Held start value tree own) x f a b e v w h =
       held_kept order k _ _ _ _ _ _ (holds_kept order k own v w tree (λ s i. h s (inr (inr i)))) (e (At own) (inl refl)) (h value (inr (inl refl)))
   step_on (Raced start clock clock_level reset reset_level tree own) x f a b e v w h =
-      let before : PointsOn order k _ a b = λ s i. e s (inr (inr (inr i))) in
-      let was = e reset (inr (inr (inl refl))) in
-      let is = h reset (inr (inr (inl refl))) in
-      raced_kept order k _ _ _ _ _ _ _ _ _ _ _ _
-      (edge_kept a b v w f clock clock_level (e clock (inr (inl refl))) (h clock (inr (inl refl))))
-      (edge_kept a b v w f reset reset_level was is)
-      (picked_kept order k a b _ _ (was_kept f _ _ was) tree before)
-      (picked_kept order k a b _ _ is tree before)
-      (picked_kept order k a b _ _ (k.bits.self (level_bit reset_level)) tree before)
-      (e (At own) (inl refl))
+      raced_on f.order f.first a b v w clock clock_level reset reset_level tree own
+      (e clock (inr (inl refl))) (h clock (inr (inl refl)))
+      (e reset (inr (inr (inl refl)))) (h reset (inr (inr (inl refl))))
+      (λ s i. e s (inr (inr (inr i)))) (e (At own) (inl refl))
   step_on (Remembered start clock level address ports own) x f a b e v w h =
       let old = e (At own) (inl refl) in
       pick_kept order k _ _ _ _ _ _
-      (edge_kept a b v w f clock level (e clock (inr (inl refl))) (h clock (inr (inl refl))))
+      (edge_kept a b v w f.first clock level (e clock (inr (inl refl))) (h clock (inr (inl refl))))
       (ports_kept order k a b address ports [] [] _ _ tt (λ s i. e s (inr (inr i))) old) old
   step_on (Fetched address first words) x f a b e v w h =
       fetched_kept order k _ _ first _ _ (word_on order k v w address (on_left order k v w address words h)) (word_on order k v w words (on_right order k v w address words h))

@@ -3,6 +3,7 @@ pub mod MemoryCells
 pub mod Settling
 pub mod Running
 pub mod Places
+pub mod Released
 pub mod Orders
 pub mod Reading
 pub mod Choosing

@@ -20,6 +20,7 @@ use Rattle.rtl_ir.specs.Flat.Point.{Point, Constant, At, wire_points}
 use Rattle.rtl_ir.specs.Flat.Reads.{reads}
 use Rattle.rtl_ir.specs.Flat.Rows.{rows_of}
 use Rattle.rtl_ir.specs.Flat.Tree.{named, ports_or_none, design_ports, in_instances, in_tree, tree_rows, tree_points, root, if_role, role_points, places, given_rows, driven_rows, undriven, undriven_rows, flat, output_places}
+use Rattle.net_model.specs.declared.order.Order.{Order}
 use Rattle.net_model.specs.Lists.{In, Apart, Distinct}
 use Rattle.net_model.specs.Settle.{applied}
 use Rattle.net_model.specs.Run.{Time, Start, Step, rows_at, row_at, run, TraceBelow}
@@ -383,9 +384,9 @@ module _ (b c : Module) (ports : Ports) (says : Says) (r : RowsRelate b c ports 
         let more : List Driven = undriven_rows (driven_rows e n) (places (tree_points e (root n) n)) in
         let parts : meanings (flat e n) ≡ meanings (driven_rows e n) ++ meanings more = map-append meaning (driven_rows e n) more in
         let is : (o : Place) → In o (output_places m) → (z : PortLine) × In z (ports_of m.wires) × (o.path ≡ root m) × IsBitOf z o.spot = λ o i. let z = role_is Output (root m) (ports_of m.wires) o i in (z.0, z.1, z.2, z.3) in
-        let below : (stimulus : List (List Bit)) → TraceBelow (run_of d m stimulus) (run place_same (meanings (driven_rows e n) ++ meanings more) (output_places m) stimulus) = run_below place_same place_same place_same-same (Related b.id says) (Was n) (meanings (flat d m)) (meanings (driven_rows e n)) (meanings more) (output_places m) (output_places m) (subst (λ z. AlwaysMonotone FlatBelow z) parts (meanings_kept FlatBelow flat_order (flat e n))) (subst Distinct (sym (map-map meaning (λ z. z.bit) (driven_rows e n))) u) (λ w s. (zero, refl, (Start, solved_from (driven_rows e n) Start w s))) (λ v x f w q s. (suc q.0, refl, (Step v x f, (solved_from (driven_rows e n) (Step v x f) w s, q.1, q.2)))) (λ w q. (λ o. r.unknown q.path w q.spot, λ o. tt)) (kept m n g) (seen m n g (output_places m) is) in
+        let below : (order : Order) (stimulus : List (List Bit)) → TraceBelow (run_of order d m stimulus) (run place_same (meanings (driven_rows e n) ++ meanings more) (output_places m) order stimulus) = run_below place_same place_same place_same-same (Related b.id says) (Was n) (meanings (flat d m)) (meanings (driven_rows e n)) (meanings more) (output_places m) (output_places m) (subst (λ z. AlwaysMonotone FlatBelow z) parts (meanings_kept FlatBelow flat_order (flat e n))) (subst Distinct (sym (map-map meaning (λ z. z.bit) (driven_rows e n))) u) (λ w s. (zero, refl, (Start, solved_from (driven_rows e n) Start w s))) (λ v x f w q s. (suc q.0, refl, (Step v x f, (solved_from (driven_rows e n) (Step v x f) w s, q.1, q.2)))) (λ w q. (λ o. r.unknown q.path w q.spot, λ o. tt)) (kept m n g) (seen m n g (output_places m) is) in
         let outs : output_places m ≡ output_places n = ap (λ z. places (role_points Output (frame [] z ∷ []) (ports_of m.wires))) (pair_id m n g) ∙ ap (λ z. places (role_points Output (root n) z)) (pair_ports m n g) in
-        (pair_id m n g, pair_ports m n g, λ stimulus. subst (λ z. TraceBelow (run_of d m stimulus) (run place_same (meanings (flat e n)) z stimulus)) outs (subst (λ z. TraceBelow (run_of d m stimulus) (run place_same z (output_places m) stimulus)) (sym parts) (below stimulus)))
+        (pair_id m n g, pair_ports m n g, λ order stimulus. subst (λ z. TraceBelow (run_of order d m stimulus) (run place_same (meanings (flat e n)) z order stimulus)) outs (subst (λ z. TraceBelow (run_of order d m stimulus) (run place_same z (output_places m) order stimulus)) (sym parts) (below order stimulus)))
 
     pub modules_below : (ms ns : List Module) → Pairs ms ns → ((n : Module) → In n ns → Distinct (places_of (driven_rows e n))) → ModulesBelow d e ms ns
     modules_below [] [] h u = tt

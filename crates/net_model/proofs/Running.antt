@@ -5,7 +5,9 @@ use Rattle.rtl_bits.specs.declared.bit.Bit.{Bit}
 use Rattle.rtl_bits.specs.declared.bit.Bit.TheVariants.{X}
 use Rattle.rtl_bits.specs.Knowledge.{AreBelow, FlatBelow}
 use Rattle.rtl_bits.proofs.Keeping.{flat_kept}
+use Rattle.net_model.specs.declared.order.Order.{Order}
 use Rattle.net_model.specs.Lists.{In, Distinct}
+use Rattle.net_model.specs.Order.{Manner}
 use Rattle.net_model.specs.Settle.{bits_of, KeepsOrder, AreMonotone, IsSame, applied, rounds, settled}
 use Rattle.net_model.specs.Run.{Time, Start, Step, Drive, row_at, rows_at, settle, trace, run, TraceBelow}
 use Rattle.net_model.proofs.Members.{In-map, In-mapped, map-append, map-map}
@@ -42,11 +44,11 @@ module _ {B C : Type 0} (R : (B → Bit) → (C → Bit) → Type 0) (Q : Bool �
   -- the same step in two runs; Q is what is known of the second valuation before it
   abbrev pub SameTime : Time B → Time C → Type 0
   SameTime Start Start = Unit {0}
-  SameTime (Step v x f) (Step w y g) = R v w × Q g w × (x ≡ y) × (f ≡ g)
+  SameTime (Step v x f) (Step w y g) = R v w × Q g.first w × (x ≡ y) × (f ≡ g)
   SameTime Start (Step w y g) = ⊥
   SameTime (Step v x f) Start = ⊥
 
-module _ {B C : Type 0} (same : B → B → Bool) (same' : C → C → Bool) (is_same' : IsSame same') (R : (B → Bit) → (C → Bit) → Type 0) (Q : Bool → (C → Bit) → Type 0) (ds : List (Drive B)) (es more : List (Drive C)) (outs : List B) (outs' : List C) (mono : AlwaysMonotone FlatBelow (es ++ more)) (distinct : Distinct (driven_bits es)) (begins : (w : C → Bit) → Solves es Start w → Q true w) (goes : (v : C → Bit) (x : List Bit) (f : Bool) (w : C → Bit) → Q f v → Solves es (Step v x f) w → Q false w) (none : (w : C → Bit) → R (λ b. X) w) (kept : (t : Time B) (u : Time C) → SameTime R Q t u → (v : B → Bit) (w : C → Bit) → Solves es u w → R v w → R (applied same (rows_at t ds) v) w) (seen : (v : B → Bit) (w : C → Bit) → R v w → AreBelow (map v outs) (map w outs')) where
+module _ {B C : Type 0} (same : B → B → Bool) (same' : C → C → Bool) (is_same' : IsSame same') (R : (B → Bit) → (C → Bit) → Type 0) (Q : Bool → (C → Bit) → Type 0) (ds : List (Drive B)) (es more : List (Drive C)) (outs : List B) (outs' : List C) (mono : AlwaysMonotone FlatBelow (es ++ more)) (distinct : Distinct (driven_bits es)) (begins : (w : C → Bit) → Solves es Start w → Q true w) (goes : (v : C → Bit) (x : List Bit) (f : Manner) (w : C → Bit) → Q f.first v → Solves es (Step v x f) w → Q false w) (none : (w : C → Bit) → R (λ b. X) w) (kept : (t : Time B) (u : Time C) → SameTime R Q t u → (v : B → Bit) (w : C → Bit) → Solves es u w → R v w → R (applied same (rows_at t ds) v) w) (seen : (v : B → Bit) (w : C → Bit) → R v w → AreBelow (map v outs) (map w outs')) where
   settle_keeps : (t : Time B) (u : Time C) → SameTime R Q t u → R (settle same ds t) (settle same' (es ++ more) u)
   settle_keeps t u st =
       rounds_keep_all (length (rows_at t ds))
@@ -58,13 +60,14 @@ module _ {B C : Type 0} (same : B → B → Bool) (same' : C → C → Bool) (is
       rounds_keep_all zero = none w
       rounds_keep_all (suc n) = kept t u st (rounds same (rows_at t ds) n) w (settle_solves same' is_same' es more mono distinct u) (rounds_keep_all n)
 
-  trace_below : (v : B → Bit) (w : C → Bit) (first : Bool) → R v w → Q first w → (xs : List (List Bit)) → TraceBelow (trace same ds outs v first xs) (trace same' (es ++ more) outs' w first xs)
-  trace_below v w first r q [] = tt
-  trace_below v w first r q (x ∷ xs) =
-      let k = settle_keeps (Step v x first) (Step w x first) (r, q, refl, refl) in
-      let s = settle_solves same' is_same' es more mono distinct (Step w x first) in
-      (seen _ _ k, trace_below (settle same ds (Step v x first)) (settle same' (es ++ more) (Step w x first)) false k (goes w x first (settle same' (es ++ more) (Step w x first)) q s) xs)
+  trace_below : (order : Order) (v : B → Bit) (w : C → Bit) (first : Bool) → R v w → Q first w → (xs : List (List Bit)) → TraceBelow (trace same ds outs order v first xs) (trace same' (es ++ more) outs' order w first xs)
+  trace_below order v w first r q [] = tt
+  trace_below order v w first r q (x ∷ xs) =
+      let manner : Manner = record { first = first; order = order } in
+      let k = settle_keeps (Step v x manner) (Step w x manner) (r, q, refl, refl) in
+      let s = settle_solves same' is_same' es more mono distinct (Step w x manner) in
+      (seen _ _ k, trace_below order (settle same ds (Step v x manner)) (settle same' (es ++ more) (Step w x manner)) false k (goes w x manner (settle same' (es ++ more) (Step w x manner)) q s) xs)
 
-  pub run_below : (stimulus : List (List Bit)) → TraceBelow (run same ds outs stimulus) (run same' (es ++ more) outs' stimulus)
-  run_below stimulus =
-      trace_below (settle same ds Start) (settle same' (es ++ more) Start) true (settle_keeps Start Start tt) (begins (settle same' (es ++ more) Start) (settle_solves same' is_same' es more mono distinct Start)) stimulus
+  pub run_below : (order : Order) (stimulus : List (List Bit)) → TraceBelow (run same ds outs order stimulus) (run same' (es ++ more) outs' order stimulus)
+  run_below order stimulus =
+      trace_below order (settle same ds Start) (settle same' (es ++ more) Start) true (settle_keeps Start Start tt) (begins (settle same' (es ++ more) Start) (settle_solves same' is_same' es more mono distinct Start)) stimulus

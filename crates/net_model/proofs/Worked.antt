@@ -9,6 +9,7 @@ use Rattle.rtl_ir.specs.Empty.{empty_module}
 use Rattle.rtl_ir.specs.Flat.Cell.{cell_kind, cell_shape}
 use Rattle.rtl_ir.specs.Follow.{follow_joins}
 use Rattle.rtl_ir.specs.Tree.{NoSwitch, NoCase}
+use Rattle.net_model.specs.declared.order.Order.TheVariants.{Together}
 use Rattle.net_model.specs.Refine.{run_of}
 use Rattle.net_model.proofs.Parts.{wire, init, bit, fixed, pin, cell, link, on, otherwise, switch, rule, process, alone}
 
@@ -28,7 +29,7 @@ latch = record (empty_module (codes "\\l")) {
 }
 
 -- it is set, then left alone, which the least solution does not remember, then reset
-latch_runs : run_of (alone latch) latch ((S1 ∷ S0 ∷ []) ∷ (S0 ∷ S0 ∷ []) ∷ (S0 ∷ S1 ∷ []) ∷ []) ≡ (S1 ∷ S0 ∷ []) ∷ (X ∷ X ∷ []) ∷ (S0 ∷ S1 ∷ []) ∷ []
+latch_runs : run_of Together (alone latch) latch ((S1 ∷ S0 ∷ []) ∷ (S0 ∷ S0 ∷ []) ∷ (S0 ∷ S1 ∷ []) ∷ []) ≡ (S1 ∷ S0 ∷ []) ∷ (X ∷ X ∷ []) ∷ (S0 ∷ S1 ∷ []) ∷ []
 unfolding cell_kind cell_shape
 latch_runs = refl
 
@@ -39,7 +40,7 @@ ring = record (empty_module (codes "\\o")) {
   cells = cell (codes "$_NOT_") [] (pin (codes "\\A") (bit 0) ∷ pin (codes "\\Y") (bit 0) ∷ []) ∷ [];
 }
 
-ring_runs : run_of (alone ring) ring ([] ∷ []) ≡ (X ∷ []) ∷ []
+ring_runs : run_of Together (alone ring) ring ([] ∷ []) ≡ (X ∷ []) ∷ []
 unfolding cell_kind cell_shape
 ring_runs = refl
 
@@ -54,7 +55,7 @@ ones = record (empty_module (codes "\\m")) {
       ∷ [];
 }
 
-ones_run : run_of (alone ones) ones ((X ∷ []) ∷ (S0 ∷ []) ∷ []) ≡ (S1 ∷ []) ∷ (S1 ∷ []) ∷ []
+ones_run : run_of Together (alone ones) ones ((X ∷ []) ∷ (S0 ∷ []) ∷ []) ≡ (S1 ∷ []) ∷ (S1 ∷ []) ∷ []
 ones_run = refl
 
 -- a switch with one case: where it is open, the value is the merge of the case and of what was before it
@@ -68,7 +69,7 @@ half = record (empty_module (codes "\\m")) {
       ∷ [];
 }
 
-half_runs : run_of (alone half) half ((S0 ∷ []) ∷ (S1 ∷ []) ∷ (X ∷ []) ∷ []) ≡ (S0 ∷ []) ∷ (S1 ∷ []) ∷ (X ∷ []) ∷ []
+half_runs : run_of Together (alone half) half ((S0 ∷ []) ∷ (S1 ∷ []) ∷ (X ∷ []) ∷ []) ≡ (S0 ∷ []) ∷ (S1 ∷ []) ∷ (X ∷ []) ∷ []
 half_runs = refl
 
 -- a bit that is always updated and holds while it is not enabled; an enable that is not known gives x
@@ -88,7 +89,7 @@ holding = record (empty_module (codes "\\m")) {
       ∷ [];
 }
 
-holding_runs : run_of (alone holding) holding ((S1 ∷ S1 ∷ []) ∷ (S0 ∷ S0 ∷ []) ∷ (S1 ∷ X ∷ []) ∷ (S0 ∷ S1 ∷ []) ∷ []) ≡ (S1 ∷ []) ∷ (S1 ∷ []) ∷ (X ∷ []) ∷ (S0 ∷ []) ∷ []
+holding_runs : run_of Together (alone holding) holding ((S1 ∷ S1 ∷ []) ∷ (S0 ∷ S0 ∷ []) ∷ (S1 ∷ X ∷ []) ∷ (S0 ∷ S1 ∷ []) ∷ []) ≡ (S1 ∷ []) ∷ (S1 ∷ []) ∷ (X ∷ []) ∷ (S0 ∷ []) ∷ []
 holding_runs = refl
 
 -- a register with an enable and a reset of its own edge; in the first step the reset's edge is open, and the reset value
@@ -110,11 +111,11 @@ resetting = record (empty_module (codes "\\m")) {
       ∷ [];
 }
 
-resetting_runs : run_of (alone resetting) resetting ((S0 ∷ S1 ∷ S0 ∷ S0 ∷ []) ∷ (S1 ∷ S1 ∷ S0 ∷ S0 ∷ []) ∷ (S0 ∷ S0 ∷ S1 ∷ S1 ∷ []) ∷ (S1 ∷ S0 ∷ S1 ∷ S1 ∷ []) ∷ (S1 ∷ S1 ∷ S1 ∷ S1 ∷ []) ∷ []) ≡ (X ∷ []) ∷ (S0 ∷ []) ∷ (S0 ∷ []) ∷ (S1 ∷ []) ∷ (S0 ∷ []) ∷ []
+resetting_runs : run_of Together (alone resetting) resetting ((S0 ∷ S1 ∷ S0 ∷ S0 ∷ []) ∷ (S1 ∷ S1 ∷ S0 ∷ S0 ∷ []) ∷ (S0 ∷ S0 ∷ S1 ∷ S1 ∷ []) ∷ (S1 ∷ S0 ∷ S1 ∷ S1 ∷ []) ∷ (S1 ∷ S1 ∷ S1 ∷ S1 ∷ []) ∷ []) ≡ (X ∷ []) ∷ (S0 ∷ []) ∷ (S0 ∷ []) ∷ (S1 ∷ []) ∷ (S0 ∷ []) ∷ []
 unfolding follow_joins
 resetting_runs = refl
 
 -- a reset that comes with the clock is a race: the merge of the new value and the reset value
-resetting_races : run_of (alone resetting) resetting ((S0 ∷ S0 ∷ S1 ∷ S1 ∷ []) ∷ (S1 ∷ S1 ∷ S1 ∷ S1 ∷ []) ∷ []) ≡ (S1 ∷ []) ∷ (X ∷ []) ∷ []
+resetting_races : run_of Together (alone resetting) resetting ((S0 ∷ S0 ∷ S1 ∷ S1 ∷ []) ∷ (S1 ∷ S1 ∷ S1 ∷ S1 ∷ []) ∷ []) ≡ (S1 ∷ []) ∷ (X ∷ []) ∷ []
 unfolding follow_joins
 resetting_races = refl

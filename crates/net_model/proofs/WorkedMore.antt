@@ -12,6 +12,7 @@ use Rattle.rtl_ir.specs.Constants.{low_bits}
 use Rattle.rtl_ir.specs.Empty.{empty_module}
 use Rattle.rtl_ir.specs.Flat.Cell.{cell_kind, cell_shape}
 use Rattle.rtl_ir.specs.WritePorts.{is_write_cell}
+use Rattle.net_model.specs.declared.order.Order.TheVariants.{Together}
 use Rattle.net_model.specs.Refine.{run_of}
 use Rattle.net_model.proofs.Parts.{wire, init, bit, word, fixed, pin, number, cell, alone}
 
@@ -36,7 +37,7 @@ states = record (empty_module (codes "\\m")) {
 }
 
 -- after a clock edge one bit of the state is known, and it tells the state apart from the constant
-states_run : run_of (alone states) states ((S0 ∷ X ∷ S0 ∷ []) ∷ (S1 ∷ X ∷ S0 ∷ []) ∷ []) ≡ (X ∷ []) ∷ (S0 ∷ []) ∷ []
+states_run : run_of Together (alone states) states ((S0 ∷ X ∷ S0 ∷ []) ∷ (S1 ∷ X ∷ S0 ∷ []) ∷ []) ≡ (X ∷ []) ∷ (S0 ∷ []) ∷ []
 unfolding cell_kind cell_shape low_bits
 states_run = refl
 
@@ -72,12 +73,12 @@ abbrev pub inputs : Bit → List Bit → List Bit
 inputs clk address = clk ∷ S0 ∷ S1 ∷ S0 ∷ S0 ∷ S1 ∷ address
 
 -- where the second port may follow the first one it wins; an address outside, or not known, reads x
-memory_runs : run_of (alone (memory S1)) (memory S1) (inputs S0 (S0 ∷ S1 ∷ S0 ∷ []) ∷ inputs S1 (S0 ∷ S1 ∷ S0 ∷ []) ∷ inputs S1 (S1 ∷ S0 ∷ S1 ∷ []) ∷ inputs S1 (S0 ∷ X ∷ S0 ∷ []) ∷ []) ≡ (X ∷ []) ∷ (S1 ∷ []) ∷ (X ∷ []) ∷ (X ∷ []) ∷ []
+memory_runs : run_of Together (alone (memory S1)) (memory S1) (inputs S0 (S0 ∷ S1 ∷ S0 ∷ []) ∷ inputs S1 (S0 ∷ S1 ∷ S0 ∷ []) ∷ inputs S1 (S1 ∷ S0 ∷ S1 ∷ []) ∷ inputs S1 (S0 ∷ X ∷ S0 ∷ []) ∷ []) ≡ (X ∷ []) ∷ (S1 ∷ []) ∷ (X ∷ []) ∷ (X ∷ []) ∷ []
 unfolding cell_kind cell_shape low_bits is_write_cell
 memory_runs = refl
 
 -- where it may not, the word is x
-memory_clashes : run_of (alone (memory S0)) (memory S0) (inputs S0 (S0 ∷ S1 ∷ S0 ∷ []) ∷ inputs S1 (S0 ∷ S1 ∷ S0 ∷ []) ∷ []) ≡ (X ∷ []) ∷ (X ∷ []) ∷ []
+memory_clashes : run_of Together (alone (memory S0)) (memory S0) (inputs S0 (S0 ∷ S1 ∷ S0 ∷ []) ∷ inputs S1 (S0 ∷ S1 ∷ S0 ∷ []) ∷ []) ≡ (X ∷ []) ∷ (X ∷ []) ∷ []
 unfolding cell_kind cell_shape low_bits is_write_cell
 memory_clashes = refl
 
@@ -98,12 +99,12 @@ early = record (empty_module (codes "\\m")) {
       ∷ [];
 }
 
-early_runs : run_of (alone early) early ((S1 ∷ []) ∷ []) ≡ (X ∷ S1 ∷ []) ∷ []
+early_runs : run_of Together (alone early) early ((S1 ∷ []) ∷ []) ≡ (X ∷ S1 ∷ []) ∷ []
 unfolding cell_kind cell_shape
 early_runs = refl
 
 -- one step later the edge is certain
-late_runs : run_of (alone early) early ((S0 ∷ []) ∷ (S1 ∷ []) ∷ []) ≡ (S0 ∷ S1 ∷ []) ∷ (S1 ∷ S1 ∷ []) ∷ []
+late_runs : run_of Together (alone early) early ((S0 ∷ []) ∷ (S1 ∷ []) ∷ []) ≡ (S0 ∷ S1 ∷ []) ∷ (S1 ∷ S1 ∷ []) ∷ []
 unfolding cell_kind cell_shape
 late_runs = refl
 
@@ -121,6 +122,6 @@ top = record (empty_module (codes "\\top")) {
 }
 
 -- a bit that nothing drives is x
-top_runs : run_of (record { modules = inverter ∷ top ∷ [] }) top ((S0 ∷ []) ∷ (S1 ∷ []) ∷ []) ≡ (S1 ∷ X ∷ []) ∷ (S0 ∷ X ∷ []) ∷ []
+top_runs : run_of Together (record { modules = inverter ∷ top ∷ [] }) top ((S0 ∷ []) ∷ (S1 ∷ []) ∷ []) ≡ (S1 ∷ X ∷ []) ∷ (S0 ∷ X ∷ []) ∷ []
 unfolding cell_kind cell_shape
 top_runs = refl

@@ -23,6 +23,7 @@ use Rattle.net_model.specs.Proc.Start.{proc_tree_of, init_attribute}
 use Rattle.net_model.specs.Proc.Sync.{proc_sync_of}
 use Rattle.net_model.specs.Proc.Mux.{proc_mux_of}
 use Rattle.net_model.specs.Proc.Steps.{proc_of}
+use Rattle.net_model.specs.declared.order.Order.TheVariants.{Together}
 use Rattle.net_model.specs.Refine.{run_of}
 use Rattle.net_model.proofs.Parts.{wire, bit, bit_at, word, fixed, pin, number, link, on, switch, rule, process, alone}
 use Rattle.net_model.proofs.Worked.{resetting, holding}
@@ -49,7 +50,7 @@ unfolding made_number digits
 half_linked = refl
 
 -- the same trace as before
-half_runs : run_of (alone (proc_mux_of half)) (proc_mux_of half) ((S0 ∷ []) ∷ (S1 ∷ []) ∷ (X ∷ []) ∷ []) ≡ (S0 ∷ []) ∷ (S1 ∷ []) ∷ (X ∷ []) ∷ []
+half_runs : run_of Together (alone (proc_mux_of half)) (proc_mux_of half) ((S0 ∷ []) ∷ (S1 ∷ []) ∷ (X ∷ []) ∷ []) ≡ (S0 ∷ []) ∷ (S1 ∷ []) ∷ (X ∷ []) ∷ []
 unfolding made_number digits cell_kind cell_shape low_bits
 half_runs = refl
 
@@ -94,17 +95,17 @@ unfolding made_number digits follow_joins cell_type
 holding_cells = refl
 
 -- its trace is that of the source
-holding_runs : run_of (alone (proc_of no_modules holding)) (proc_of no_modules holding) ((S1 ∷ S1 ∷ []) ∷ (S0 ∷ S0 ∷ []) ∷ (S1 ∷ X ∷ []) ∷ []) ≡ (S1 ∷ []) ∷ (S1 ∷ []) ∷ (X ∷ []) ∷ []
+holding_runs : run_of Together (alone (proc_of no_modules holding)) (proc_of no_modules holding) ((S1 ∷ S1 ∷ []) ∷ (S0 ∷ S0 ∷ []) ∷ (S1 ∷ X ∷ []) ∷ []) ≡ (S1 ∷ []) ∷ (S1 ∷ []) ∷ (X ∷ []) ∷ []
 unfolding made_number digits follow_joins cell_type cell_kind cell_shape low_bits
 holding_runs = refl
 
 -- a register with a reset that comes with the clock: what was a race has the reset value
-resetting_runs : run_of (alone (proc_of no_modules resetting)) (proc_of no_modules resetting) ((S0 ∷ S0 ∷ S1 ∷ S1 ∷ []) ∷ (S1 ∷ S1 ∷ S1 ∷ S1 ∷ []) ∷ []) ≡ (S1 ∷ []) ∷ (S0 ∷ []) ∷ []
+resetting_runs : run_of Together (alone (proc_of no_modules resetting)) (proc_of no_modules resetting) ((S0 ∷ S0 ∷ S1 ∷ S1 ∷ []) ∷ (S1 ∷ S1 ∷ S1 ∷ S1 ∷ []) ∷ []) ≡ (S1 ∷ []) ∷ (S0 ∷ []) ∷ []
 unfolding made_number digits follow_joins cell_type cell_kind cell_shape low_bits
 resetting_runs = refl
 
 -- two words of a memory with ports that clash: the chain lets the later port win
-memory_runs : run_of (alone (memory_of (memory S0))) (memory_of (memory S0)) (inputs S0 (S0 ∷ S1 ∷ S0 ∷ []) ∷ inputs S1 (S0 ∷ S1 ∷ S0 ∷ []) ∷ []) ≡ (X ∷ []) ∷ (S1 ∷ []) ∷ []
+memory_runs : run_of Together (alone (memory_of (memory S0))) (memory_of (memory S0)) (inputs S0 (S0 ∷ S1 ∷ S0 ∷ []) ∷ inputs S1 (S0 ∷ S1 ∷ S0 ∷ []) ∷ []) ≡ (X ∷ []) ∷ (S1 ∷ []) ∷ []
 unfolding made_number digits cell_kind cell_shape low_bits is_write_cell
 memory_runs = refl
 
@@ -118,6 +119,6 @@ unfolding made_number digits follow_joins cell_type cell_kind low_bits
 states_links = refl
 
 -- and the trace is the same
-states_run : run_of (alone (fsm_of no_modules states)) (fsm_of no_modules states) ((S0 ∷ X ∷ S0 ∷ []) ∷ (S1 ∷ X ∷ S0 ∷ []) ∷ []) ≡ (X ∷ []) ∷ (S0 ∷ []) ∷ []
+states_run : run_of Together (alone (fsm_of no_modules states)) (fsm_of no_modules states) ((S0 ∷ X ∷ S0 ∷ []) ∷ (S1 ∷ X ∷ S0 ∷ []) ∷ []) ≡ (X ∷ []) ∷ (S0 ∷ []) ∷ []
 unfolding made_number digits follow_joins cell_type cell_kind cell_shape low_bits
 states_run = refl

@@ -1,5 +1,6 @@
 pub mod Lists
 pub mod Settle
+pub mod Order
 pub mod Run
 pub mod Valuation
 pub mod Picked

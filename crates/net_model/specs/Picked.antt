@@ -52,6 +52,11 @@ picked_by leaf v reset (WhereReset inverse patterns met other) =
 abbrev pub picked : Valuation → Bit → Pick → Bit
 picked v reset tree = picked_by (read v) v reset tree
 
+-- what a leaf has where the bit itself has this
+abbrev pub own_or : Place → Bit → Valuation → Point → Bit
+own_or own bit v (Constant b) = b
+own_or own bit v (At q) = if place_same q own then bit else v q
+
 -- 1 for the bit itself, 0 for any other leaf
 abbrev pub mark_of : Place → Point → Bit
 mark_of own (Constant b) = S0

@@ -13,21 +13,23 @@ use Rattle.rtl_ir.specs.Flat.Driver.{Driven}
 use Rattle.rtl_ir.specs.Flat.Place.{Frame, Path, Place, place_same, IsOf}
 use Rattle.rtl_ir.specs.Flat.Rows.{rows_of}
 use Rattle.rtl_ir.specs.Flat.Tree.{design_ports, table_ports, role_points, places, driven_rows, flat, output_places}
+use Rattle.net_model.specs.declared.order.Order.{Order}
 use Rattle.net_model.specs.Lists.{In, Distinct}
 use Rattle.net_model.specs.Run.{Time, Start, Step, run, TraceBelow}
 use Rattle.net_model.specs.Valuation.{Valuation}
 use Rattle.net_model.specs.Value.{value_of, meanings}
 
--- the output vectors of a module of a design, for a list of input vectors
-abbrev pub run_of : Design → Module → List (List Bit) → List (List Bit)
-run_of d m stimulus = run place_same (meanings (flat d m)) (output_places m) stimulus
+-- the output vectors of a module of a design in an order of time, for a list of input vectors
+abbrev pub run_of : Order → Design → Module → List (List Bit) → List (List Bit)
+run_of order d m stimulus = run place_same (meanings (flat d m)) (output_places m) order stimulus
 
--- the second module has the name and the ports of the first, and for every stimulus the trace of the first is below its own
+-- the second module has the name and the ports of the first, and in both orders of time and for every stimulus the trace of
+-- the first is below its own
 abbrev pub ModuleBelow : Design → Design → Module → Module → Type 0
 ModuleBelow d e m n =
     (m.id ≡ n.id)
     × (ports_of m.wires ≡ ports_of n.wires)
-    × ((stimulus : List (List Bit)) → TraceBelow (run_of d m stimulus) (run_of e n stimulus))
+    × ((order : Order) (stimulus : List (List Bit)) → TraceBelow (run_of order d m stimulus) (run_of order e n stimulus))
 
 -- the same of each module of two lists
 abbrev pub ModulesBelow : Design → Design → List Module → List Module → Type 0
@@ -36,7 +38,7 @@ ModulesBelow d e (m ∷ ms) (n ∷ ns) = ModuleBelow d e m n × ModulesBelow d e
 ModulesBelow d e [] (n ∷ ns) = ⊥
 ModulesBelow d e (m ∷ ms) [] = ⊥
 
--- the second design refines the first: no known output bit of any module is lost, whatever the stimulus
+-- the second design refines the first: no known output bit of any module is lost, whatever the stimulus, in either order of time
 abbrev pub Refines : Design → Design → Type 0
 Refines d e = ModulesBelow d e d.modules e.modules
 
@@ -104,7 +106,7 @@ pub record Solved (rows : List Driven) (t : Time Place) (w : Valuation) : Type 0
 -- the valuation of the step before solved them too
 abbrev pub SolvedBefore : List Driven → Time Place → Type 0
 SolvedBefore rows Start = Unit {0}
-SolvedBefore rows (Step v x first) = (t : Time Place) × Solved rows t v
+SolvedBefore rows (Step v x manner) = (t : Time Place) × Solved rows t v
 
 -- what a pass that keeps all bits owes: each solution of the rows of the module after it meets each row from before it
 pub record RowsRefine (b c : Module) (ports : Ports) : Type 0 where

@@ -26,9 +26,9 @@ is_zero (suc n) = false
 -- a valuation solves rows so many steps after the start, and so did all the valuations before it
 abbrev pub Reached : ℕ → List Driven → Time Place → Valuation → Type 0
 Reached zero rows Start w = Solved rows Start w
-Reached (suc n) rows (Step v x first) w =
-    Solved rows (Step v x first) w × (first ≡ is_zero n) × ((t : Time Place) × Reached n rows t v)
-Reached zero rows (Step v x first) w = ⊥
+Reached (suc n) rows (Step v x manner) w =
+    Solved rows (Step v x manner) w × (manner.first ≡ is_zero n) × ((t : Time Place) × Reached n rows t v)
+Reached zero rows (Step v x manner) w = ⊥
 Reached (suc n) rows Start w = ⊥
 
 -- the innermost instance of a path is of the module of this name

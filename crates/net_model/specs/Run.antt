@@ -2,12 +2,14 @@
 use Rattle.std.specs.Prelude.{◌≡◌, Bool, true, false, List, [], ◌∷◌, map}
 use Rattle.rtl_bits.specs.declared.bit.Bit.{Bit}
 use Rattle.rtl_bits.specs.Knowledge.{AreBelow}
+use Rattle.net_model.specs.declared.order.Order.{Order}
+use Rattle.net_model.specs.Order.{Manner}
 use Rattle.net_model.specs.Settle.{Pointwise, Row, settled}
 
--- before the first step; or a step, with the valuation of the step before, the input vector, and whether it is the first step
+-- before the first step; or a step, with the valuation of the step before, the input vector, and how it is taken
 pub data Time (B : Type 0) : Type 0 where
   Start : Time B
-  Step : (before : B → Bit) (inputs : List Bit) (first : Bool) → Time B
+  Step : (before : B → Bit) (inputs : List Bit) (manner : Manner) → Time B
 
 -- a bit, and its value at any time over all bits
 pub record Drive (B : Type 0) : Type 0 where
@@ -28,15 +30,16 @@ settle same drives t = settled same (rows_at t drives)
 
 -- the output vectors, one for each input vector, from the valuation before
 abbrev pub trace :
-    {B : Type 0} → (B → B → Bool) → List (Drive B) → List B → (B → Bit) → Bool → List (List Bit) → List (List Bit)
-trace same drives outputs before first [] = []
-trace same drives outputs before first (x ∷ stimulus) =
-    map (settle same drives (Step before x first)) outputs
-    ∷ trace same drives outputs (settle same drives (Step before x first)) false stimulus
+    {B : Type 0} → (B → B → Bool) → List (Drive B) → List B → Order → (B → Bit) → Bool → List (List Bit) →
+    List (List Bit)
+trace same drives outputs order before first [] = []
+trace same drives outputs order before first (x ∷ stimulus) =
+    map (settle same drives (Step before x (record { first = first; order = order }))) outputs
+    ∷ trace same drives outputs order (settle same drives (Step before x (record { first = first; order = order }))) false stimulus
 
--- the output vectors of a run, which begins with what is settled before the first step
-abbrev pub run : {B : Type 0} → (B → B → Bool) → List (Drive B) → List B → List (List Bit) → List (List Bit)
-run same drives outputs stimulus = trace same drives outputs (settle same drives Start) true stimulus
+-- the output vectors of a run in an order of time, which begins with what is settled before the first step
+abbrev pub run : {B : Type 0} → (B → B → Bool) → List (Drive B) → List B → Order → List (List Bit) → List (List Bit)
+run same drives outputs order stimulus = trace same drives outputs order (settle same drives Start) true stimulus
 
 -- a trace is below another one step by step, each output vector place by place
 abbrev pub TraceBelow : List (List Bit) → List (List Bit) → Type 0
@@ -48,6 +51,6 @@ TraceBelow (a ∷ as') [] = ⊥
 -- two times are the same but for the valuations before, which stand in an order
 abbrev pub TimeBelow : {B : Type 0} → (Bit → Bit → Type 0) → Time B → Time B → Type 0
 TimeBelow order Start Start = Unit {0}
-TimeBelow order (Step v x f) (Step w y g) = Pointwise order v w × (x ≡ y) × (f ≡ g)
-TimeBelow order Start (Step w y g) = ⊥
-TimeBelow order (Step v x f) Start = ⊥
+TimeBelow order (Step v x m) (Step w y n) = Pointwise order v w × (x ≡ y) × (m ≡ n)
+TimeBelow order Start (Step w y n) = ⊥
+TimeBelow order (Step v x m) Start = ⊥

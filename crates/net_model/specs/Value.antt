@@ -11,12 +11,14 @@ use Rattle.cell_word.specs.Values.{input_of, word_value_of}
 use Rattle.cell_gate.specs.declared.pins.Pins.{Pins}
 use Rattle.cell_gate.specs.Control.{active_of, pick_of, edge_of, was_of}
 use Rattle.cell_gate.specs.Gates.{output_of}
-use Rattle.cell_gate.specs.Storage.{store_bit_of}
 use Rattle.rtl_ir.specs.Flat.Driver.{StorePoints, Driver, Nothing, Given, Joined, Worked, Stored, Decided, Held, Raced, Remembered, Fetched, Driven}
 use Rattle.rtl_ir.specs.Flat.Pick.{Pick}
 use Rattle.rtl_ir.specs.Flat.Place.{Place}
 use Rattle.rtl_ir.specs.Flat.Point.{Point}
-use Rattle.net_model.specs.Picked.{picked, holds_of, held_of}
+use Rattle.net_model.specs.declared.order.Order.{Order}
+use Rattle.net_model.specs.declared.order.Order.TheVariants.{Together, Released}
+use Rattle.net_model.specs.Order.{next_bit_of}
+use Rattle.net_model.specs.Picked.{picked, picked_by, own_or, holds_of, held_of}
 use Rattle.net_model.specs.Race.{raced_of}
 use Rattle.net_model.specs.Run.{Time, Start, Step, Drive}
 use Rattle.net_model.specs.Valuation.{Valuation, read, read_all, read_words, passed_of}
@@ -65,26 +67,48 @@ raced_at before now first clock clock_level reset reset_level tree own =
     (picked before (level_bit reset_level) tree)
     (before own)
 
+-- what the edge of the clock makes of a bit of a process with two edges: its value with the reset as it was
+abbrev pub clocked_at : Valuation → Valuation → Bool → Point → Level → Point → Pick → Place → Bit
+clocked_at before now first clock clock_level reset tree own =
+    pick_of (edge_at before now first clock clock_level)
+    (picked before (was_of first (read before reset)) tree)
+    (before own)
+
+-- a bit of a process with two edges whose clock acts before the reset: while the reset is active it has its value under the
+-- active reset, where a bit that holds has what the clock made of it
+abbrev pub released_at : Valuation → Valuation → Bool → Point → Level → Point → Level → Pick → Place → Bit
+released_at before now first clock clock_level reset reset_level tree own =
+    pick_of (active_of reset_level (read now reset))
+    (picked_by (own_or own (clocked_at before now first clock clock_level reset tree own) before) before (level_bit reset_level) tree)
+    (clocked_at before now first clock clock_level reset tree own)
+
+-- a bit of a process with two edges, in an order of time
+abbrev pub raced_in : Order → Valuation → Valuation → Bool → Point → Level → Point → Level → Pick → Place → Bit
+raced_in Together before now first clock clock_level reset reset_level tree own =
+    raced_at before now first clock clock_level reset reset_level tree own
+raced_in Released before now first clock clock_level reset reset_level tree own =
+    released_at before now first clock clock_level reset reset_level tree own
+
 -- the value of a driver, at a time, over the present valuation
 abbrev pub value_of : Driver → Time Place → Valuation → Bit
 value_of Nothing t v = X
 value_of (Given at) Start v = X
-value_of (Given at) (Step before inputs first) v = slice_index_or inputs at X
+value_of (Given at) (Step before inputs manner) v = slice_index_or inputs at X
 value_of (Joined from) t v = passed_of (read v from)
 value_of (Worked shape inputs at) t v = worked_of shape.kind shape (read_words v inputs) at
 value_of (Stored start shape at pins own) Start v = start
-value_of (Stored start shape at pins own) (Step before inputs first) v =
-    store_bit_of shape at (pins_of before pins own) (pins_of v pins own) first
+value_of (Stored start shape at pins own) (Step before inputs manner) v =
+    next_bit_of manner shape at (pins_of before pins own) (pins_of v pins own)
 value_of (Decided tree) t v = picked v X tree
 value_of (Held start value tree own) Start v = start
-value_of (Held start value tree own) (Step before inputs first) v =
+value_of (Held start value tree own) (Step before inputs manner) v =
     held_of (holds_of own v tree) (before own) (read v value)
 value_of (Raced start clock clock_level reset reset_level tree own) Start v = start
-value_of (Raced start clock clock_level reset reset_level tree own) (Step before inputs first) v =
-    raced_at before v first clock clock_level reset reset_level tree own
+value_of (Raced start clock clock_level reset reset_level tree own) (Step before inputs manner) v =
+    raced_in manner.order before v manner.first clock clock_level reset reset_level tree own
 value_of (Remembered start clock level address ports own) Start v = start
-value_of (Remembered start clock level address ports own) (Step before inputs first) v =
-    pick_of (edge_at before v first clock level) (after_ports before address [] ports (before own)) (before own)
+value_of (Remembered start clock level address ports own) (Step before inputs manner) v =
+    pick_of (edge_at before v manner.first clock level) (after_ports before address [] ports (before own)) (before own)
 value_of (Fetched address first words) t v = fetched_of (read_all v address) first (read_all v words)
 
 -- a row by what its driver gives

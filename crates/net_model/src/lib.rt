@@ -1,5 +1,8 @@
-//! What a design means: settling, runs, refinement. It is definitions and their laws; the program
-//! calls none of it.
+//! What a design means: settling, runs, refinement. It is definitions and their laws; of them the
+//! program names the order of time alone.
 #![tactic(auto)]
 
 pub mod laws;
+mod order;
+
+pub use order::Order;

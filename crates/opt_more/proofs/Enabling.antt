@@ -18,6 +18,7 @@ use Rattle.cell_types.specs.declared.levels.Levels.{Levels}
 use Rattle.cell_types.specs.declared.param_name.ParamName.TheVariants.{Width, ClkPolarity}
 use Rattle.cell_types.specs.declared.pin_name.PinName.{PinName}
 use Rattle.cell_types.specs.declared.pin_name.PinName.TheVariants.{C, Clk, D, E, En, Q}
+use Rattle.cell_types.specs.declared.shape.Shape.{Shape}
 use Rattle.cell_types.specs.declared.storage.StorageKind.TheVariants.{Dff, Dffe}
 use Rattle.cell_types.specs.declared.storage_gate.StorageGate.TheVariants as gate
 use Rattle.rtl_bits.proofs.Orders.{Below_refl}
@@ -43,10 +44,13 @@ use Rattle.rtl_ir.specs.declared.module.Module.{Module}
 use Rattle.rtl_ir.specs.declared.ports.PortTable.{PortTable}
 use Rattle.rtl_ir.specs.declared.wire.Wire.{Wire}
 use Rattle.net_model.specs.Lists.{In}
+use Rattle.net_model.specs.declared.order.Order.TheVariants.{Together}
+use Rattle.net_model.specs.Order.{stored_in}
 use Rattle.net_model.specs.Run.{Time, Start, Step}
 use Rattle.net_model.specs.Valuation.{Valuation, read}
 use Rattle.net_model.specs.Value.{pins_of, value_of}
 use Rattle.net_model.specs.Within.{SigIn}
+use Rattle.net_model.proofs.Released.{NoControl, no_control}
 use Rattle.pass_laws.proofs.Alone.{HasShape, library_faultless, shape_of}
 use Rattle.pass_laws.proofs.CellNumbers.{number_is, number_known}
 use Rattle.pass_laws.proofs.Driving.{own_driver}
@@ -115,21 +119,31 @@ module _ (c : Cell) (fit : misfit (Storage Dffe) c ≡ None) where
 
   word_better : (start : SigBit → Bit) (p : Path) (wires : List Wire) (t : Time Place) (w : Valuation) (at : ℕ) (b : WireBit) → enabled_of (Storage Dffe) c ≡ S1 → Below (value_of (own_driver start p wires c (Storage Dffe) at b) t w) (value_of (own_driver start p wires (without_enable (Storage Dffe) c) (Storage Dff) at b) t w)
   word_better start p wires Start w at b on = Below_refl (start (OnWire b))
-  word_better start p wires (Step v x first) w at b on =
+  word_better start p wires (Step v x manner) w at b on =
       let place : Place = bit_place p wires b in
       let levels : Levels = (cell_shape (Storage Dffe) c.params).levels in
       let levels' : Levels = (cell_shape (Storage Dff) (without_enable (Storage Dffe) c).params).levels in
       let pins : Pins = pins_of v (word_store p wires c.pins at) place in
       let pins' : Pins = pins_of v (word_store p wires (without_enable (Storage Dffe) c).pins at) place in
-      let before : Pins = acting_of levels (record pins { clk = was_of first pins.clk }) in
+      let before : Pins = acting_of levels (record pins { clk = was_of manner.first pins.clk }) in
       let now : Pins = acting_of levels (pins_of w (word_store p wires c.pins at) place) in
-      let other : Pins = acting_of levels' (record pins' { clk = was_of first pins'.clk }) in
+      let other : Pins = acting_of levels' (record pins' { clk = was_of manner.first pins'.clk }) in
       let after : Pins = acting_of levels' (pins_of w (word_store p wires (without_enable (Storage Dffe) c).pins at) place) in
       let en : before.en ≡ S1 = ap (λ z. active_of levels.en (read v z)) (point_is p wires (signal_at c.pins (pin_text En)) 0) ∙ enable_one (active_of levels.en) v p wires (slice_index_or (signal_at c.pins (pin_text En)) 0 (Fixed X)) (active_unknown levels.en) on in
       let value : Bit = reset_at (storage_kind (cell_shape (Storage Dffe) c.params).kind) (cell_shape (Storage Dffe) c.params).resets at in
-      let law : Below (next_of Dffe value before now) (next_of Dff value other after) = always_below value before now other after en refl refl (λ i. active_of (sym word_level i) (was_of first pins.clk)) (λ i. active_of (sym word_level i) (pins_of w (word_store p wires c.pins at) place).clk) in
-      subst (λ z. Below (next_of (storage_kind z) value before now) (value_of (own_driver start p wires (without_enable (Storage Dffe) c) (Storage Dff) at b) (Step v x first) w)) (sym (shape_kind (Storage Dffe) c))
-      (subst (λ z. Below (next_of Dffe value before now) (next_of (storage_kind z) (reset_at (storage_kind z) (cell_shape (Storage Dff) (without_enable (Storage Dffe) c).params).resets at) other after)) (sym (shape_kind (Storage Dff) (without_enable (Storage Dffe) c))) law)
+      let law : Below (next_of Dffe value before now) (next_of Dff value other after) = always_below value before now other after en refl refl (λ i. active_of (sym word_level i) (was_of manner.first pins.clk)) (λ i. active_of (sym word_level i) (pins_of w (word_store p wires c.pins at) place).clk) in
+      let old_shape : Shape = cell_shape (Storage Dffe) c.params in
+      let new_shape : Shape = cell_shape (Storage Dff) (without_enable (Storage Dffe) c).params in
+      let here : Pins = pins_of w (word_store p wires c.pins at) place in
+      let here' : Pins = pins_of w (word_store p wires (without_enable (Storage Dffe) c).pins at) place in
+      let value' : Bit = reset_at (storage_kind new_shape.kind) new_shape.resets at in
+      let in_old = no_control manner.order (storage_kind old_shape.kind) old_shape.levels value pins here manner.first (subst (λ z. NoControl (storage_kind z)) (sym (shape_kind (Storage Dffe) c)) tt) in
+      let in_new = no_control manner.order (storage_kind new_shape.kind) new_shape.levels value' pins' here' manner.first (subst (λ z. NoControl (storage_kind z)) (sym (shape_kind (Storage Dff) (without_enable (Storage Dffe) c))) tt) in
+      let low : Below (stored_in Together (storage_kind old_shape.kind) old_shape.levels value pins here manner.first) (stored_in Together (storage_kind new_shape.kind) new_shape.levels value' pins' here' manner.first) =
+      subst (λ z. Below (next_of (storage_kind z) value before now) (stored_in Together (storage_kind new_shape.kind) new_shape.levels value' pins' here' manner.first)) (sym (shape_kind (Storage Dffe) c))
+      (subst (λ z. Below (next_of Dffe value before now) (next_of (storage_kind z) (reset_at (storage_kind z) new_shape.resets at) other after)) (sym (shape_kind (Storage Dff) (without_enable (Storage Dffe) c))) law) in
+      subst (λ z. Below z (stored_in manner.order (storage_kind new_shape.kind) new_shape.levels value' pins' here' manner.first)) (sym in_old)
+      (subst (λ z. Below (stored_in Together (storage_kind old_shape.kind) old_shape.levels value pins here manner.first) z) (sym in_new) low)
 
 -- a gate
 module _ (clk en : Level) (c : Cell) (fit : misfit (StorageGate (gate.Dffe clk en)) c ≡ None) where
@@ -159,21 +173,31 @@ module _ (clk en : Level) (c : Cell) (fit : misfit (StorageGate (gate.Dffe clk e
   gate_better : (start : SigBit → Bit) (p : Path) (wires : List Wire) (t : Time Place) (w : Valuation) (at : ℕ) (b : WireBit) → enabled_of (StorageGate (gate.Dffe clk en)) c ≡ S1
       → Below (value_of (own_driver start p wires c (StorageGate (gate.Dffe clk en)) at b) t w) (value_of (own_driver start p wires (without_enable (StorageGate (gate.Dffe clk en)) c) (StorageGate (gate.Dff clk)) at b) t w)
   gate_better start p wires Start w at b on = Below_refl (start (OnWire b))
-  gate_better start p wires (Step v x first) w at b on =
+  gate_better start p wires (Step v x manner) w at b on =
       let place : Place = bit_place p wires b in
       let levels : Levels = (cell_shape (StorageGate (gate.Dffe clk en)) c.params).levels in
       let levels' : Levels = (cell_shape (StorageGate (gate.Dff clk)) (without_enable (StorageGate (gate.Dffe clk en)) c).params).levels in
       let pins : Pins = pins_of v (gate_store p wires c.pins at) place in
       let pins' : Pins = pins_of v (gate_store p wires (without_enable (StorageGate (gate.Dffe clk en)) c).pins at) place in
-      let before : Pins = acting_of levels (record pins { clk = was_of first pins.clk }) in
+      let before : Pins = acting_of levels (record pins { clk = was_of manner.first pins.clk }) in
       let now : Pins = acting_of levels (pins_of w (gate_store p wires c.pins at) place) in
-      let other : Pins = acting_of levels' (record pins' { clk = was_of first pins'.clk }) in
+      let other : Pins = acting_of levels' (record pins' { clk = was_of manner.first pins'.clk }) in
       let after : Pins = acting_of levels' (pins_of w (gate_store p wires (without_enable (StorageGate (gate.Dffe clk en)) c).pins at) place) in
       let on_en : before.en ≡ S1 = ap (λ z. active_of levels.en (read v z)) (point_is p wires (signal_at c.pins (pin_text E)) 0) ∙ enable_one (active_of levels.en) v p wires (slice_index_or (signal_at c.pins (pin_text E)) 0 (Fixed X)) (active_unknown levels.en) on in
       let value : Bit = reset_at (storage_kind (cell_shape (StorageGate (gate.Dffe clk en)) c.params).kind) (cell_shape (StorageGate (gate.Dffe clk en)) c.params).resets at in
-      let law : Below (next_of Dffe value before now) (next_of Dff value other after) = always_below value before now other after on_en refl refl (λ i. active_of (sym gate_level i) (was_of first pins.clk)) (λ i. active_of (sym gate_level i) (pins_of w (gate_store p wires c.pins at) place).clk) in
-      subst (λ z. Below (next_of (storage_kind z) value before now) (value_of (own_driver start p wires (without_enable (StorageGate (gate.Dffe clk en)) c) (StorageGate (gate.Dff clk)) at b) (Step v x first) w)) (sym (shape_kind (StorageGate (gate.Dffe clk en)) c))
-      (subst (λ z. Below (next_of Dffe value before now) (next_of (storage_kind z) (reset_at (storage_kind z) (cell_shape (StorageGate (gate.Dff clk)) (without_enable (StorageGate (gate.Dffe clk en)) c).params).resets at) other after)) (sym (shape_kind (StorageGate (gate.Dff clk)) (without_enable (StorageGate (gate.Dffe clk en)) c))) law)
+      let law : Below (next_of Dffe value before now) (next_of Dff value other after) = always_below value before now other after on_en refl refl (λ i. active_of (sym gate_level i) (was_of manner.first pins.clk)) (λ i. active_of (sym gate_level i) (pins_of w (gate_store p wires c.pins at) place).clk) in
+      let old_shape : Shape = cell_shape (StorageGate (gate.Dffe clk en)) c.params in
+      let new_shape : Shape = cell_shape (StorageGate (gate.Dff clk)) (without_enable (StorageGate (gate.Dffe clk en)) c).params in
+      let here : Pins = pins_of w (gate_store p wires c.pins at) place in
+      let here' : Pins = pins_of w (gate_store p wires (without_enable (StorageGate (gate.Dffe clk en)) c).pins at) place in
+      let value' : Bit = reset_at (storage_kind new_shape.kind) new_shape.resets at in
+      let in_old = no_control manner.order (storage_kind old_shape.kind) old_shape.levels value pins here manner.first (subst (λ z. NoControl (storage_kind z)) (sym (shape_kind (StorageGate (gate.Dffe clk en)) c)) tt) in
+      let in_new = no_control manner.order (storage_kind new_shape.kind) new_shape.levels value' pins' here' manner.first (subst (λ z. NoControl (storage_kind z)) (sym (shape_kind (StorageGate (gate.Dff clk)) (without_enable (StorageGate (gate.Dffe clk en)) c))) tt) in
+      let low : Below (stored_in Together (storage_kind old_shape.kind) old_shape.levels value pins here manner.first) (stored_in Together (storage_kind new_shape.kind) new_shape.levels value' pins' here' manner.first) =
+      subst (λ z. Below (next_of (storage_kind z) value before now) (stored_in Together (storage_kind new_shape.kind) new_shape.levels value' pins' here' manner.first)) (sym (shape_kind (StorageGate (gate.Dffe clk en)) c))
+      (subst (λ z. Below (next_of Dffe value before now) (next_of (storage_kind z) (reset_at (storage_kind z) new_shape.resets at) other after)) (sym (shape_kind (StorageGate (gate.Dff clk)) (without_enable (StorageGate (gate.Dffe clk en)) c))) law) in
+      subst (λ z. Below z (stored_in manner.order (storage_kind new_shape.kind) new_shape.levels value' pins' here' manner.first)) (sym in_old)
+      (subst (λ z. Below (stored_in Together (storage_kind old_shape.kind) old_shape.levels value pins here manner.first) z) (sym in_new) low)
 
 module _ (table : PortTable) (m : Module) (pre : List Cell) (c : Cell) (post : List Cell) (ready : IsReady (types.table_ports table.modules) m) (is : m.cells ≡ pre ++ c ∷ post) where
   stands : In c m.cells

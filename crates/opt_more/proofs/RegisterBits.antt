@@ -14,6 +14,7 @@ use Rattle.rtl_bits.specs.declared.bit.Bit.TheVariants.{S0, S1, X, Z, M, Dash}
 use Rattle.rtl_sig.specs.declared.sig.SigBit.{SigBit}
 use Rattle.rtl_sig.specs.declared.sig.SigBit.TheVariants.{Fixed, Wire as OnWire}
 use Rattle.rtl_ir.specs.Signals.{same_place}
+use Rattle.net_model.specs.Order.{released_of, taken_of}
 use Rattle.pass_laws.proofs.SamePlaces.{place_is}
 use Rattle.opt_more.specs.Dff.{agree, data_of, is_plain, reset_of}
 use Rattle.opt_more.proofs.MuxBits.{merge_first, seen_first}
@@ -53,6 +54,20 @@ module _ (value k : Bit) (before now : Pins) (old : Below before.q k) where
   next_below Adff e d r = pick_below now.arst value (clocked_of before now before.d) k r (clocked_below before.d d)
   next_below Adffe e d r = pick_below now.arst value (clocked_of before now (enabled_of before before.d)) k r (clocked_below (enabled_of before before.d) (enabled_below before.d d))
   next_below kind e d r = absurd (cc)
+
+  -- and what it gives where its clock takes the value under the reset as it was
+  pub released_below : (kind : StorageKind) → is_plain kind ≡ true → DataBelow kind before k → Below (reset_of kind value) k → (x : Bit) → Below x k → Below (released_of kind value before now x) k
+  released_below Ff e d r x h = h
+  released_below Dff e d r x h = h
+  released_below Dffe e d r x h = h
+  released_below Sdff e d r x h = h
+  released_below Sdffe e d r x h = h
+  released_below Sdffce e d r x h = h
+  released_below Adff e d r x h =
+      pick_below now.arst value (clocked_of before now (taken_of Adff value before)) k r (clocked_below (taken_of Adff value before) (pick_below before.arst value before.d k r d))
+  released_below Adffe e d r x h =
+      pick_below now.arst value (clocked_of before now (taken_of Adffe value before)) k r (clocked_below (taken_of Adffe value before) (pick_below before.arst value (enabled_of before before.d) k r (enabled_below before.d d)))
+  released_below kind e d r x h = absurd (cc)
 
 -- what candidates agree on is above each
 pub agree_is : (a : Bit) (o : Option Bit) (k : Bit) → agree a o ≡ Some k → Below a k × ((b : Bit) × (o ≡ Some b) × Below b k)

@@ -12,6 +12,7 @@ use Rattle.cell_types.specs.declared.levels.Levels.{Levels}
 use Rattle.cell_types.specs.declared.kind.CellKind.{CellKind}
 use Rattle.cell_types.specs.declared.kind.CellKind.TheVariants.{Storage, StorageGate}
 use Rattle.cell_types.specs.declared.pin_name.PinName.TheVariants.{En, D, E, Q}
+use Rattle.cell_types.specs.declared.shape.Shape.{Shape}
 use Rattle.cell_types.specs.declared.storage.StorageKind.{StorageKind}
 use Rattle.cell_types.specs.declared.storage.StorageKind.TheVariants.{Dffe}
 use Rattle.cell_types.specs.declared.storage_gate.StorageGate.{StorageGate as AnyGate}
@@ -31,13 +32,16 @@ use Rattle.rtl_ir.specs.Parameters.{signal_at}
 use Rattle.rtl_ir.specs.Signals.{constant_of}
 use Rattle.rtl_ir.specs.declared.cell.Cell.{Cell}
 use Rattle.rtl_ir.specs.declared.wire.Wire.{Wire}
+use Rattle.net_model.specs.declared.order.Order.{Order}
+use Rattle.net_model.specs.declared.order.Order.TheVariants.{Together, Released}
+use Rattle.net_model.specs.Order.{Manner, stored_in, were_of}
 use Rattle.net_model.specs.Run.{Step}
 use Rattle.net_model.specs.Valuation.{Valuation, read}
 use Rattle.net_model.specs.Value.{pins_of, value_of}
 use Rattle.pass_laws.proofs.Driving.{own_driver}
 use Rattle.opt_expr.proofs.Known.{shape_kind}
 use Rattle.opt_more.specs.Dff.{agree, bit_at, data_of, enabled_as, enabled_of, is_plain, register_kind, register_of, reset_of, settled_bit, settled_from, with_first}
-use Rattle.opt_more.proofs.RegisterBits.{DataBelow, IsData, Constant, Held, Own, agree_is, data_is, next_below, seen_above}
+use Rattle.opt_more.proofs.RegisterBits.{DataBelow, IsData, Constant, Held, Own, agree_is, data_is, next_below, released_below, seen_above}
 
 -- a kind is a plain register
 pub data IsPlain : CellKind → Type 0 where
@@ -148,25 +152,45 @@ is_settled wires kind c at k e =
     let two = agree_is reset found one.1.0 one.1.1 in
     record { start = one.0; reset = Below_trans reset one.1.0 k two.0 one.1.2; datum = two.1.0; is = two.1.1; below = Below_trans two.1.0 one.1.0 k two.1.2 one.1.2 }
 
+-- in either order of time
+ordered_below : (order : Order) (kind : StorageKind) (levels : Levels) (value k : Bit) (before now : Pins) (first : Bool) → Below before.q k → is_plain kind ≡ true
+    → DataBelow kind (acting_of levels (record before { clk = was_of first before.clk })) k → DataBelow kind (acting_of levels (were_of first before)) k → Below (reset_of kind value) k
+    → Below (stored_in order kind levels value before now first) k
+ordered_below Together kind levels value k before now first old plain given were reset =
+    next_below value k (acting_of levels (record before { clk = was_of first before.clk })) (acting_of levels now) old kind plain given reset
+ordered_below Released kind levels value k before now first old plain given were reset =
+    released_below value k (acting_of levels (were_of first before)) (acting_of levels now) old kind plain were reset _
+    (next_below value k (acting_of levels (record before { clk = was_of first before.clk })) (acting_of levels now) old kind plain given reset)
+
 -- what a plain register gives after a step in which its output was below its value
-pub stored_below : (start : SigBit → Bit) (p : Path) (wires : List Wire) (v w : Valuation) (x : List Bit) (first : Bool) (c : Cell) (kind : CellKind) (at : ℕ) (b : WireBit) (k : Bit) → IsPlain kind → ((g : AnyGate) → kind ≡ StorageGate g → at ≡ 0) → bit_at Q c at ≡ OnWire b → IsSettled wires kind c at k → Below (v (bit_place p wires b)) k
-    → Below (value_of (own_driver start p wires c kind at b) (Step v x first) w) k
-stored_below start p wires v w x first c (Storage s) at b k (OfWords _ plain) one q h old =
-    let levels : Levels = (cell_shape (Storage s) c.params).levels in
-    let store = word_store p wires c.pins at in
-    let pins : Pins = pins_of v store (bit_place p wires b) in
-    let acting : Pins = acting_of levels (record pins { clk = was_of first pins.clk }) in
-    let taken : DataBelow s acting k = data_case v p wires s levels.en (slice_index_or (signal_at c.pins (pin_text En)) 0 (Fixed X)) (bit_at Q c at) (bit_at D c at) acting h.datum k (data_is (enabled_of (Storage s) c) (bit_at Q c at) (bit_at D c at) h.datum h.is) h.below (ap (read v) (point_is p wires (signal_at c.pins (pin_text D)) at)) (sym (ap (λ z. read v (point p wires z)) q)) (ap (λ z. active_of levels.en (read v z)) (point_is p wires (signal_at c.pins (pin_text En)) 0)) old in
-    subst (λ z. Below (next_of (storage_kind z) (reset_at (storage_kind z) (cell_shape (Storage s) c.params).resets at) acting (acting_of levels (pins_of w store (bit_place p wires b)))) k) (sym (shape_kind (Storage s) c))
-    (next_below (reset_at s (cell_shape (Storage s) c.params).resets at) k acting (acting_of levels (pins_of w store (bit_place p wires b))) old s plain taken h.reset)
-stored_below start p wires v w x first c (StorageGate g) at b k (OfBits _ plain) one q h old =
+pub stored_below : (start : SigBit → Bit) (p : Path) (wires : List Wire) (v w : Valuation) (x : List Bit) (manner : Manner) (c : Cell) (kind : CellKind) (at : ℕ) (b : WireBit) (k : Bit) → IsPlain kind → ((g : AnyGate) → kind ≡ StorageGate g → at ≡ 0) → bit_at Q c at ≡ OnWire b → IsSettled wires kind c at k → Below (v (bit_place p wires b)) k
+    → Below (value_of (own_driver start p wires c kind at b) (Step v x manner) w) k
+stored_below start p wires v w x manner c (Storage s) at b k (OfWords _ plain) one q h old =
+    let shape : Shape = cell_shape (Storage s) c.params in
+    let levels : Levels = shape.levels in
+    let pins : Pins = pins_of v (word_store p wires c.pins at) (bit_place p wires b) in
+    let now : Pins = pins_of w (word_store p wires c.pins at) (bit_place p wires b) in
+    let taken : (z : Pins) → z.d ≡ pins.d → z.q ≡ pins.q → z.en ≡ active_of levels.en pins.en → DataBelow s z k = λ z is_d is_q is_en.
+    data_case v p wires s levels.en (slice_index_or (signal_at c.pins (pin_text En)) 0 (Fixed X)) (bit_at Q c at) (bit_at D c at) z h.datum k (data_is (enabled_of (Storage s) c) (bit_at Q c at) (bit_at D c at) h.datum h.is) h.below
+    (is_d ∙ ap (read v) (point_is p wires (signal_at c.pins (pin_text D)) at))
+    (is_q ∙ sym (ap (λ y. read v (point p wires y)) q))
+    (is_en ∙ ap (λ y. active_of levels.en (read v y)) (point_is p wires (signal_at c.pins (pin_text En)) 0))
+    (subst (λ y. Below y k) (sym is_q) old) in
+    subst (λ z. Below (stored_in manner.order (storage_kind z) levels (reset_at (storage_kind z) shape.resets at) pins now manner.first) k) (sym (shape_kind (Storage s) c))
+    (ordered_below manner.order s levels (reset_at s shape.resets at) k pins now manner.first old plain (taken (acting_of levels (record pins { clk = was_of manner.first pins.clk })) refl refl refl) (taken (acting_of levels (were_of manner.first pins)) refl refl refl) h.reset)
+stored_below start p wires v w x manner c (StorageGate g) at b k (OfBits _ plain) one q h old =
     let zero_at : at ≡ 0 = one g refl in
     let s : StorageKind = gate_kind g in
-    let levels : Levels = (cell_shape (StorageGate g) c.params).levels in
-    let store = gate_store p wires c.pins at in
-    let pins : Pins = pins_of v store (bit_place p wires b) in
-    let acting : Pins = acting_of levels (record pins { clk = was_of first pins.clk }) in
-    let taken : DataBelow s acting k = data_case v p wires s levels.en (slice_index_or (signal_at c.pins (pin_text E)) 0 (Fixed X)) (bit_at Q c at) (bit_at D c at) acting h.datum k (data_is (enabled_of (StorageGate g) c) (bit_at Q c at) (bit_at D c at) h.datum h.is) h.below (ap (read v) (point_is p wires (signal_at c.pins (pin_text D)) 0) ∙ ap (λ n. read v (point p wires (bit_at D c n))) (sym zero_at)) (sym (ap (λ z. read v (point p wires z)) q)) (ap (λ z. active_of levels.en (read v z)) (point_is p wires (signal_at c.pins (pin_text E)) 0)) old in
-    subst (λ z. Below (next_of (storage_kind z) (reset_at (storage_kind z) (cell_shape (StorageGate g) c.params).resets at) acting (acting_of levels (pins_of w store (bit_place p wires b)))) k) (sym (shape_kind (StorageGate g) c))
-    (next_below (reset_at s (cell_shape (StorageGate g) c.params).resets at) k acting (acting_of levels (pins_of w store (bit_place p wires b))) old s plain taken h.reset)
-stored_below start p wires v w x first c kind at b k plain one q h old = elim plain [ ]
+    let shape : Shape = cell_shape (StorageGate g) c.params in
+    let levels : Levels = shape.levels in
+    let pins : Pins = pins_of v (gate_store p wires c.pins at) (bit_place p wires b) in
+    let now : Pins = pins_of w (gate_store p wires c.pins at) (bit_place p wires b) in
+    let taken : (z : Pins) → z.d ≡ pins.d → z.q ≡ pins.q → z.en ≡ active_of levels.en pins.en → DataBelow s z k = λ z is_d is_q is_en.
+    data_case v p wires s levels.en (slice_index_or (signal_at c.pins (pin_text E)) 0 (Fixed X)) (bit_at Q c at) (bit_at D c at) z h.datum k (data_is (enabled_of (StorageGate g) c) (bit_at Q c at) (bit_at D c at) h.datum h.is) h.below
+    (is_d ∙ ap (read v) (point_is p wires (signal_at c.pins (pin_text D)) 0) ∙ ap (λ n. read v (point p wires (bit_at D c n))) (sym zero_at))
+    (is_q ∙ sym (ap (λ y. read v (point p wires y)) q))
+    (is_en ∙ ap (λ y. active_of levels.en (read v y)) (point_is p wires (signal_at c.pins (pin_text E)) 0))
+    (subst (λ y. Below y k) (sym is_q) old) in
+    subst (λ z. Below (stored_in manner.order (storage_kind z) levels (reset_at (storage_kind z) shape.resets at) pins now manner.first) k) (sym (shape_kind (StorageGate g) c))
+    (ordered_below manner.order s levels (reset_at s shape.resets at) k pins now manner.first old plain (taken (acting_of levels (record pins { clk = was_of manner.first pins.clk })) refl refl refl) (taken (acting_of levels (were_of manner.first pins)) refl refl refl) h.reset)
+stored_below start p wires v w x manner c kind at b k plain one q h old = elim plain [ ]

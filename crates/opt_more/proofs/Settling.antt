@@ -181,8 +181,8 @@ module _ (table : PortTable) (m : Module) (pre : List Cell) (c : Cell) (post : L
               at_start (Storage s) (OfWords _ e) = start_below
               at_start (StorageGate g) (OfBits _ e) = start_below
               at_start k e = elim e [ ]
-          by (Step v x first) old k =
-              stored_below (start_of m.wires m.processes) p m.wires v w x first c kind at b (slice_index_or values at S0) k (only_zero at lt) own_bit has (bit_below v (old.1.tight _ row_in))
+          by (Step v x manner) old k =
+              stored_below (start_of m.wires m.processes) p m.wires v w x manner c kind at b (slice_index_or values at S0) k (only_zero at lt) own_bit has (bit_below v (old.1.tight _ row_in))
 
     -- the register goes, and its output is connected
     pub settled_passes : IsPass table m (replacing pre [] post (output_link c Q (map Fixed values) ∷ []) m)

@@ -16,7 +16,7 @@ use Rattle.rtl_ir.specs.declared.wire.Wire.{Wire}
 use Rattle.net_model.proofs.Members.{In-left, In-right}
 use Rattle.net_model.proofs.Orders.{below}
 use Rattle.net_model.specs.Lists.{In}
-use Rattle.net_model.specs.Picked.{case_match, chosen_of, pattern_match, picked, place_match, tested_of}
+use Rattle.net_model.specs.Picked.{case_match, chosen_of, pattern_match, picked, picked_by, place_match, tested_of}
 use Rattle.net_model.specs.Valuation.{Valuation, read, read_all}
 
 -- what is chosen keeps the order
@@ -100,22 +100,31 @@ module _ (p : Path) (wires : List Wire) (w : Valuation) where
       branch_by leaf bits (OneBranch (q ∷ qs) value rest) last =
           chosen_of (case_match w bits (map (points p wires) (q ∷ qs))) (value_by leaf value) (branch_by leaf bits rest last)
 
-    mutual
-      -- it is what the flat netlist picks
-      pub picked_is : (d : Decision) → picked w reset (pick_of test p wires d) ≡ value_by had d
-      picked_is (Leaf s) = refl
-      picked_is (Choice signal branches last) =
-          let o : Option Bool = test signal (branch_patterns branches) in
-          picks_are o signal branches (pick_of test p wires last)
-          ∙ ap (branch_by had (looked o signal) branches) (picked_is last)
+    module _ (leaf : Point → Bit) where
+      -- what a signal's point has as a leaf
+      abbrev at : SigBit → Bit
+      at s = leaf (point p wires s)
 
-      picks_are : (o : Option Bool) (signal : List SigBit) (branches : Branches) (last : Pick) → picked w reset (picks_of test p wires o signal branches last) ≡ branch_by had (looked o signal) branches (picked w reset last)
-      picks_are o signal NoBranch last = refl
-      picks_are o signal (OneBranch [] value rest) last = picked_is value
-      picks_are None signal (OneBranch (q ∷ qs) value rest) last =
-          λ i. chosen_of (case_match w (looked None signal) (map (points p wires) (q ∷ qs))) (picked_is value i) (picks_are None signal rest last i)
-      picks_are (Some inverse) signal (OneBranch (q ∷ qs) value rest) last =
-          λ i. chosen_of (case_match w (looked (Some inverse) signal) (map (points p wires) (q ∷ qs))) (picked_is value i) (picks_are (Some inverse) signal rest last i)
+      mutual
+        -- it is what the flat netlist picks, whatever its leaves have
+        pub picked_by_is : (d : Decision) → picked_by leaf w reset (pick_of test p wires d) ≡ value_by at d
+        picked_by_is (Leaf s) = refl
+        picked_by_is (Choice signal branches last) =
+            let o : Option Bool = test signal (branch_patterns branches) in
+            picks_are o signal branches (pick_of test p wires last)
+            ∙ ap (branch_by at (looked o signal) branches) (picked_by_is last)
+
+        picks_are : (o : Option Bool) (signal : List SigBit) (branches : Branches) (last : Pick) → picked_by leaf w reset (picks_of test p wires o signal branches last) ≡ branch_by at (looked o signal) branches (picked_by leaf w reset last)
+        picks_are o signal NoBranch last = refl
+        picks_are o signal (OneBranch [] value rest) last = picked_by_is value
+        picks_are None signal (OneBranch (q ∷ qs) value rest) last =
+            λ i. chosen_of (case_match w (looked None signal) (map (points p wires) (q ∷ qs))) (picked_by_is value i) (picks_are None signal rest last i)
+        picks_are (Some inverse) signal (OneBranch (q ∷ qs) value rest) last =
+            λ i. chosen_of (case_match w (looked (Some inverse) signal) (map (points p wires) (q ∷ qs))) (picked_by_is value i) (picks_are (Some inverse) signal rest last i)
+
+    -- so with what its points have
+    pub picked_is : (d : Decision) → picked w reset (pick_of test p wires d) ≡ value_by had d
+    picked_is d = picked_by_is (read w) d
 
     module _ (leaf : SigBit → Bit) (f : SigBit → Decision) where
       abbrev below_leaf : SigBit → Bit

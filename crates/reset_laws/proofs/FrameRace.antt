@@ -4,7 +4,7 @@ use Rattle.std.specs.Prelude.{map, not}
 use Rattle.rtl_bits.specs.declared.bit.Bit.{Bit}
 use Rattle.rtl_bits.specs.declared.bit.Bit.TheVariants.{S0, S1}
 use Rattle.rtl_bits.specs.Knowledge.{Below}
-use Rattle.rtl_bits.specs.Tables.{merge_of, mux_of, seen_of}
+use Rattle.rtl_bits.specs.Tables.{mux_of, seen_of}
 use Rattle.rtl_bits.proofs.Orders.{Below_trans}
 use Rattle.rtl_sig.specs.declared.sig.SigBit.{SigBit}
 use Rattle.rtl_sig.specs.declared.sig.SigBit.TheVariants.{Fixed, Wire as OnWire}
@@ -31,12 +31,15 @@ use Rattle.rtl_ir.specs.declared.process.Process.{Process}
 use Rattle.net_model.proofs.Members.{In-right}
 use Rattle.net_model.proofs.Relating.{reached_solved, solved_within}
 use Rattle.net_model.specs.Lists.{Distinct, In}
+use Rattle.net_model.specs.Order.{Manner}
 use Rattle.net_model.specs.Proc.Reset.{active_leaves, reset_places, reset_rule, with_level}
 use Rattle.net_model.specs.Refine.{Solved}
 use Rattle.net_model.specs.Relate.{Reached, is_zero}
 use Rattle.net_model.specs.Run.{Start, Step, Time}
 use Rattle.net_model.specs.Valuation.{Valuation}
 use Rattle.net_model.specs.Value.{value_of}
+use Rattle.net_model.specs.declared.order.Order.{Order}
+use Rattle.net_model.specs.declared.order.Order.TheVariants.{Together, Released}
 use Rattle.build_laws.proofs.Staying.{SameAccesses}
 use Rattle.pass_laws.proofs.Faultless.{AreFit}
 use Rattle.reset_laws.proofs.AfterPlaces.{all_in, constant_leaves, own_leaves, set_at, unset_at}
@@ -46,7 +49,7 @@ use Rattle.reset_laws.proofs.AfterRules.{reset_joins}
 use Rattle.reset_laws.proofs.ChoiceEven.{EvenSwitches}
 use Rattle.reset_laws.proofs.ChoiceValue.{AreSeen, had}
 use Rattle.reset_laws.proofs.FrameRows.{cell_there, link_there, process_there, rows_after, start}
-use Rattle.reset_laws.proofs.RaceRows.{IsData, data_freed, data_seen, held_met, is, raced_value, set_met, trigger, was}
+use Rattle.reset_laws.proofs.RaceRows.{IsData, data_freed, data_seen, data_stays, held_met, raced_value, set_met, trigger, was}
 use Rattle.reset_laws.proofs.TestSeen.{switch_seen}
 use Rattle.reset_laws.proofs.TreeExpanded.{AreDecided, freed}
 
@@ -146,15 +149,18 @@ module _ (ports : Ports) (over : flat.Ports) (m : Module) (pre post : List Proce
       kept : (n : ℕ) (t : Time Place) (v : Valuation) → Reached n after t v → is_zero n ≡ false → active_of (level_after reset.level) (v (bit_place p m.wires reset.bit)) ≡ S1 → Below (v own) c
       kept zero t v s e h = absurd (cc)
       kept (suc n) Start v s e h = absurd s
-      kept (suc n) (Step y x f) v s e h =
-          let tight : Below (v own) (value_of (loaded_row begun p m.wires (trigger race.clock) (trigger reset) (Some (Fixed c)) j).driver (Step y x f) v) = subst (λ (z : Driven). Below (v z.place) (value_of z.driver (Step y x f) v)) is (s.0.tight (row_of j) (row_there j i)) in
-          active_sets (v own) _ c (active_of (level_after reset.level) (v (bit_place p m.wires reset.bit))) h tight
+      kept (suc n) (Step y x manner) v s e h =
+          by manner.order (subst (λ (z : Driven). Below (v z.place) (value_of z.driver (Step y x manner) v)) is (s.0.tight (row_of j) (row_there j i)))
+        where
+          by : (o : Order) → Below (v own) (value_of (loaded_row begun p m.wires (trigger race.clock) (trigger reset) (Some (Fixed c)) j).driver (Step y x (record { first = manner.first; order = o })) v) → Below (v own) c
+          by Together = active_sets (v own) _ c (active_of (level_after reset.level) (v (bit_place p m.wires reset.bit))) h
+          by Released = active_sets (v own) _ c (active_of (level_after reset.level) (v (bit_place p m.wires reset.bit))) h
 
     module _ (trees : TreesStay ⊎ TreesFreed) where
       -- of two times the later one
-      met_step : (n : ℕ) (y w : Valuation) (x : List Bit) (first : Bool) → Reached (suc n) after (Step y x first) w → (j : Join) → In j js → Below (raced_value m p begun q.root bits race.clock reset j even y w x first) (w (bit_place p m.wires j.bit))
+      met_step : (n : ℕ) (y w : Valuation) (x : List Bit) (manner : Manner) → Reached (suc n) after (Step y x manner) w → (j : Join) → In j js → Below (raced_value m p begun q.root bits race.clock reset j even y w x manner) (w (bit_place p m.wires j.bit))
       unfolding data_of
-      met_step n y w x first s j i = by (sort_of j i)
+      met_step n y w x manner s j i = by (sort_of j i)
         where
           before : Solved after s.2.0 y
           before = reached_solved after n s.2.0 y s.2.1
@@ -165,30 +171,30 @@ module _ (ports : Ports) (over : flat.Ports) (m : Module) (pre post : List Proce
           seen : AreSeen p m.wires y (switch_test no_modules m reset.bit) (y (bit_place p m.wires reset.bit))
           seen = switch_seen m p s.2.0 y begun over links (λ d k. before.met d (cell_there over m pre post q r p starts accesses d k)) fit no_modules reset.bit
 
-          met : (d : Driven) → row_of j ≡ d → Below (value_of d.driver (Step y x first) w) (w d.place)
-          met d e = subst (λ (z : Driven). Below (value_of z.driver (Step y x first) w) (w z.place)) e (s.0.met (row_of j) (row_there j i))
+          met : (d : Driven) → row_of j ≡ d → Below (value_of d.driver (Step y x manner) w) (w d.place)
+          met d e = subst (λ (z : Driven). Below (value_of z.driver (Step y x manner) w) (w z.place)) e (s.0.met (row_of j) (row_there j i))
 
-          stay : TreesStay → Below (merge_of (was m p begun q.root bits race.clock reset j even y w x first) (is m p begun q.root bits race.clock reset j even y w x first)) (had p m.wires y j.source)
-          stay h = data_seen m p begun q.root bits race.clock reset j even y w x first seen (h s.2.0 y before)
+          stay : TreesStay → Below (was m p begun q.root bits race.clock reset j even y w x manner) (had p m.wires y j.source)
+          stay h = data_seen m p begun q.root bits race.clock reset j even y w x manner seen (h s.2.0 y before)
 
-          given : TreesStay ⊎ TreesFreed → IsData m p begun q.root bits race.clock reset j even y w x first
-          given (inl h) = λ _. stay h
-          given (inr h) = data_freed m p begun q.root bits race.clock reset j even y w x first (h.0 s.2.0 y before)
+          given : TreesStay ⊎ TreesFreed → IsData m p begun q.root bits race.clock reset j even y w x manner
+          given (inl h) = data_stays m p begun q.root bits race.clock reset j even y w x manner (stay h)
+          given (inr h) = data_freed m p begun q.root bits race.clock reset j even y w x manner (h.0 s.2.0 y before)
 
           no_hold : TreesStay ⊎ TreesFreed → are_all j.bit (leaves j) ≡ true → TreesStay
           no_hold (inl h) e = h
           no_hold (inr h) e = absurd (let no : true ≡ false = sym e ∙ h.1 j i in cc)
 
-          by : data_of j → Below (raced_value m p begun q.root bits race.clock reset j even y w x first) (w (bit_place p m.wires j.bit))
+          by : data_of j → Below (raced_value m p begun q.root bits race.clock reset j even y w x manner) (w (bit_place p m.wires j.bit))
           by (inl k) =
               let row : Driven = loaded_row begun p m.wires (trigger race.clock) (trigger reset) (Some (Fixed k.0)) j in
-              Below_trans _ (value_of row.driver (Step y x first) w) (w (bit_place p m.wires j.bit))
-              (set_met m p begun q.root bits race.clock reset j even y w x first k.0 k.1 (λ e. kept j i k.0 k.2 n s.2.0 y s.2.1 (sym s.1 ∙ e)) (given trees))
+              Below_trans _ (value_of row.driver (Step y x manner) w) (w (bit_place p m.wires j.bit))
+              (set_met m p begun q.root bits race.clock reset j even y w x manner k.0 k.1 (λ e. kept j i k.0 k.2 n s.2.0 y s.2.1 (sym s.1 ∙ e)) (given trees))
               (met row k.2)
           by (inr k) =
               let row : Driven = edge_row begun p m.wires (trigger race.clock) j in
-              Below_trans _ (value_of row.driver (Step y x first) w) (w (bit_place p m.wires j.bit))
-              (held_met m p begun q.root bits race.clock reset j even y w x first k.0 (stay (no_hold trees k.1)))
+              Below_trans _ (value_of row.driver (Step y x manner) w) (w (bit_place p m.wires j.bit))
+              (held_met m p begun q.root bits race.clock reset j even y w x manner k.0 (stay (no_hold trees k.1)))
               (met row k.2)
 
       met_start : (w : Valuation) → Solved after Start w → (j : Join) → In j js → Below (begun (OnWire j.bit)) (w (bit_place p m.wires j.bit))
@@ -205,6 +211,6 @@ module _ (ports : Ports) (over : flat.Ports) (m : Module) (pre post : List Proce
       -- each race is met
       pub race_met : (n : ℕ) (u : Time Place) (w : Valuation) → Reached n after u w → (j : Join) → In j js → Below (value_of (raced_row begun p m.wires m q.root bits race.clock reset j).driver u w) (w (bit_place p m.wires j.bit))
       race_met zero Start w s j i = met_start w s j i
-      race_met (suc n) (Step y x first) w s j i = met_step n y w x first s j i
-      race_met zero (Step y x first) w s j i = absurd s
+      race_met (suc n) (Step y x manner) w s j i = met_step n y w x manner s j i
+      race_met zero (Step y x manner) w s j i = absurd s
       race_met (suc n) Start w s j i = absurd s

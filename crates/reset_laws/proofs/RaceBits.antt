@@ -1,12 +1,14 @@
--- What a race gives is below what a register with a level, or without one, gives.
+-- What a race gives is below what a register with a level, or without one, gives, in either order of time.
 use Rattle.std.proofs.Common.{◌≡◌, List, [], ◌∷◌, ◌++◌, ◌⊎◌, inl, inr, refl, sym, ap, subst}
 use Rattle.rtl_bits.specs.declared.bit.Bit.{Bit}
 use Rattle.rtl_bits.specs.declared.bit.Bit.TheVariants.{S0, S1, X, Z, M, Dash}
 use Rattle.rtl_bits.specs.Knowledge.{Below}
 use Rattle.rtl_bits.specs.Tables.{and_of, merge_of, not_of, or_of, seen_of}
-use Rattle.rtl_bits.proofs.Orders.{Below_trans, merge_greatest, merge_left, merge_right}
+use Rattle.rtl_bits.proofs.Orders.{Below_refl, Below_trans, merge_greatest, merge_left, merge_right}
 use Rattle.cell_gate.specs.Control.{edge_of, pick_of}
 use Rattle.net_model.proofs.Members.{In-left, In-right}
+use Rattle.net_model.proofs.Orders.{below}
+use Rattle.net_model.proofs.Writing.{pick_kept}
 use Rattle.net_model.specs.Lists.{In}
 use Rattle.net_model.specs.Race.{common_of, raced_of, unless_certain, unless_impossible}
 
@@ -117,6 +119,15 @@ pick_above r Z a b h i = merge_greatest b a r (i (λ e. absurd (cc))) (h (λ e. 
 pick_above r M a b h i = merge_greatest b a r (i (λ e. absurd (cc))) (h (λ e. absurd (cc)))
 pick_above r Dash a b h i = merge_greatest b a r (i (λ e. absurd (cc))) (h (λ e. absurd (cc)))
 
+-- what is above both choices is above what is picked
+pick_within : (c a b k : Bit) → Below a k → Below b k → Below (pick_of c a b) k
+pick_within S0 a b k h i = Below_trans (seen_of b) b k (seen_below b) i
+pick_within S1 a b k h i = Below_trans (seen_of a) a k (seen_below a) h
+pick_within X a b k h i = Below_trans (merge_of b a) a k (merge_right b a) h
+pick_within Z a b k h i = Below_trans (merge_of b a) a k (merge_right b a) h
+pick_within M a b k h i = Below_trans (merge_of b a) a k (merge_right b a) h
+pick_within Dash a b k h i = Below_trans (merge_of b a) a k (merge_right b a) h
+
 module _ (clock was_reset is_reset was is active old : Bit) where
   abbrev reset : Bit
   reset = edge_of was_reset is_reset
@@ -175,3 +186,27 @@ module _ (clock was_reset is_reset was is active old : Bit) where
       by : (clock ≡ S1 → ⊥) → (or_of clock reset ≡ S1) ⊎ (or_of clock reset ≡ S1 → ⊥) → Below raced old
       by i (inr h) = below_old h
       by i (inl e) = Below_trans raced active old (below_active (certain_apart reset (either_certain clock reset i e))) act
+
+-- where the clock's edge takes the value with the reset as it was, and the reset as it is acts on that
+module _ (clock is_reset was active old : Bit) where
+  -- what the clock makes of the bit
+  abbrev clocked : Bit
+  clocked = pick_of clock was old
+
+  abbrev pub released : Bit
+  released = pick_of is_reset active clocked
+
+  clocked_below : (d : Bit) → Below was d → Below clocked (pick_of clock d old)
+  clocked_below d given =
+      pick_kept Below below clock clock was d old old (Below_refl clock) given (Below_refl old)
+
+  -- a bit that the reset sets: so is the value with the reset as it was, where that was not inactive
+  pub released_set : (was_reset set d : Bit) → Below active set → ((was_reset ≡ S0 → ⊥) → Below was set) → ((was_reset ≡ S1 → ⊥) → Below was d) → Below released (pick_of is_reset set (pick_of clock (pick_of was_reset set d) old))
+  released_set was_reset set d act opened given =
+      pick_kept Below below is_reset is_reset active set clocked (pick_of clock (pick_of was_reset set d) old) (Below_refl is_reset) act
+      (clocked_below (pick_of was_reset set d) (pick_above was was_reset set d opened given))
+
+  -- a bit that the reset leaves: with the reset active it has what the clock makes of it
+  pub released_held : (d : Bit) → Below active clocked → Below was d → Below released (pick_of clock d old)
+  released_held d act given =
+      Below_trans released clocked (pick_of clock d old) (pick_within is_reset active clocked clocked act (Below_refl clocked)) (clocked_below d given)

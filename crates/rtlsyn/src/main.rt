@@ -1,16 +1,35 @@
-//! The program: what the words of the command line ask for, over standard input and output.
+//! The program: what the words of the command line ask for, over standard input and output or over files. Standard output
+//! has the replies alone; what they mean is told on standard error.
 #![tactic(auto)]
 
+mod asked;
+mod calls;
+mod causes;
+mod drivers;
+mod files;
+mod found;
+mod kept;
+mod memory_cause;
+mod near;
+mod options;
+mod pick;
+mod process_cause;
+mod refusal;
+mod say;
+mod text_cause;
+mod told;
+
+use crate::calls::{answer_people, answer_standard};
+use crate::say::say_usage;
 pub use generated_design::generated;
-use rtl_bits::Steps;
-use std::alloc::Global;
-use std::io::ErrorKind;
+use std::env;
+use std::io::{ErrorKind, IsTerminal};
+use std::marker::Sync;
 use std::process::ExitCode;
 use std::rt::Env;
-use std::{env, io};
-use synth_io::{StdSink, StdSource};
+use std::sync::Wait;
+use std::thread::Threads;
 pub use synth_run::{Mode, Plan, Status, WordFault, read_words, run};
-use work_crew::NoGate;
 
 /// The program's arguments without its own name. One that is no text has no meaning.
 fn words_of(rt: &(impl Env + AllocGlobal)) -> Result<Vec<String>, Status> {
@@ -25,24 +44,23 @@ fn words_of(rt: &(impl Env + AllocGlobal)) -> Result<Vec<String>, Status> {
     Ok(words)
 }
 
-/// The name of the counter of builds.
-struct Builds;
+/// Does what the words ask for: by the rule of words over standard input and output, else as the words of people. Without
+/// words, a terminal is shown the usage.
+fn answer<T: Threads + Wait + Sync>(threads: &T, rt: &HostRuntime, words: &[String]) -> Status {
+    if words.is_empty() && rt.stdin().is_terminal() {
+        return say_usage(rt);
+    }
+    match answer_standard(threads, rt, words) {
+        Status::Usage => answer_people(threads, rt, words),
+        status => status,
+    }
+}
 
-/// Runs over standard input and output, and gives the exit status.
+/// Runs, and gives the exit status.
 fn main(rt: HostRuntime) -> ExitCode {
-    let mut meter = Steps::make(&Builds);
     let status = match words_of(&rt) {
-        Ok(words) => run(
-            &rt,
-            rt.alloc(),
-            words.as_slice(),
-            &mut StdSource::make(rt.reader()),
-            &mut StdSink::make(io::writer(&rt)),
-            &NoGate,
-            &mut meter,
-        ),
+        Ok(words) => answer(&rt, &rt, words.as_slice()),
         Err(status) => status,
     };
-    meter.end(&Builds);
     ExitCode::from(status.code())
 }

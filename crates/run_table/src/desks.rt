@@ -2,7 +2,6 @@
 
 use crate::calls::{Call, make_call};
 use crate::crews::{held_first, plain_modules};
-use crate::sessions::ended_over;
 use rtl_bits::Memory;
 use std::alloc::{AllocError, Global};
 use std::marker::Sync;
@@ -63,19 +62,4 @@ pub fn are_at_once<R: Threads + Wait + Sync>(rt: &R, alloc: Global) -> Result<bo
     let wanted = b"ok built 0 reused 0\nok desk 2\nok built 0 reused 0\n".as_slice();
     let ended = held_first(rt, alloc, b"--session --desks 2", input, 1)?;
     Ok(ended.is_some_and(|ended| ended.ends_with(0, wanted)))
-}
-
-/// Whether an input of two desks that is too long has an error in place of the command in progress.
-pub fn is_too_long<R: Threads + Wait + Sync>(rt: &R, alloc: Global) -> Result<bool, Memory> {
-    let words = b"--session --desks 2";
-    let (status, sink) = ended_over(rt, alloc, words, b"run\ndesk 2\n", 67_108_851, b"run")?;
-    let wanted = b"ok built 0 reused 0\nok desk 2\nerror 17 input\n".as_slice();
-    Ok(status == Status::Refused && sink.bytes() == wanted)
-}
-
-/// Whether `quit` within the limit ends an input of two desks that is longer.
-pub fn is_ended<R: Threads + Wait + Sync>(rt: &R, alloc: Global) -> Result<bool, Memory> {
-    let words = b"--session --desks 2";
-    let (status, sink) = ended_over(rt, alloc, words, b"desk 2\nquit\n", 67_108_865, b"run\n")?;
-    Ok(status == Status::Done && sink.bytes() == b"ok desk 2\nok\n".as_slice())
 }

@@ -1,4 +1,4 @@
-//! Calls over sources and sinks of other kinds, and the longest input.
+//! Calls over sources and sinks of other kinds.
 
 ghost use Rattle.synth_run.specs.Replies.{IsCompleted};
 
@@ -8,34 +8,9 @@ use std::alloc::Global;
 use std::marker::Sync;
 use std::sync::Wait;
 use std::thread::Threads;
-use synth_io::{MemSink, StdSink, StdSource, SureSink, SureSource};
+use synth_io::{StdSink, StdSource, SureSink, SureSource};
 use synth_run::{Status, run};
 use work_crew::NoGate;
-
-/// How a call over so many spaces ends, and what it writes.
-fn ended_over<R: Threads + Wait + Sync>(
-    rt: &R,
-    alloc: Global,
-    count: usize,
-) -> Result<(Status, MemSink), Memory> {
-    let spaces = vec![in alloc; b' '; count]?;
-    let mut source = SureSource::make(Text::from_vec(spaces)?);
-    let mut sink = MemSink::make(alloc, 100, Vec::new(alloc))?;
-    let (status, _builds) = count_builds(rt, alloc, &[], &mut source, &mut sink);
-    Ok((status, sink))
-}
-
-/// Whether as many spaces as an input can have are an empty text.
-pub fn is_longest<R: Threads + Wait + Sync>(rt: &R, alloc: Global) -> Result<bool, Memory> {
-    let (status, sink) = ended_over(rt, alloc, 67_108_864)?;
-    Ok(status == Status::Done && sink.bytes().is_empty())
-}
-
-/// Whether one more is refused.
-pub fn is_too_long<R: Threads + Wait + Sync>(rt: &R, alloc: Global) -> Result<bool, Memory> {
-    let (status, sink) = ended_over(rt, alloc, 67_108_865)?;
-    Ok(status == Status::Refused && sink.bytes() == b"error 17 input\n".as_slice())
-}
 
 /// The text of an empty module, whose netlist it is.
 const EMPTY: &[u8] = b"module \\e\nend\n";

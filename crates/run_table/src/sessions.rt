@@ -1,14 +1,13 @@
 //! Calls over inputs that come in pieces.
 
-use crate::calls::{self, ROOM, count_builds, has_code, numbers_of};
+use crate::calls::{ROOM, count_builds, has_code, numbers_of};
 use crate::pieces::Pieces;
 use rtl_bits::{Memory, Text};
 use std::alloc::Global;
 use std::marker::Sync;
 use std::sync::Wait;
 use std::thread::Threads;
-use synth_io::{MemSink, MemSource, SureSource};
-use synth_run::Status;
+use synth_io::MemSink;
 use table_rows::str_of;
 
 /// A row: its words, a line each, the numbers of the read and the write that fail, the builds, the status, the input
@@ -80,70 +79,4 @@ pub fn is_answered<R: Threads + Wait + Sync>(
         }
     }
     Ok(true)
-}
-
-/// Whether a call with these words over an empty input ends with this status, and writes nothing.
-pub fn is_taken<R: Threads + Wait + Sync>(
-    rt: &R,
-    alloc: Global,
-    fields: &[&[u8]],
-) -> Result<bool, Memory> {
-    let [_, words, code] = fields else {
-        return Ok(false);
-    };
-    let words = words_of(alloc, words)?;
-    let mut source = MemSource::make(Text::make(alloc), Vec::new(alloc));
-    let mut sink = MemSink::make(alloc, 100, Vec::new(alloc))?;
-    let (status, builds) = count_builds(rt, alloc, words.as_slice(), &mut source, &mut sink);
-    Ok(has_code(status, code) && sink.bytes().is_empty() && builds == 0)
-}
-
-/// The word of a session.
-const SESSION: &[u8] = b"--session";
-
-/// How a call with these words ends over these bytes, then so many spaces, and then these bytes, and what it writes.
-pub fn ended_over<R: Threads + Wait + Sync>(
-    rt: &R,
-    alloc: Global,
-    words: &[u8],
-    front: &[u8],
-    spaces: usize,
-    back: &[u8],
-) -> Result<(Status, MemSink), Memory> {
-    let mut bytes = Vec::from_slice(alloc, front)?;
-    let middle = vec![in alloc; b' '; spaces]?;
-    bytes.extend_from_slice(&middle)?;
-    bytes.extend_from_slice(back)?;
-    let mut source = SureSource::make(Text::from_vec(bytes)?);
-    let mut sink = MemSink::make(alloc, 1000, Vec::new(alloc))?;
-    let words = calls::words_of(alloc, words)?;
-    let (status, _builds) = count_builds(rt, alloc, words.as_slice(), &mut source, &mut sink);
-    Ok((status, sink))
-}
-
-/// Whether a session answers all commands of the longest input, of which the last has no LF.
-pub fn is_longest<R: Threads + Wait + Sync>(rt: &R, alloc: Global) -> Result<bool, Memory> {
-    let (status, sink) = ended_over(rt, alloc, SESSION, b"run\n", 67_108_857, b"run")?;
-    let wanted = b"ok built 0 reused 0\nok built 0 reused 0\n".as_slice();
-    Ok(status == Status::Done && sink.bytes() == wanted)
-}
-
-/// Whether one byte more has an error in place of the command in progress.
-pub fn is_too_long<R: Threads + Wait + Sync>(rt: &R, alloc: Global) -> Result<bool, Memory> {
-    let (status, sink) = ended_over(rt, alloc, SESSION, b"run\n", 67_108_858, b"run")?;
-    let wanted = b"ok built 0 reused 0\nerror 17 input\n".as_slice();
-    Ok(status == Status::Refused && sink.bytes() == wanted)
-}
-
-/// Whether a command is answered whose last line ends with the last byte that an input may have, and the next is not.
-pub fn is_cut<R: Threads + Wait + Sync>(rt: &R, alloc: Global) -> Result<bool, Memory> {
-    let (status, sink) = ended_over(rt, alloc, SESSION, b"", 67_108_860, b"run\nrun\n")?;
-    let wanted = b"ok built 0 reused 0\nerror 17 input\n".as_slice();
-    Ok(status == Status::Refused && sink.bytes() == wanted)
-}
-
-/// Whether `quit` within the limit ends a session whose input is longer.
-pub fn is_ended<R: Threads + Wait + Sync>(rt: &R, alloc: Global) -> Result<bool, Memory> {
-    let (status, sink) = ended_over(rt, alloc, SESSION, b"quit\n", 67_108_865, b"run\n")?;
-    Ok(status == Status::Done && sink.bytes() == b"ok\n".as_slice())
 }

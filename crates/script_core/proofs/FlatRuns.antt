@@ -286,7 +286,7 @@ module _ (d : Design) (readable : IsReadable d) (none : check_faults d.modules �
       anywhere e v rest some =
           let u = heads (us ++ n ∷ vs) n (in_middle us n vs) in
           let same : flat (with_body us n vs) n ≡ flat e n = alone (with_body us n vs) e u.0 v u.1.0 rest u.1.1 some n no_instances in
-          (turn_below.0, turn_below.1, λ stimulus. subst (λ z. TraceBelow (run_of d m stimulus) (run place_same (meanings z) (output_places n) stimulus)) same (turn_below.2 stimulus))
+          (turn_below.0, turn_below.1, λ order stimulus. subst (λ z. TraceBelow (run_of order d m stimulus) (run place_same (meanings z) (output_places n) order stimulus)) same (turn_below.2 order stimulus))
 
     pub flat_below : (e : Design) (v : Module) (rest : List Module) → e.modules ≡ v ∷ rest → ModuleBelow d e m n
     flat_below e v rest some = let k = around d.modules m i in anywhere k.0 k.1.0 k.1.1 e v rest some

@@ -5,6 +5,7 @@ use Rattle.std.specs.List.{AllByRecursion}
 use Rattle.rtl_bits.specs.declared.bit.Bit.{Bit}
 use Rattle.rtl_bits.specs.declared.bit.Bit.TheVariants.{X}
 use Rattle.rtl_bits.specs.Tables.{and_of, or_of}
+use Rattle.cell_types.specs.declared.level.Level.{Level}
 use Rattle.cell_types.specs.declared.levels.Levels.{Levels}
 use Rattle.cell_types.specs.declared.shape.Shape.{Shape}
 use Rattle.cell_types.specs.declared.storage.StorageKind.{StorageKind}
@@ -12,14 +13,19 @@ use Rattle.cell_types.specs.declared.storage.StorageKind.TheVariants.{Ff, Dff, D
 use Rattle.cell_gate.specs.declared.pins.Pins.{Pins}
 use Rattle.cell_gate.specs.Control.{active_of, edge_of, pick_of, was_of}
 use Rattle.cell_gate.specs.Storage.{acting_of, next_of}
-use Rattle.cell_gate.specs.Store.{store_of}
+use Rattle.cell_gate.specs.Store.{reset_at, storage_kind}
 use Rattle.rtl_ir.specs.Flat.Driver.{Driven}
+use Rattle.rtl_ir.specs.Flat.Pick.{Pick}
 use Rattle.rtl_ir.specs.Flat.Place.{Place}
+use Rattle.rtl_ir.specs.Flat.Point as flat
+use Rattle.net_model.specs.declared.order.Order.{Order}
+use Rattle.net_model.specs.declared.order.Order.TheVariants.{Together, Released}
 use Rattle.net_model.specs.Lists.{In}
-use Rattle.net_model.specs.Picked.{chosen_of, equal_of, held_of, picked}
+use Rattle.net_model.specs.Order.{released_of, stored_in, were_of}
+use Rattle.net_model.specs.Picked.{chosen_of, equal_of, held_of, own_or, picked, picked_by}
 use Rattle.net_model.specs.Race.{raced_of}
-use Rattle.net_model.specs.Valuation.{passed_of, read}
-use Rattle.net_model.specs.Value.{level_bit, value_of, worked_of}
+use Rattle.net_model.specs.Valuation.{Valuation, passed_of, read}
+use Rattle.net_model.specs.Value.{clocked_at, level_bit, raced_in, value_of, worked_of}
 use Rattle.net_model.specs.Words.{after_ports, fetched_of}
 use Rattle.net_model.proofs.Members.{In-left, In-right, In-cases, In-map, In-mapped}
 use Rattle.flat_net.specs.declared.choices.Assign.{Assign}
@@ -214,15 +220,51 @@ module _ (old new : List Bit) where
   next_trimmed Dlatchsr value before levels p = refl
   next_trimmed Sr value before levels p = refl
 
+  released_trimmed : (kind : StorageKind) (value : Bit) (before : Pins) (levels : Levels) (p : Pins) (other : Bit) → released_of kind value before (acting_of levels p) other ≡ released_of kind value before (acting_of levels (trimmed (is_open kind) p)) other
+  released_trimmed Adff value before levels p other = refl
+  released_trimmed Adffe value before levels p other = refl
+  released_trimmed Aldff value before levels p other = refl
+  released_trimmed Aldffe value before levels p other = refl
+  released_trimmed Dffsr value before levels p other = refl
+  released_trimmed Dffsre value before levels p other = refl
+  released_trimmed kind value before levels p other = refl
+
+  together_trimmed : (kind : StorageKind) (levels : Levels) (value : Bit) (was p q : Pins) (first : Bool) → trimmed (is_open kind) p ≡ trimmed (is_open kind) q → stored_in Together kind levels value was p first ≡ stored_in Together kind levels value was q first
+  together_trimmed kind levels value was p q first e =
+      let acting = acting_of levels (record was { clk = was_of first was.clk }) in
+      next_trimmed kind value acting levels p
+      ∙ (ap (λ z. next_of kind value acting (acting_of levels z)) e
+      ∙ sym (next_trimmed kind value acting levels q))
+
+  -- the pins that count decide what a storage bit has, in either order of time
+  stored_trimmed : (order : Order) (kind : StorageKind) (levels : Levels) (value : Bit) (was p q : Pins) (first : Bool) → trimmed (is_open kind) p ≡ trimmed (is_open kind) q → stored_in order kind levels value was p first ≡ stored_in order kind levels value was q first
+  stored_trimmed Together kind levels value was p q first e = together_trimmed kind levels value was p q first e
+  stored_trimmed Released kind levels value was p q first e =
+      let acting = acting_of levels (were_of first was) in
+      let other = stored_in Together kind levels value was p first in
+      released_trimmed kind value acting levels p other
+      ∙ (ap (λ z. released_of kind value acting (acting_of levels z) other) e
+      ∙ (sym (released_trimmed kind value acting levels q other)
+      ∙ ap (released_of kind value acting (acting_of levels q)) (together_trimmed kind levels value was p q first e)))
+
   kept_agrees : (moment : Moment) (shape : Shape) (b : StoreBit) → Agree (store_points (is_latch shape.kind) b) → kept_of moment shape b old ≡ kept_of moment shape b new
   kept_agrees Start shape b h = refl
-  kept_agrees (Step before inputs first) shape b h =
-      let store = store_of shape b.at in
-      let was = number_pins before.now b.pins b.number in
-      let acting = acting_of store.levels (record was { clk = was_of first was.clk }) in
-      next_trimmed store.kind store.value acting store.levels (number_pins old b.pins b.number)
-      ∙ (ap (λ z. next_of store.kind store.value acting (acting_of store.levels z)) (trimmed_agrees (is_latch shape.kind) b b.number h)
-      ∙ sym (next_trimmed store.kind store.value acting store.levels (number_pins new b.pins b.number)))
+  kept_agrees (Step before inputs first order) shape b h =
+      let kind = storage_kind shape.kind in
+      stored_trimmed order kind shape.levels (reset_at kind shape.resets b.at) (number_pins before.now b.pins b.number) (number_pins old b.pins b.number) (number_pins new b.pins b.number) first
+      (trimmed_agrees (is_latch shape.kind) b b.number h)
+
+-- a bit of a process with two edges is the same where the clock and the reset are, in either order of time
+raced_on : (order : Order) (before v w : Valuation) (first : Bool) (clock : flat.Point) (clock_level : Level) (reset : flat.Point) (reset_level : Level) (tree : Pick) (own : Place) → read v clock ≡ read w clock → read v reset ≡ read w reset
+    → raced_in order before v first clock clock_level reset reset_level tree own ≡ raced_in order before w first clock clock_level reset reset_level tree own
+raced_on Together before v w first clock clock_level reset reset_level tree own c r =
+    let was = was_of first (read before reset) in
+    (λ i. raced_of (edge_of (active_of clock_level (was_of first (read before clock))) (active_of clock_level (c i)))
+    (edge_of (active_of reset_level was) (active_of reset_level (r i)))
+    (picked before was tree) (picked before (r i) tree) (picked before (level_bit reset_level) tree) (before own))
+raced_on Released before v w first clock clock_level reset reset_level tree own c r =
+    let taken : clocked_at before v first clock clock_level reset tree own ≡ clocked_at before w first clock clock_level reset tree own = (λ i. pick_of (edge_of (active_of clock_level (was_of first (read before clock))) (active_of clock_level (c i))) (picked before (was_of first (read before reset)) tree) (before own)) in
+    (λ i. pick_of (active_of reset_level (r i)) (picked_by (own_or own (taken i) before) before (level_bit reset_level) tree) (taken i))
 
 module _ (ps : List Place) (moment : Moment) (old new : List Bit) (was : IsBoard ps moment old) (is : IsBoard ps moment new) where
   -- a row gives the same
@@ -278,7 +320,7 @@ module _ (ps : List Place) (moment : Moment) (old new : List Bit) (was : IsBoard
     where
       by : (m : Moment) → value_of (held_row ps tree b).driver (time_of ps m) (shown ps old) ≡ value_of (held_row ps tree b).driver (time_of ps m) (shown ps new)
       by Start = refl
-      by (Step before inputs first) =
+      by (Step before inputs first order) =
           let holds = marks_agree b.number within.0 tree.root tree.width root h tree.width b.source in
           let value = read_agrees b.source.from within.1.0 e in
           (λ i. held_of (holds i) (shown ps before.now (place_at ps b.number)) (value i))
@@ -289,14 +331,9 @@ module _ (ps : List Place) (moment : Moment) (old new : List Bit) (was : IsBoard
     where
       by : (m : Moment) → value_of (raced_row ps r b).driver (time_of ps m) (shown ps old) ≡ value_of (raced_row ps r b).driver (time_of ps m) (shown ps new)
       by Start = refl
-      by (Step before inputs first) =
-          let v = shown ps before.now in
-          let clock = read_agrees r.clock clock_within c in
-          let reset = read_agrees r.reset reset_within d in
-          let tree = value_pick ps r.tree b in
-          (λ i. raced_of (edge_of (active_of r.clock_level (was_of first (read v (point_of ps r.clock)))) (active_of r.clock_level (clock i)))
-          (edge_of (active_of r.reset_level (was_of first (read v (point_of ps r.reset)))) (active_of r.reset_level (reset i)))
-          (picked v (was_of first (read v (point_of ps r.reset))) tree) (picked v (reset i) tree) (picked v (level_bit r.reset_level) tree) (v (place_at ps b.number)))
+      by (Step before inputs first order) =
+          raced_on order (shown ps before.now) (shown ps old) (shown ps new) first (point_of ps r.clock) r.clock_level (point_of ps r.reset) r.reset_level (value_pick ps r.tree b) (place_at ps b.number)
+          (read_agrees r.clock clock_within c) (read_agrees r.reset reset_within d)
 
   remembered_agrees : (w : Remembered) (b : WordBit) → IsPointWithin (length ps) w.clock → number_read old w.clock ≡ number_read new w.clock → Same (word_row ps w b)
   remembered_agrees w b within c =
@@ -304,7 +341,7 @@ module _ (ps : List Place) (moment : Moment) (old new : List Bit) (was : IsBoard
     where
       by : (m : Moment) → value_of (word_row ps w b).driver (time_of ps m) (shown ps old) ≡ value_of (word_row ps w b).driver (time_of ps m) (shown ps new)
       by Start = refl
-      by (Step before inputs first) =
+      by (Step before inputs first order) =
           let v = shown ps before.now in
           let clock = read_agrees w.clock within c in
           (λ i. pick_of (edge_of (active_of w.level (was_of first (read v (point_of ps w.clock)))) (active_of w.level (clock i)))

@@ -3,7 +3,6 @@ use Rattle.std.proofs.Common.{◌≡◌, ◌<◌, ℕ, Bool, List, [], ◌∷◌
 use Rattle.rtl_bits.specs.declared.bit.Bit.{Bit}
 use Rattle.rtl_bits.specs.declared.bit.Bit.TheVariants.{X}
 use Rattle.cell_types.specs.declared.shape.Shape.{Shape}
-use Rattle.cell_gate.specs.Storage.{store_bit_of}
 use Rattle.rtl_ir.specs.Flat.Driver.{Given, Joined}
 use Rattle.rtl_ir.specs.Flat.Place.{Place}
 use Rattle.flat_net.specs.declared.net.Join.{Join}
@@ -16,6 +15,7 @@ use Rattle.flat_net.specs.declared.net.StorePins.{StorePins}
 use Rattle.flat_net.specs.Parts.{given_row, inputs_of, join_row, output_row, store_row}
 use Rattle.flat_net.specs.Points.{place_at, AreApart, point_of, points_of, pins_of}
 use Rattle.flat_net.specs.Within.{ArePinsWithin, ArePointsWithin, IsLogicWithin, IsPointWithin, IsStoreWithin}
+use Rattle.net_model.specs.Order.{next_bit_of}
 use Rattle.net_model.specs.Run.{Time}
 use Rattle.net_model.specs.Valuation.{passed_of, read, read_all, read_words}
 use Rattle.net_model.specs.Value as value
@@ -63,15 +63,15 @@ module _ (ps : List Place) (values : List Bit) (apart : AreApart ps) (same : len
 
 pub given_same : (ps : List Place) (moment : Moment) (at : ℕ) (values : List Bit) → value_of (Given at) (time_of ps moment) (shown ps values) ≡ given_of moment at
 given_same ps Start at values = refl
-given_same ps (Step before inputs first) at values = refl
+given_same ps (Step before inputs first order) at values = refl
 
 joined_same : (ps : List Place) (t : Time Place) (j : Join) (values : List Bit) → value_of (Joined (point_of ps j.from)) t (shown ps values) ≡ passed_of (read (shown ps values) (point_of ps j.from))
 joined_same ps t j values = refl
 
 pub kept_same : (ps : List Place) (moment : Moment) (shape : Shape) (b : StoreBit) (values : List Bit) → IsBoard ps moment values → IsStoreWithin (length ps) b → value_of (store_row ps shape b).driver (time_of ps moment) (shown ps values) ≡ kept_of moment shape b values
 kept_same ps Start shape b values h l = refl
-kept_same ps (Step before inputs first) shape b values h l =
-    λ i. store_bit_of shape b.at (pins_same ps before.now h.apart h.before b.pins b.number l.1 l.0 i) (pins_same ps values h.apart h.now b.pins b.number l.1 l.0 i) first
+kept_same ps (Step before inputs first order) shape b values h l =
+    λ i. next_bit_of (record { first = first; order = order }) shape b.at (pins_same ps before.now h.apart h.before b.pins b.number l.1 l.0 i) (pins_same ps values h.apart h.now b.pins b.number l.1 l.0 i)
 
 -- a bit that the input vector drives
 pub advances_given : (ps : List Place) (moment : Moment) (o : Output) (old new : List Bit) (changed : Bool) (bit : Bit) → IsBoard ps moment old → o.number < length ps → bit ≡ given_of moment o.at → new ≡ put_of old o.number bit → changed ≡ gains old o.number bit → Advances ps (time_of ps moment) (given_row ps o ∷ []) old new changed

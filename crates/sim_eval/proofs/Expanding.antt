@@ -15,12 +15,12 @@ use Rattle.flat_net.specs.Picks.{expanded_pick}
 use Rattle.flat_net.specs.Points.{place_at, AreApart, point_of}
 use Rattle.flat_net.specs.Within.{IsBranchWithin, IsPointWithin, IsSourceWithin}
 use Rattle.sim_eval.specs.declared.walk.Leaves.{Leaves}
-use Rattle.sim_eval.specs.declared.walk.Leaves.TheVariants.{Values, Marks}
+use Rattle.sim_eval.specs.declared.walk.Leaves.TheVariants.{Values, Marks, Owned}
 use Rattle.sim_eval.specs.Leaves.{AreExpanded, AreLeavesWithin, comes_to, leaf_at, tree_source}
 use Rattle.sim_eval.specs.Trees.{bit_of, tree_value, unassigned}
 use Rattle.sim_eval.specs.Walk.{followed, leaf_of}
 use Rattle.sim_eval.proofs.Bridges.{read_same}
-use Rattle.sim_eval.proofs.Tables.{same_itself}
+use Rattle.sim_eval.proofs.Tables.{found_at, same_itself}
 use Rattle.sim_eval.proofs.Trees.{root_same}
 
 -- two numbers are the same where their bits are
@@ -43,6 +43,11 @@ module _ (ps : List Place) (values : List Bit) (apart : AreApart ps) (same : len
   leaf_same Values m p h = read_same ps values apart same p h
   leaf_same (Marks own) m (Constant b) h = refl
   leaf_same (Marks own) m (At n) h = ap (λ t. if t then S1 else S0) (number_same ps apart n own h m)
+  leaf_same (Owned own bit) m (Constant b) h = refl
+  leaf_same (Owned own bit) m (At n) h =
+      let same_number = number_same ps apart n own h m in
+      let value = found_at X ps values n apart same h in
+      (λ i. if same_number i then bit else value i)
 
   module _ (reset : Bit) (leaves : Leaves) (marked : AreLeavesWithin (length ps) leaves) (root : BranchView) where
     -- what a source comes to in so many rounds

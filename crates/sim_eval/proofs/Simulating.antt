@@ -11,6 +11,8 @@ use Rattle.rtl_ir.specs.Flat.Tree.{output_places}
 use Rattle.flat_net.specs.declared.net.Part.{Part}
 use Rattle.flat_net.specs.Parts.{parts_rows}
 use Rattle.flat_net.specs.Points.{place_at, AreApart}
+use Rattle.net_model.specs.declared.order.Order.{Order}
+use Rattle.net_model.specs.Order.{Manner}
 use Rattle.net_model.specs.Run as run
 use Rattle.sim_eval.specs.declared.sim.Sim.{Sim}
 use Rattle.sim_eval.specs.Advance.{AreLeast}
@@ -26,24 +28,28 @@ pub if_ok_two : {A E : Type 0} (r : Result A E) (P Q R : A → Type 0) → ((a :
 if_ok_two (Ok a) P Q R h p q = h a p q
 if_ok_two (Err e) P Q R h p q = p
 
+-- how the next step of a simulation is taken
+abbrev pub manner_of : Sim → Manner
+manner_of sim = record { first = not sim.started; order = sim.order }
+
 -- what is settled before the first step
-pub start_at : (d : Design) (m : Module) (ps : List Place) (parts : List Part) (values : List Bit) → AreCounting d m (parts_rows ps parts) → length ps ≡ length values → AreLeast ps run.Start (parts_rows ps parts) values → AreAt ps values (valuation_after d m [])
-start_at d m ps parts values counting count least = record {
+pub start_at : (order : Order) (d : Design) (m : Module) (ps : List Place) (parts : List Part) (values : List Bit) → AreCounting d m (parts_rows ps parts) → length ps ≡ length values → AreLeast ps run.Start (parts_rows ps parts) values → AreAt ps values (valuation_after order d m [])
+start_at order d m ps parts values counting count least = record {
   count = count;
   shown = least_settled d m (parts_rows ps parts) counting run.Start ps values least;
 }
 
 -- what is settled in one step more
-pub next_at : (d : Design) (m : Module) (stimulus : List (List Bit)) (ps : List Place) (sim : Sim) (before inputs x values : List Bit) (parts : List Part) → IsAt sim d m stimulus ps → before ≡ sim.values.items → inputs ≡ x → parts ≡ sim.parts → length values ≡ length before → AreLeast ps (run.Step (shown ps before) inputs (not sim.started)) (parts_rows ps parts) values → AreAt ps values (valuation_after d m (stimulus ++ x ∷ []))
-next_at d m stimulus ps sim before inputs x values parts at was given same count least = record {
+pub next_at : (order : Order) (d : Design) (m : Module) (stimulus : List (List Bit)) (ps : List Place) (sim : Sim) (before inputs x values : List Bit) (parts : List Part) → IsAt sim order d m stimulus ps → before ≡ sim.values.items → inputs ≡ x → parts ≡ sim.parts → length values ≡ length before → AreLeast ps (run.Step (shown ps before) inputs (manner_of sim)) (parts_rows ps parts) values → AreAt ps values (valuation_after order d m (stimulus ++ x ∷ []))
+next_at order d m stimulus ps sim before inputs x values parts at was given same count least = record {
   count = at.values.count ∙ (ap length (sym was) ∙ sym count);
   shown =
-      least_settled d m (parts_rows ps sim.parts) at.counting (run.Step (shown ps before) inputs (not sim.started)) ps values (subst (λ z. AreLeast ps (run.Step (shown ps before) inputs (not sim.started)) (parts_rows ps z) values) same least)
-      ∙ ((λ i. settled_at d m (run.Step (there i) (given i) (at.started i)))
-      ∙ sym (valuation_more d m stimulus x));
+      least_settled d m (parts_rows ps sim.parts) at.counting (run.Step (shown ps before) inputs (manner_of sim)) ps values (subst (λ z. AreLeast ps (run.Step (shown ps before) inputs (manner_of sim)) (parts_rows ps z) values) same least)
+      ∙ ((λ i. settled_at d m (run.Step (there i) (given i) (record { first = at.started i; order = at.ordered i })))
+      ∙ sym (valuation_more order d m stimulus x));
 }
   where
-    there : shown ps before ≡ valuation_after d m stimulus
+    there : shown ps before ≡ valuation_after order d m stimulus
     there = ap (shown ps) was ∙ at.values.shown
 
 -- the values of some numbers are those of their bits
@@ -53,8 +59,8 @@ bits_shown ps values (n ∷ numbers) apart same h =
     λ i. sym (found_at X ps values n apart same h.0) i ∷ bits_shown ps values numbers apart same h.1 i
 
 -- the output vector of a simulation
-pub outputs_at : (d : Design) (m : Module) (stimulus : List (List Bit)) (ps : List Place) (values slice : List Bit) (numbers slice_of : List ℕ) → AreApart ps → map (place_at ps) numbers ≡ output_places m → AllByRecursion (λ number. number < length ps) numbers → AreAt ps values (valuation_after d m stimulus) → slice ≡ values → slice_of ≡ numbers → map (λ number. get_or slice number X) slice_of ≡ outputs_after d m stimulus
-outputs_at d m stimulus ps values slice numbers slice_of apart places within at e f =
+pub outputs_at : (order : Order) (d : Design) (m : Module) (stimulus : List (List Bit)) (ps : List Place) (values slice : List Bit) (numbers slice_of : List ℕ) → AreApart ps → map (place_at ps) numbers ≡ output_places m → AllByRecursion (λ number. number < length ps) numbers → AreAt ps values (valuation_after order d m stimulus) → slice ≡ values → slice_of ≡ numbers → map (λ number. get_or slice number X) slice_of ≡ outputs_after order d m stimulus
+outputs_at order d m stimulus ps values slice numbers slice_of apart places within at e f =
     (λ i. map (λ number. get_or (e i) number X) (f i))
     ∙ (bits_shown ps values numbers apart at.count within
     ∙ (λ i. map (at.shown i) (places i)))

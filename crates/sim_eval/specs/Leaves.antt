@@ -9,10 +9,10 @@ use Rattle.flat_net.specs.declared.net.Point.TheVariants.{Constant}
 use Rattle.flat_net.specs.Choices.{BranchView}
 use Rattle.flat_net.specs.Picks.{expanded_pick}
 use Rattle.flat_net.specs.Points.{place_at}
-use Rattle.net_model.specs.Picked.{mark_of, picked_by}
+use Rattle.net_model.specs.Picked.{mark_of, own_or, picked_by}
 use Rattle.net_model.specs.Valuation.{read}
 use Rattle.sim_eval.specs.declared.walk.Leaves.{Leaves}
-use Rattle.sim_eval.specs.declared.walk.Leaves.TheVariants.{Values, Marks}
+use Rattle.sim_eval.specs.declared.walk.Leaves.TheVariants.{Values, Marks, Owned}
 use Rattle.sim_eval.specs.Shown.{shown}
 use Rattle.sim_eval.specs.Trees.{bit_of}
 
@@ -20,11 +20,13 @@ use Rattle.sim_eval.specs.Trees.{bit_of}
 abbrev pub leaf_at : List Place → List Bit → Leaves → flat.Point → Bit
 leaf_at ps values Values p = read (shown ps values) p
 leaf_at ps values (Marks own) p = mark_of (place_at ps own) p
+leaf_at ps values (Owned own bit) p = own_or (place_at ps own) bit (shown ps values) p
 
--- the bit that is marked has a number below the count
+-- the bit that is marked, or has another value, has a number below the count
 abbrev pub AreLeavesWithin : ℕ → Leaves → Type 0
 AreLeavesWithin count Values = Unit {0}
 AreLeavesWithin count (Marks own) = own < count
+AreLeavesWithin count (Owned own bit) = own < count
 
 -- what a source comes to, expanded so many times through the tree bits of a root
 abbrev pub comes_to : List Place → List Bit → Bit → Leaves → BranchView → ℕ → Source → Bit

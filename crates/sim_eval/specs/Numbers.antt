@@ -4,13 +4,13 @@ use Rattle.rtl_bits.specs.declared.bit.Bit.{Bit}
 use Rattle.rtl_bits.specs.declared.bit.Bit.TheVariants.{S0, S1, X, Z, M, Dash}
 use Rattle.cell_types.specs.declared.shape.Shape.{Shape}
 use Rattle.cell_gate.specs.declared.pins.Pins.{Pins}
-use Rattle.cell_gate.specs.Storage.{store_bit_of}
 use Rattle.cell_word.specs.Values.{word_value_of}
 use Rattle.flat_net.specs.declared.net.Logic.{Logic}
 use Rattle.flat_net.specs.declared.net.Point.{Point}
 use Rattle.flat_net.specs.declared.net.Point.TheVariants.{Constant, At}
 use Rattle.flat_net.specs.declared.net.StoreBit.{StoreBit}
 use Rattle.flat_net.specs.declared.net.StorePins.{StorePins}
+use Rattle.net_model.specs.Order.{next_bit_of}
 use Rattle.net_model.specs.Value.{worked_of}
 use Rattle.sim_eval.specs.declared.cell.Worked.{Worked}
 use Rattle.sim_eval.specs.declared.cell.Worked.TheVariants.{Gate, Word}
@@ -61,13 +61,14 @@ number_pins values pins own = record {
 -- what the input vector gives at a place
 abbrev pub given_of : Moment → ℕ → Bit
 given_of Start at = X
-given_of (Step before inputs first) at = slice_index_or inputs.now at X
+given_of (Step before inputs first order) at = slice_index_or inputs.now at X
 
 -- what a storage bit keeps
 abbrev pub kept_of : Moment → Shape → StoreBit → List Bit → Bit
 kept_of Start shape b values = b.start
-kept_of (Step before inputs first) shape b values =
-    store_bit_of shape b.at (number_pins before.now b.pins b.number) (number_pins values b.pins b.number) first
+kept_of (Step before inputs first order) shape b values =
+    next_bit_of (record { first = first; order = order }) shape b.at (number_pins before.now b.pins b.number)
+    (number_pins values b.pins b.number)
 
 -- the bit at a place of what a combinational cell gives
 abbrev pub worked_bit : Worked → ℕ → Bit

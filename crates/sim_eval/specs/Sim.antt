@@ -12,6 +12,7 @@ use Rattle.flat_net.specs.Net.{IsNetOf}
 use Rattle.flat_net.specs.Parts.{parts_rows}
 use Rattle.flat_net.specs.Points.{place_at, AreApart}
 use Rattle.flat_net.specs.Within.{ArePartsWithin}
+use Rattle.net_model.specs.declared.order.Order.{Order}
 use Rattle.net_model.specs.Lists.{In}
 use Rattle.net_model.specs.Run.{Time, rows_at}
 use Rattle.net_model.specs.Settle.{applied}
@@ -39,20 +40,21 @@ pub record AreAt (ps : List Place) (values : List Bit) (v : Valuation) : Type 0 
   pub count : length ps ≡ length values
   pub shown : shown ps values ≡ v
 
--- a simulation is at a module of a design after these input vectors, where the bit of number n is the n-th of these
-pub record IsAt (sim : Sim) (d : Design) (m : Module) (stimulus : List (List Bit)) (ps : List Place) : Type 0 where
+-- a simulation is at a module of a design after these input vectors, in an order of time, where the bit of number n is the n-th of these
+pub record IsAt (sim : Sim) (order : Order) (d : Design) (m : Module) (stimulus : List (List Bit)) (ps : List Place) : Type 0 where
   pub apart : AreApart ps
   pub within : ArePartsWithin (length ps) sim.parts
   pub counting : AreCounting d m (parts_rows ps sim.parts)
   pub outputs : map (place_at ps) sim.outputs ≡ output_places m
   pub outputs_within : AllByRecursion (λ number. number < length ps) sim.outputs
-  pub values : AreAt ps sim.values.items (valuation_after d m stimulus)
+  pub values : AreAt ps sim.values.items (valuation_after order d m stimulus)
   pub started : not sim.started ≡ is_first stimulus
+  pub ordered : sim.order ≡ order
 
--- a simulation is at a module of a design after these input vectors: it shows what all bits have then, and whether a step
--- was made
-abbrev pub IsSimOf : Sim → Design → Module → List (List Bit) → Type 0
-IsSimOf sim d m stimulus = (ps : List Place) × IsAt sim d m stimulus ps
+-- a simulation is at a module of a design after these input vectors, in an order of time: it shows what all bits have then,
+-- and whether a step was made
+abbrev pub IsSimOf : Sim → Order → Design → Module → List (List Bit) → Type 0
+IsSimOf sim order d m stimulus = (ps : List Place) × IsAt sim order d m stimulus ps
 
 -- a netlist is that of a module of a design whose cells have shapes
 pub record IsShapedNet (net : Net) : Type 0 where

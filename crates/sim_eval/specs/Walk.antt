@@ -1,16 +1,16 @@
 -- What a walk of a tree makes of its bits.
-use Rattle.std.specs.Prelude.{ℕ, nat_eq, Bool, List, Option, Some, None, option_map, if◌then◌else◌}
+use Rattle.std.specs.Prelude.{ℕ, nat_eq, Bool, List, Option, Some, None, option_map, slice_index_or, if◌then◌else◌}
 use Rattle.std.specs.Option.{option_map_or}
 use Rattle.std.proofs.Common.{Bor}
 use Rattle.rtl_bits.specs.declared.bit.Bit.{Bit}
-use Rattle.rtl_bits.specs.declared.bit.Bit.TheVariants.{S0, S1}
+use Rattle.rtl_bits.specs.declared.bit.Bit.TheVariants.{S0, S1, X}
 use Rattle.flat_net.specs.declared.choices.Assign.{Assign}
 use Rattle.flat_net.specs.declared.leaves.Source.{Source}
 use Rattle.flat_net.specs.declared.net.Point.{Point}
 use Rattle.flat_net.specs.declared.net.Point.TheVariants.{Constant, At}
 use Rattle.flat_net.specs.Choices.{Choices, Branches, BranchView}
 use Rattle.sim_eval.specs.declared.walk.Leaves.{Leaves}
-use Rattle.sim_eval.specs.declared.walk.Leaves.TheVariants.{Values, Marks}
+use Rattle.sim_eval.specs.declared.walk.Leaves.TheVariants.{Values, Marks, Owned}
 use Rattle.sim_eval.specs.declared.walk.Walk.{Walk}
 use Rattle.sim_eval.specs.Numbers.{number_read}
 use Rattle.sim_eval.specs.Trees.{assigned_value, bit_of, branch_value, branches_value, choices_value, compared, tree_value}
@@ -20,10 +20,16 @@ abbrev pub number_mark : ℕ → Point → Bit
 number_mark own (Constant b) = S0
 number_mark own (At number) = if nat_eq number own then S1 else S0
 
--- what a point has as a leaf: its value, or its mark
+-- what a point has where the bit of this number has this value
+abbrev pub number_owned : ℕ → Bit → List Bit → Point → Bit
+number_owned own bit values (Constant b) = b
+number_owned own bit values (At number) = if nat_eq number own then bit else slice_index_or values number X
+
+-- what a point has as a leaf: its value, its mark, or its value where one bit has another
 abbrev pub leaf_of : Leaves → List Bit → Point → Bit
 leaf_of Values values p = number_read values p
 leaf_of (Marks own) values p = number_mark own p
+leaf_of (Owned own bit) values p = number_owned own bit values p
 
 -- what a source has: what its tree bit had in the round before, where there was one, else what it has as a leaf
 abbrev pub followed : (Point → Bit) → Option (List Bit) → Source → Bit

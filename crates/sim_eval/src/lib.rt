@@ -3,6 +3,7 @@
 
 mod agenda;
 mod cell;
+mod clocked;
 mod expand;
 mod fetched;
 mod first;
@@ -14,6 +15,7 @@ mod race;
 mod raced;
 mod readers;
 mod reads;
+mod released;
 mod remembered;
 mod settle;
 mod sim;

@@ -13,6 +13,7 @@ ghost use Rattle.sim_eval.specs.Moment.{IsBoard, time_of};
 ghost use Rattle.sim_eval.specs.Race.{IsRace, held_has, raced_fact, start_fact};
 ghost use Rattle.sim_eval.specs.Shown.{shown};
 
+use crate::clocked::update_clocked;
 use crate::expand::{expanded_bits, source_bit};
 use crate::moment::Moment;
 use crate::race::raced_of;
@@ -21,6 +22,7 @@ use crate::walk::Leaves;
 use cell_gate::{active, clock_before, edge};
 use cell_types::Level;
 use flat_net::{HeldBit, Point, Raced};
+use net_model::Order;
 use rtl_bits::{Bit, Memory};
 use std::alloc::Global;
 
@@ -52,11 +54,51 @@ pub(crate) fn update_raced(
     }
     match moment {
         Moment::Start => Ok(put_starts(raced.bits.as_slice(), now)),
-        Moment::Step { before, first, .. } => {
-            let race = new_race(alloc, before, *first, raced, now)?;
-            Ok(put_raced(&race, before, raced.bits.as_slice(), now))
-        }
+        Moment::Step {
+            before,
+            first,
+            order,
+            ..
+        } => update_step(alloc, *order, before, *first, raced, now),
     }
+}
+
+/// Gives the bits what a step makes of them in an order of time. Answers whether one of them got a value.
+fn update_step(
+    alloc: Global,
+    order: Order,
+    before: &[Bit],
+    first: bool,
+    raced: &Raced,
+    now: &mut [Bit],
+) -> Result<bool, Memory>
+    ensures fewer { IfOk result (AreFewer now.old now.new) }
+    ensures takes { IfOk result (λ changed. (ps : List Place) → AreApart ps → length ps ≡ length before.now →
+        length ps ≡ length now.old → IsRacedWithin (length ps) raced.now →
+        Takes ps (map (raced_fact ps before.now order first raced.now now.old) raced.now.bits) now.old now.new changed) }
+{
+    match order {
+        Order::Together => update_together(alloc, before, first, raced, now),
+        Order::Released => update_clocked(alloc, before, first, raced, now),
+    }
+}
+
+/// Gives the bits what the race of the clock and the reset makes of them. Answers whether one of them got a value.
+fn update_together(
+    alloc: Global,
+    before: &[Bit],
+    first: bool,
+    raced: &Raced,
+    now: &mut [Bit],
+) -> Result<bool, Memory>
+    ensures fewer { IfOk result (AreFewer now.old now.new) }
+    ensures takes { IfOk result (λ changed. (ps : List Place) → AreApart ps → length ps ≡ length before.now →
+        length ps ≡ length now.old → IsRacedWithin (length ps) raced.now →
+        Takes ps (map (raced_fact ps before.now Order.Together first raced.now now.old) raced.now.bits) now.old now.new
+        changed) }
+{
+    let race = new_race(alloc, before, first, raced, now)?;
+    Ok(put_raced(&race, before, raced.bits.as_slice(), now))
 }
 
 /// Whether each of the bits has a value.
@@ -91,7 +133,7 @@ fn put_raced(race: &Race, before: &[Bit], bits: &[HeldBit], now: &mut [Bit]) -> 
     ensures takes { (ps : List Place) (first : Bool) (raced : Raced) (was : List Bit) → AreApart ps →
         length ps ≡ length before.now → length ps ≡ length now.old → IsRace ps before.now first raced was race.now →
         AllByRecursion (IsHeldBitWithin (length ps) raced.tree.width) bits.now →
-        Takes ps (map (raced_fact ps before.now first raced was) bits.now) now.old now.new result }
+        Takes ps (map (raced_fact ps before.now Order.Together first raced was) bits.now) now.old now.new result }
 {
     let mut changed = false;
     for bit in bits {
@@ -105,7 +147,7 @@ fn raced_bit(race: &Race, before: &[Bit], bit: &HeldBit) -> Bit
     ensures value { (ps : List Place) (first : Bool) (raced : Raced) (was : List Bit) → AreApart ps →
         length ps ≡ length before.now → IsRace ps before.now first raced was race.now →
         IsHeldBitWithin (length ps) raced.tree.width bit.now →
-        result ≡ (raced_fact ps before.now first raced was bit.now).value }
+        result ≡ (raced_fact ps before.now Order.Together first raced was bit.now).value }
 {
     let was = source_bit(before, Leaves::Values, race.was.as_slice(), bit.source);
     let is = source_bit(before, Leaves::Values, race.is.as_slice(), bit.source);
@@ -149,7 +191,7 @@ pub(crate) fn edge_at(before: &[Bit], now: &[Bit], first: bool, point: Point, le
 }
 
 /// The bit of a level.
-fn level_bit(level: Level) -> Bit
+pub(crate) fn level_bit(level: Level) -> Bit
     ensures value { result ≡ level_bit level }
 {
     match level {

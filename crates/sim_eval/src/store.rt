@@ -12,8 +12,9 @@ ghost use Rattle.sim_eval.specs.Moment.{IsBoard, time_of};
 ghost use Rattle.sim_eval.specs.Numbers.{kept_of, number_pins};
 
 use crate::moment::Moment;
+use crate::released::next_bit;
 use crate::values::{bit_at, put, read};
-use cell_gate::{Pins, store_bit};
+use cell_gate::Pins;
 use cell_types::Shape;
 use flat_net::{Storage, StoreBit, StorePins};
 use rtl_bits::Bit;
@@ -62,10 +63,15 @@ fn kept(moment: &Moment, shape: &Shape, bit: &StoreBit, now: &[Bit]) -> Bit
 {
     match moment {
         Moment::Start => bit.start,
-        Moment::Step { before, first, .. } => {
+        Moment::Step {
+            before,
+            first,
+            order,
+            ..
+        } => {
             let before = pins_of(before, &bit.pins, bit.number);
             let now = pins_of(now, &bit.pins, bit.number);
-            store_bit(shape, bit.at, &before, &now, *first)
+            next_bit(*order, shape, bit.at, &before, &now, *first)
         }
     }
 }

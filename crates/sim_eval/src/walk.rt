@@ -4,8 +4,8 @@ ghost use Rattle.std.specs.Prelude.{◌≡◌, ◌<◌, ℕ, IfOk, OnOk, length,
 ghost use Rattle.rtl_bits.specs.Tables.{merge_of};
 ghost use Rattle.net_model.specs.Picked.{tested_of};
 ghost use Rattle.sim_eval.specs.Trees.{Merges, bit_of, merged_with};
-ghost use Rattle.sim_eval.specs.Walk.{leaf_of, number_mark, walked, walked_assigns, walked_branch, walked_branches};
-ghost use Rattle.sim_eval.specs.Walk.{walked_signal, walked_tree};
+ghost use Rattle.sim_eval.specs.Walk.{leaf_of, number_mark, number_owned, walked, walked_assigns, walked_branch};
+ghost use Rattle.sim_eval.specs.Walk.{walked_branches, walked_signal, walked_tree};
 
 use crate::matching::branch_match;
 use crate::values::{bit_at, bit_in, read, read_all};
@@ -20,6 +20,8 @@ pub(crate) enum Leaves {
     Values,
     /// 1 where it is the bit of this number, else 0.
     Marks(u32),
+    /// Its value, but that of the bit of this number is this one.
+    Owned(u32, Bit),
 }
 
 /// What a tree is walked with.
@@ -157,6 +159,7 @@ fn leaf(values: &[Bit], leaves: Leaves, from: Point) -> Bit
     match leaves {
         Leaves::Values => read(values, from),
         Leaves::Marks(own) => mark(own, from),
+        Leaves::Owned(own, bit) => owned(values, own, bit, from),
     }
 }
 
@@ -167,6 +170,16 @@ fn mark(own: u32, from: Point) -> Bit
     match from {
         Point::At(number) if number == own => Bit::S1,
         _ => Bit::S0,
+    }
+}
+
+/// What a point has where the bit of this number has this value.
+fn owned(values: &[Bit], own: u32, bit: Bit, from: Point) -> Bit
+    ensures value { result ≡ number_owned own bit values.now from }
+{
+    match from {
+        Point::At(number) if number == own => bit,
+        _ => read(values, from),
     }
 }
 

@@ -13,6 +13,7 @@ use Rattle.rtl_ir.specs.Ports.{ports_of}
 use Rattle.rtl_ir.specs.Flat.Place.{Path}
 use Rattle.rtl_ir.specs.Flat.Point.{Point, Constant, At, wire_points}
 use Rattle.rtl_ir.specs.Flat.Tree.{if_role, role_points, places, output_places, root}
+use Rattle.net_model.specs.declared.order.Order.{Order}
 use Rattle.sim_eval.specs.After.{outputs_after, valuation_after}
 use Rattle.sim_text.specs.Ports.{same_role, port_widths}
 
@@ -66,7 +67,7 @@ outputs_count p (port ∷ ports) =
     one Inout = omega arith
 
 -- the outputs of a step are as many bits as the output ports have
-pub outputs_fit : (d : Design) (m : Module) (stimulus : List (List Bit)) (bits : List Bit) → bits ≡ outputs_after d m stimulus
+pub outputs_fit : (order : Order) (d : Design) (m : Module) (stimulus : List (List Bit)) (bits : List Bit) → bits ≡ outputs_after order d m stimulus
     → length bits ≡ sum (port_widths Output m)
-outputs_fit d m stimulus bits is =
-    ap length is ∙ length-map (output_places m) (valuation_after d m stimulus) ∙ outputs_count (root m) (ports_of m.wires)
+outputs_fit order d m stimulus bits is =
+    ap length is ∙ length-map (output_places m) (valuation_after order d m stimulus) ∙ outputs_count (root m) (ports_of m.wires)

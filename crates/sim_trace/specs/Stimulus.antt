@@ -5,6 +5,7 @@ use Rattle.rtl_bits.specs.declared.bit.Bit.{Bit}
 use Rattle.rtl_ir.specs.declared.module.Design.{Design}
 use Rattle.rtl_ir.specs.declared.module.Module.{Module}
 use Rattle.rtl_ir.specs.declared.wire.Role.TheVariants.{Input, Output}
+use Rattle.net_model.specs.declared.order.Order.{Order}
 use Rattle.net_model.specs.Refine.{run_of}
 use Rattle.sim_text.specs.Lines.{step_line, step_of}
 use Rattle.sim_text.specs.Ports.{port_widths}
@@ -39,6 +40,7 @@ steps_from number widths (line ∷ lines) = with_step number (step_of widths lin
 abbrev pub stimulus_of : Module → List ℕ → Result (List (List Bit)) ℕ
 stimulus_of m text = steps_from 1 (port_widths Input m) (lines_of text)
 
--- the lines of the trace of a module of a design
-abbrev pub trace_text : Design → Module → List (List Bit) → List ℕ
-trace_text d m stimulus = flat_map (λ bits. step_line (port_widths Output m) bits ++ codes "\n") (run_of d m stimulus)
+-- the lines of the trace of a module of a design in an order of time
+abbrev pub trace_text : Order → Design → Module → List (List Bit) → List ℕ
+trace_text order d m stimulus =
+    flat_map (λ bits. step_line (port_widths Output m) bits ++ codes "\n") (run_of order d m stimulus)

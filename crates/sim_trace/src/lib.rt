@@ -5,4 +5,4 @@ mod stimulus;
 mod trace;
 
 pub use stimulus::{StimulusFault, stimulus_of};
-pub use trace::{put_titled_trace, put_trace};
+pub use trace::{put_titled_trace, put_titled_trace_in, put_trace, put_trace_in};

@@ -7,7 +7,6 @@ use Rattle.rtl_bits.specs.declared.bit.Bit.{Bit}
 use Rattle.rtl_bits.specs.declared.bit.Bit.TheVariants.{X}
 use Rattle.rtl_sig.specs.declared.sig.SigBit.{SigBit}
 use Rattle.rtl_sig.specs.declared.sig.SigBit.TheVariants.{Fixed, Wire as OnWire}
-use Rattle.cell_gate.specs.Storage.{stored_of, store_bit_of}
 use Rattle.cell_types.specs.Levels.{low}
 use Rattle.cell_types.specs.declared.kind.CellKind.TheVariants.{Storage}
 use Rattle.cell_types.specs.declared.level.Level.{Level}
@@ -28,6 +27,9 @@ use Rattle.rtl_ir.specs.declared.wire.Wire.{Wire}
 use Rattle.net_model.specs.Lists.{In}
 use Rattle.net_model.specs.Proc.Sync.{left_side, polarity_of, right_side}
 use Rattle.net_model.specs.Refine.{IsMet}
+use Rattle.net_model.specs.declared.order.Order.{Order}
+use Rattle.net_model.specs.declared.order.Order.TheVariants.{Together, Released}
+use Rattle.net_model.specs.Order.{Manner, next_bit_of, stored_in}
 use Rattle.net_model.specs.Run.{Time, Start, Step}
 use Rattle.net_model.specs.Valuation.{Valuation}
 use Rattle.net_model.specs.Value.{pins_of}
@@ -58,9 +60,9 @@ right_get (i ∷ js) zero j e = let same : i ≡ j = cc in ap (λ (x : Join). So
 right_get (i ∷ js) (suc k) j e = right_get js k j e
 
 -- a bit of a storage cell, by how it works
-abbrev kept_of : StorageKind → Levels → Bit → StorePoints → Place → Valuation → Valuation → Bool → Bit
-kept_of kind levels value pins own before w first =
-    stored_of (record { kind = kind; levels = levels; value = value }) (pins_of before pins own) (pins_of w pins own) first
+abbrev kept_of : StorageKind → Levels → Bit → StorePoints → Place → Valuation → Valuation → Manner → Bit
+kept_of kind levels value pins own before w manner =
+    stored_in manner.order kind levels value (pins_of before pins own) (pins_of w pins own) manner.first
 
 module _ (start : SigBit → Bit) (p : Path) (wires : List Wire) where
   -- the rows of a part of a kind
@@ -97,7 +99,7 @@ module _ (start : SigBit → Bit) (p : Path) (wires : List Wire) where
   given_by : (kind : StorageKind) (q : Part) (js : List Join) (k : ℕ) (j : Join) → slice_get js k ≡ Some j → ((n : ℕ) → cell_kind (named q n) ≡ Some (Storage kind)) →
       part_rows kind q ≡ stores start (cell_shape (Storage kind) q.params) (word_store p wires q.pins) (left_side js) (points p wires (left_side js)) 0 →
       (shape : Shape) (pins : StorePoints) →
-      ((before w : Valuation) (first : Bool) → store_bit_of shape 0 (pins_of before pins (bit_place p wires j.bit)) (pins_of w pins (bit_place p wires j.bit)) first ≡ store_bit_of (cell_shape (Storage kind) q.params) k (pins_of before (word_store p wires q.pins k) (bit_place p wires j.bit)) (pins_of w (word_store p wires q.pins k) (bit_place p wires j.bit)) first) →
+      ((before w : Valuation) (manner : Manner) → next_bit_of manner shape 0 (pins_of before pins (bit_place p wires j.bit)) (pins_of w pins (bit_place p wires j.bit)) ≡ next_bit_of manner (cell_shape (Storage kind) q.params) k (pins_of before (word_store p wires q.pins k) (bit_place p wires j.bit)) (pins_of w (word_store p wires q.pins k) (bit_place p wires j.bit))) →
       IsGivenBy (record { place = bit_place p wires j.bit; driver = Stored (start (OnWire j.bit)) shape 0 pins (bit_place p wires j.bit) }) q
   given_by kind q js k j e own are shape pins same = record {
     kind = kind;
@@ -113,7 +115,7 @@ module _ (start : SigBit → Bit) (p : Path) (wires : List Wire) where
     where
       above : (t : Time Place) (w : Valuation) → IsMet (row_at (cell_shape (Storage kind) q.params) (word_store p wires q.pins) k j) t w → IsMet (record { place = bit_place p wires j.bit; driver = Stored (start (OnWire j.bit)) shape 0 pins (bit_place p wires j.bit) }) t w
       above Start w h = h
-      above (Step before inputs first) w h = subst (λ v. Below v (w (bit_place p wires j.bit))) (sym (same before w first)) h
+      above (Step before inputs manner) w h = subst (λ v. Below v (w (bit_place p wires j.bit))) (sym (same before w manner)) h
 
   module _ (js : List Join) (k : ℕ) (j : Join) (e : slice_get js k ≡ Some j) where
     -- the data of the place
@@ -124,19 +126,19 @@ module _ (start : SigBit → Bit) (p : Path) (wires : List Wire) where
     unfolding cell_kind cell_shape
     ff_given =
         given_by Ff (ff_part js) js k j e (λ n. refl) refl (rule_shape Ff low) (record no_pins { d = point p wires j.source })
-        (λ before w first i. kept_of Ff low X (record no_pins { d = sym data_at i }) (bit_place p wires j.bit) before w first)
+        (λ before w manner i. kept_of Ff low X (record no_pins { d = sym data_at i }) (bit_place p wires j.bit) before w manner)
 
     pub level_given : (l : Trigger) → IsGivenBy (level_row start p wires l j) (dlatch_part l js)
     unfolding cell_kind cell_shape
     level_given l =
         given_by Dlatch (dlatch_part l js) js k j e (λ n. refl) refl (rule_shape Dlatch (record low { en = l.level })) (record no_pins { en = event_point start p wires l.signal; d = point p wires j.source })
-        (λ before w first i. kept_of Dlatch (record low { en = sym (level_back l.level) i }) X (record no_pins { en = event_point start p wires l.signal; d = sym data_at i }) (bit_place p wires j.bit) before w first)
+        (λ before w manner i. kept_of Dlatch (record low { en = sym (level_back l.level) i }) X (record no_pins { en = event_point start p wires l.signal; d = sym data_at i }) (bit_place p wires j.bit) before w manner)
 
     pub edge_given : (c : Trigger) → IsGivenBy (edge_row start p wires c j) (dff_part c js)
     unfolding cell_kind cell_shape
     edge_given c =
         given_by Dff (dff_part c js) js k j e (λ n. refl) refl (rule_shape Dff (record low { clk = c.level })) (record no_pins { clk = event_point start p wires c.signal; d = point p wires j.source })
-        (λ before w first i. kept_of Dff (record low { clk = sym (level_back c.level) i }) X (record no_pins { clk = event_point start p wires c.signal; d = sym data_at i }) (bit_place p wires j.bit) before w first)
+        (λ before w manner i. kept_of Dff (record low { clk = sym (level_back c.level) i }) X (record no_pins { clk = event_point start p wires c.signal; d = sym data_at i }) (bit_place p wires j.bit) before w manner)
 
     module _ (c l : Trigger) (given : List SigBit) where
       pub loads_given : (s : SigBit) → slice_get given k ≡ Some s → IsGivenBy (loaded_row start p wires c l (Some s) j) (aldff_part c l given js)
@@ -145,17 +147,33 @@ module _ (start : SigBit → Bit) (p : Path) (wires : List Wire) where
           let load_at : point_at (points p wires given) k ≡ point p wires s = point_get p wires given k s f in
           given_by Aldff (aldff_part c l given js) js k j e (λ n. refl) refl (rule_shape Aldff (record low { clk = c.level; aload = l.level }))
           (record no_pins { clk = event_point start p wires c.signal; d = point p wires j.source; aload = event_point start p wires l.signal; ad = point p wires s })
-          (λ before w first i. kept_of Aldff (record low { clk = sym (level_back c.level) i; aload = sym (level_back l.level) i }) X
-          (record no_pins { clk = event_point start p wires c.signal; d = sym data_at i; aload = event_point start p wires l.signal; ad = sym load_at i }) (bit_place p wires j.bit) before w first)
+          (λ before w manner i. kept_of Aldff (record low { clk = sym (level_back c.level) i; aload = sym (level_back l.level) i }) X
+          (record no_pins { clk = event_point start p wires c.signal; d = sym data_at i; aload = event_point start p wires l.signal; ad = sym load_at i }) (bit_place p wires j.bit) before w manner)
 
-      pub resets_given : (x : Bit) → slice_get given k ≡ Some (Fixed x) → IsGivenBy (loaded_row start p wires c l (Some (Fixed x)) j) (adff_part c l given js)
-      unfolding cell_kind cell_shape
-      resets_given x f =
-          let value_at : slice_index_or (map constant_of given) k X ≡ x = constant_get given k (Fixed x) f in
-          given_by Adff (adff_part c l given js) js k j e (λ n. refl) refl (rule_shape Aldff (record low { clk = c.level; aload = l.level }))
-          (record no_pins { clk = event_point start p wires c.signal; d = point p wires j.source; aload = event_point start p wires l.signal; ad = Constant x })
-          (λ before w first i. kept_of Adff (record low { clk = sym (level_back c.level) i; arst = sym (level_back l.level) i }) (sym value_at i)
-          (record no_pins { clk = event_point start p wires c.signal; d = sym data_at i; arst = event_point start p wires l.signal }) (bit_place p wires j.bit) before w first)
+      -- a register whose load is a constant, and one with a reset to it
+      abbrev loads : Bit → StorePoints
+      loads x = record no_pins { clk = event_point start p wires c.signal; d = point p wires j.source; aload = event_point start p wires l.signal; ad = Constant x }
+
+      module _ (x : Bit) (f : slice_get given k ≡ Some (Fixed x)) where
+        value_at : slice_index_or (map constant_of given) k X ≡ x
+        value_at = constant_get given k (Fixed x) f
+
+        loads_reset : (order : Order) (before w : Valuation) (first : Bool) →
+            next_bit_of (record { first = first; order = order }) (rule_shape Aldff (record low { clk = c.level; aload = l.level })) 0 (pins_of before (loads x) (bit_place p wires j.bit)) (pins_of w (loads x) (bit_place p wires j.bit))
+            ≡ next_bit_of (record { first = first; order = order }) (cell_shape (Storage Adff) (adff_part c l given js).params) k (pins_of before (word_store p wires (adff_part c l given js).pins k) (bit_place p wires j.bit)) (pins_of w (word_store p wires (adff_part c l given js).pins k) (bit_place p wires j.bit))
+        unfolding cell_shape
+        loads_reset Together before w first =
+            λ i. kept_of Adff (record low { clk = sym (level_back c.level) i; arst = sym (level_back l.level) i }) (sym value_at i)
+            (record no_pins { clk = event_point start p wires c.signal; d = sym data_at i; arst = event_point start p wires l.signal }) (bit_place p wires j.bit) before w (record { first = first; order = Together })
+        loads_reset Released before w first =
+            λ i. kept_of Adff (record low { clk = sym (level_back c.level) i; arst = sym (level_back l.level) i }) (sym value_at i)
+            (record no_pins { clk = event_point start p wires c.signal; d = sym data_at i; arst = event_point start p wires l.signal }) (bit_place p wires j.bit) before w (record { first = first; order = Released })
+
+        pub resets_given : IsGivenBy (loaded_row start p wires c l (Some (Fixed x)) j) (adff_part c l given js)
+        unfolding cell_kind cell_shape
+        resets_given =
+            given_by Adff (adff_part c l given js) js k j e (λ n. refl) refl (rule_shape Aldff (record low { clk = c.level; aload = l.level })) (loads x)
+            (λ before w manner. loads_reset manner.order before w manner.first)
 
 -- a row that a part gives is met where the part's cell is there
 pub given_met : (m : Moment) (d : Driven) (q : Part) (n : ℕ) → IsGivenBy m.start m.path m.wires d q → IsCellMet m (named q n) → IsMet d m.time m.has

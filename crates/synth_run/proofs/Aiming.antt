@@ -9,12 +9,12 @@ use Rattle.std.proofs.lemmas.Str.{IsUtf8-from_ascii}
 use Rattle.synth_run.specs.Desks.{aim_by, desk_by}
 use Rattle.synth_run.specs.Words.{is_number, number_of}
 
--- more words than four say no more
-pub aim_four : (count : ℕ) (words : List (List ℕ)) → aim_by count (take 4 words) ≡ aim_by count words
-aim_four count [] = refl
-aim_four count (word ∷ []) = refl
-aim_four count (word ∷ number ∷ []) = refl
-aim_four count (word ∷ number ∷ more ∷ words) = refl
+-- more words than five say no more
+pub aim_five : (count : ℕ) (words : List (List ℕ)) → aim_by count (take 5 words) ≡ aim_by count words
+aim_five count [] = refl
+aim_five count (word ∷ []) = refl
+aim_five count (word ∷ number ∷ []) = refl
+aim_five count (word ∷ number ∷ more ∷ words) = refl
 
 digit_ascii : (byte : ℕ) → is_ascii_digit byte ≡ true → byte < 128
 digit_ascii byte h = grind (arith, nat_tests)

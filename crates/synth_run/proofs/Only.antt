@@ -12,7 +12,7 @@ use Rattle.rtl_read.specs.declared.read_fault.ReadFault.{ReadFault}
 use Rattle.rtl_read.proofs.Unique.{not_both, one_design, one_fault}
 use Rattle.script_core.specs.declared.word.Word.{Word}
 use Rattle.desk_read.specs.declared.command.Command.{Command}
-use Rattle.desk_read.specs.declared.command.Command.TheVariants.{Load, Edit, Remove, Script, Run, Print, Show, SimSource, SimNetlist, Quit, Bad, Unclosed}
+use Rattle.desk_read.specs.declared.command.Command.TheVariants.{Load, Edit, Remove, Script, Run, Print, Show, Version, Modules, Ports, SimSource, SimNetlist, Quit, Bad, Unclosed}
 use Rattle.reply_lines.specs.declared.reply.Reply.{Reply}
 use Rattle.reply_lines.specs.Lines.{error_reply, read_words}
 use Rattle.design_edit.specs.Modules.{PassesAt, with_module, with_modules}
@@ -117,6 +117,9 @@ same_answer (Script text) s a b f g = f ∙ sym g
 same_answer Run s a b f g = f ∙ sym g
 same_answer Print s a b f g = f ∙ sym g
 same_answer (Show name) s a b f g = f ∙ sym g
+same_answer Version s a b f g = f ∙ sym g
+same_answer Modules s a b f g = f ∙ sym g
+same_answer (Ports name) s a b f g = f ∙ sym g
 same_answer (SimSource ask) s a b f g = f ∙ sym g
 same_answer (SimNetlist ask) s a b f g = f ∙ sym g
 same_answer Quit s a b f g = f ∙ sym g

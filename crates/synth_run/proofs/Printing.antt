@@ -11,7 +11,7 @@ use Rattle.readable_runs.proofs.Cold.{cold_reads}
 use Rattle.readable_runs.proofs.Driven.{cold_driven}
 use Rattle.readable_runs.proofs.Faultless.{cold_accepted, cold_faultless}
 use Rattle.desk_read.specs.declared.command.Command.{Command}
-use Rattle.desk_read.specs.declared.command.Command.TheVariants.{Load, Edit, Remove, Script, Run, Print, Show, SimSource, SimNetlist, Quit, Bad, Unclosed}
+use Rattle.desk_read.specs.declared.command.Command.TheVariants.{Load, Edit, Remove, Script, Run, Print, Show, Version, Modules, Ports, SimSource, SimNetlist, Quit, Bad, Unclosed}
 use Rattle.reply_lines.specs.declared.reply.Reply.{Reply}
 use Rattle.desk_core.specs.Answers.{print_answer, printed_reply}
 use Rattle.desk_core.specs.Netlist.{built_words, netlist_of, over_words, unless_over}
@@ -66,6 +66,9 @@ turn_prints (Script text) s t reply g is = tt
 turn_prints Run s t reply g is = tt
 turn_prints Print s t reply g is = printed s t reply g is
 turn_prints (Show name) s t reply g is = tt
+turn_prints Version s t reply g is = tt
+turn_prints Modules s t reply g is = tt
+turn_prints (Ports name) s t reply g is = tt
 turn_prints (SimSource ask) s t reply g is = tt
 turn_prints (SimNetlist ask) s t reply g is = tt
 turn_prints Quit s t reply g is = tt

@@ -25,12 +25,12 @@ use Rattle.script_core.specs.declared.word.Word.{Word}
 use Rattle.script_core.specs.Words.{IsScript, bad_from, first_bad, is_bad, is_misplaced, script_of, word_of, words_of}
 use Rattle.script_core.proofs.ParseLemmas.{are_script}
 use Rattle.desk_read.specs.declared.command.Command.{Command}
-use Rattle.desk_read.specs.declared.command.Command.TheVariants.{Load, Edit, Remove, Script, Run, Print, Show, SimSource, SimNetlist, Quit, Bad, Unclosed}
+use Rattle.desk_read.specs.declared.command.Command.TheVariants.{Load, Edit, Remove, Script, Run, Print, Show, Version, Modules, Ports, SimSource, SimNetlist, Quit, Bad, Unclosed}
 use Rattle.reply_lines.specs.Lines.{last_reply, read_words}
 use Rattle.design_edit.specs.Modules.{PassesAt, has_module, with_module, with_modules, without_module}
 use Rattle.design_edit.specs.Places.{module_place}
 use Rattle.design_edit.proofs.Readings.{readable_edits, readable_without}
-use Rattle.desk_core.specs.Answers.{IsEdited, IsTextAnswer, by_stimulus, checked_answer, design_answer, netlist_run_answer, print_answer, refusal, remove_answer, run_answer, script_answer, script_answer_by, show_answer, source_answer, unchanged}
+use Rattle.desk_core.specs.Answers.{IsEdited, IsTextAnswer, by_stimulus, checked_answer, design_answer, modules_answer, netlist_run_answer, ports_answer, print_answer, refusal, remove_answer, run_answer, script_answer, script_answer_by, show_answer, source_answer, unchanged, version_answer}
 use Rattle.desk_core.specs.Netlist.{all_kept}
 use Rattle.desk_core.specs.State.{Answer, State, answer, first_state}
 use Rattle.desk_core.specs.Step.{IsAnswer}
@@ -140,11 +140,14 @@ step_good (Script text) s a g is = good_is a (script_answer s text) is (good_scr
 step_good Run s a g is = good_is a (run_answer s) is (good_kept s g)
 step_good Print s a g is = good_is a (print_answer s) is (good_kept s g)
 step_good (Show name) s a g is = good_is a (show_answer s name) is (good_by_module s (module_named s.design.modules name) _ _ (λ m. g) g)
+step_good Version s a g is = good_is a (version_answer s) is g
+step_good Modules s a g is = good_is a (modules_answer s) is g
+step_good (Ports name) s a g is = good_is a (ports_answer s name) is (good_by_module s (module_named s.design.modules name) _ _ (λ m. g) g)
 step_good (SimSource ask) s a g is =
-    good_is a (source_answer s ask.module ask.steps) is
+    good_is a (source_answer s ask.order ask.module ask.steps) is
     (good_by_module s (module_named s.design.modules ask.module) _ _ (λ m. good_by_stimulus s _ _ g (λ stimulus. g)) g)
 step_good (SimNetlist ask) s a g is =
-    good_is a (netlist_run_answer s ask.module ask.steps) is
+    good_is a (netlist_run_answer s ask.order ask.module ask.steps) is
     (good_by_module s (module_named s.design.modules ask.module) _ _ (λ m. good_by_stimulus s _ _ g (λ stimulus. good_kept s g)) g)
 step_good Quit s a g is = good_is a (unchanged s last_reply) is g
 step_good Bad s a g is = good_is a (refusal s (codes "21")) is g
@@ -195,8 +198,11 @@ some_step (Script text) s g = (script_answer s text, refl)
 some_step Run s g = (run_answer s, refl)
 some_step Print s g = (print_answer s, refl)
 some_step (Show name) s g = (show_answer s name, refl)
-some_step (SimSource ask) s g = (source_answer s ask.module ask.steps, refl)
-some_step (SimNetlist ask) s g = (netlist_run_answer s ask.module ask.steps, refl)
+some_step Version s g = (version_answer s, refl)
+some_step Modules s g = (modules_answer s, refl)
+some_step (Ports name) s g = (ports_answer s name, refl)
+some_step (SimSource ask) s g = (source_answer s ask.order ask.module ask.steps, refl)
+some_step (SimNetlist ask) s g = (netlist_run_answer s ask.order ask.module ask.steps, refl)
 some_step Quit s g = (unchanged s last_reply, refl)
 some_step Bad s g = (refusal s (codes "21"), refl)
 some_step Unclosed s g = (refusal s (codes "22"), refl)

@@ -84,12 +84,15 @@ alone_whole word line rest a =
     tell (bytes_eq word (codes "edit")) (λ c. rw (a, b, c) refl) (λ c.
     tell (bytes_eq word (codes "run")) (λ d. rw (a, b, c, d) refl) (λ d.
     tell (bytes_eq word (codes "print")) (λ e. rw (a, b, c, d, e) refl) (λ e.
-    tell (bytes_eq word (codes "quit")) (λ f. rw (a, b, c, d, e, f) refl) (λ f. rw (a, b, c, d, e, f) refl)))))
+    tell (bytes_eq word (codes "version")) (λ f. rw (a, b, c, d, e, f) refl) (λ f.
+    tell (bytes_eq word (codes "modules")) (λ g. rw (a, b, c, d, e, f, g) refl) (λ g.
+    tell (bytes_eq word (codes "quit")) (λ h. rw (a, b, c, d, e, f, g, h) refl) (λ h. rw (a, b, c, d, e, f, g, h) refl)))))))
 
 named_whole : (word name line : List ℕ) (rest : List Command) → bytes_eq word (codes "script") ≡ false → SaysWhole (word ∷ name ∷ []) line rest
 named_whole word name line rest a =
     tell (bytes_eq word (codes "drop")) (λ b. rw (a, b) refl) (λ b.
-    tell (bytes_eq word (codes "show")) (λ c. rw (a, b, c) refl) (λ c. rw (a, b, c) refl))
+    tell (bytes_eq word (codes "show")) (λ c. rw (a, b, c) refl) (λ c.
+    tell (bytes_eq word (codes "ports")) (λ d. rw (a, b, c, d) refl) (λ d. rw (a, b, c, d) refl)))
 
 sim_whole : (word which name line : List ℕ) (rest : List Command) → bytes_eq word (codes "script") ≡ false → SaysWhole (word ∷ which ∷ name ∷ []) line rest
 sim_whole word which name line rest a =
@@ -98,11 +101,21 @@ sim_whole word which name line rest a =
     tell (bytes_eq which (codes "netlist")) (λ d. rw (a, b, c, d) refl) (λ d. rw (a, b, c, d) refl)))
     (λ b. rw (a, b) refl)
 
+timed_whole : (word which name order line : List ℕ) (rest : List Command) → bytes_eq word (codes "script") ≡ false → SaysWhole (word ∷ which ∷ name ∷ order ∷ []) line rest
+timed_whole word which name order line rest a =
+    tell (bytes_eq word (codes "sim"))
+    (λ b. tell (bytes_eq order (codes "released"))
+    (λ o. tell (bytes_eq which (codes "source")) (λ c. rw (a, b, o, c) refl) (λ c.
+    tell (bytes_eq which (codes "netlist")) (λ d. rw (a, b, o, c, d) refl) (λ d. rw (a, b, o, c, d) refl)))
+    (λ o. rw (a, b, o) refl))
+    (λ b. rw (a, b) refl)
+
 others_whole : (word : List ℕ) (words : List (List ℕ)) (line : List ℕ) (rest : List Command) → bytes_eq word (codes "script") ≡ false → SaysWhole (word ∷ words) line rest
 others_whole word [] line rest a = alone_whole word line rest a
 others_whole word (name ∷ []) line rest a = named_whole word name line rest a
 others_whole word (which ∷ name ∷ []) line rest a = sim_whole word which name line rest a
-others_whole word (which ∷ name ∷ more ∷ words) line rest a = rw a refl
+others_whole word (which ∷ name ∷ order ∷ []) line rest a = timed_whole word which name order line rest a
+others_whole word (which ∷ name ∷ order ∷ more ∷ words) line rest a = rw a refl
 
 by_whole : (words : List (List ℕ)) (line : List ℕ) (rest : List Command) → SaysWhole words line rest
 by_whole [] line rest = refl

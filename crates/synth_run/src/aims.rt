@@ -51,7 +51,7 @@ fn aim_by(count: u32, words: &[&[u8]]) -> Aim
 }
 
 /// What the line says, of an input of so many desks.
-#[tactic(auto, using(crate::proofs::Aiming::aim_four))]
+#[tactic(auto, using(crate::proofs::Aiming::aim_five))]
 pub(crate) fn aim_of(alloc: Global, count: u32, line: &[u8]) -> Result<Aim, Memory>
     ensures value { IfOk result (λ aim. aim_as aim ≡ aim_of count line.now) }
     ensures range { IfOk result (λ aim. (n : ℕ) → aim ≡ Aim.To n → (1 ≤ n) × (n ≤ count)) }

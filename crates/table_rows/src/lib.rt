@@ -5,4 +5,4 @@ mod field;
 mod tally;
 
 pub use field::{bit_of, bits_of, letter, spelled, str_of};
-pub use tally::{LINES, Parting, TEXTS, Tally, report, text_of};
+pub use tally::{LINES, Parting, TEXTS, Tally, report};

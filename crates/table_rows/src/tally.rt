@@ -41,12 +41,6 @@ fn first_line(text: &[u8]) -> &[u8] {
     text.split(|byte| *byte == b'\n').next().unwrap_or(text)
 }
 
-/// The bytes of the file of this name, where it can be read.
-pub fn text_of<R: Files + AllocGlobal>(rt: &R, name: &str) -> Option<Text> {
-    let file = File::open(rt, name).ok()?;
-    read_input(rt.alloc(), &mut StdSource::make(file)).ok()
-}
-
 impl Tally {
     /// No row yet.
     pub fn make(alloc: Global) -> Tally {

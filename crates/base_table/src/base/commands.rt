@@ -14,6 +14,9 @@ fn name_of(command: &Command) -> &'static str {
         Command::Run => "run",
         Command::Print => "print",
         Command::Show(_) => "show",
+        Command::Version => "version",
+        Command::Modules => "modules",
+        Command::Ports(_) => "ports",
         Command::SimSource(_) => "source",
         Command::SimNetlist(_) => "netlist",
         Command::Quit => "quit",
@@ -26,7 +29,7 @@ fn name_of(command: &Command) -> &'static str {
 fn first_of(command: &Command) -> &[u8] {
     match command {
         Command::Load(text) | Command::Edit(text) | Command::Script(text) => text.as_slice(),
-        Command::Remove(name) | Command::Show(name) => name.as_slice(),
+        Command::Remove(name) | Command::Show(name) | Command::Ports(name) => name.as_slice(),
         Command::SimSource(ask) | Command::SimNetlist(ask) => ask.module.as_slice(),
         _ => &[],
     }

@@ -1,29 +1,21 @@
-//! Whole texts and their prefixes.
+//! Whole texts of designs that have a fault.
 
 use crate::texts::answer::{rewritten, verdict};
 use rtl_bits::Memory;
 use std::alloc::Global;
-use table_rows::str_of;
 
-/// Whether a text is answered so; an empty answer stands for any design.
-pub fn is_answered(alloc: Global, fields: &[&[u8]]) -> Result<bool, Memory> {
-    match fields {
-        [text, []] => Ok(verdict(alloc, text)?.as_str() == "read"),
-        [text, answer] => Ok(rewritten(alloc, text)?.as_slice() == *answer),
-        _ => Ok(false),
-    }
+/// Whether what is written of the text's design is read as a design of which the same is written.
+fn is_kept(alloc: Global, text: &[u8]) -> Result<bool, Memory> {
+    let once = rewritten(alloc, text)?;
+    let again = rewritten(alloc, once.as_slice())?;
+    Ok(verdict(alloc, text)?.as_str() == "read" && again.as_slice() == once.as_slice())
 }
 
-/// Whether the prefix of this length of the text is answered so.
-pub fn is_prefix_answered(alloc: Global, text: &[u8], fields: &[&[u8]]) -> Result<bool, Memory> {
-    let [length, answer] = fields else {
+/// Whether a text is a design that is kept, and this is written of it; nothing stands for any design.
+pub fn is_written(alloc: Global, fields: &[&[u8]]) -> Result<bool, Memory> {
+    let [text, wanted] = fields else {
         return Ok(false);
     };
-    let Ok(length) = str_of(length).parse::<usize>() else {
-        return Ok(false);
-    };
-    match text.get(..length) {
-        Some(prefix) => Ok(verdict(alloc, prefix)?.as_bytes() == *answer),
-        None => Ok(false),
-    }
+    let is_as_told = wanted.is_empty() || rewritten(alloc, text)?.as_slice() == *wanted;
+    Ok(is_as_told && is_kept(alloc, text)?)
 }

@@ -5,6 +5,6 @@ use Rattle.desk_core.proofs.simulate.trace_reply.Goals as goal
 pub returns-in-Built : goal.returns-in-Built
 returns-in-Built c = record {
   value =
-      trace_told c.args.at c.in-Built.words c.args.stimulus.now c.args.told (outcomes_of c.args.design.now.design.modules c.args.found.now) c.traced.result c.in-Built.is
+      trace_told c.args.order c.args.at c.in-Built.words c.args.stimulus.now c.args.told (outcomes_of c.args.design.now.design.modules c.args.found.now) c.traced.result c.in-Built.is
       c.traced.ensures.value;
 }

@@ -15,8 +15,8 @@ use Rattle.desk_core.specs.Shaped.{IsShaped}
 use Rattle.desk_core.proofs.Outcomes.{lent_plain}
 use Rattle.desk_core.proofs.simulate.traced.Goals as goal
 
-pub put_titled_trace-requires : goal.put_titled_trace-requires
-put_titled_trace-requires c =
+pub put_titled_trace_in-requires : goal.put_titled_trace_in-requires
+put_titled_trace_in-requires c =
     let all = done_modules (outcomes_of c.args.design.now.design.modules c.args.found.now) in
     let source = c.as_slice-modules.ensures.value ∙ ap (λ (d : Design). d.modules) c.design.ensures.value in
     let lent = c.in_ok-netlist.netlist.items in
@@ -48,7 +48,7 @@ returns c = record {
       let line : c.in_ok-text.text ≡ ok_line (c.args.words ++ counted (codes "steps") (length steps)) = c.in_ok-text.ensures.value ∙ ap ok_line words in
       c.ok_reply.ensures.value
       ∙ ap ok_reply
-      (c.in_ok-put_titled_trace.ensures.ok m (ap (λ (d : Design). slice_get d.modules c.args.at) netlist ∙ there)
-      ∙ ap (λ (d : Design). c.in_ok-text.text ++ trace_text d m steps) netlist
-      ∙ ap (λ (t : List ℕ). t ++ trace_text all m steps) line);
+      (c.in_ok-put_titled_trace_in.ensures.ok m (ap (λ (d : Design). slice_get d.modules c.args.at) netlist ∙ there)
+      ∙ ap (λ (d : Design). c.in_ok-text.text ++ trace_text c.args.order d m steps) netlist
+      ∙ ap (λ (t : List ℕ). t ++ trace_text c.args.order all m steps) line);
 }

@@ -8,9 +8,9 @@ use Rattle.desk_read.proofs.words.first_words.Goals as goal
 pub returns : goal.returns
 returns c = record {
   value =
-      subst (λ r. IfOk r (λ words. map (λ word. word.now) words.items ≡ take 4 (words_of c.args.line.now))) c.in_ok-collect.was
+      subst (λ r. IfOk r (λ words. map (λ word. word.now) words.items ≡ take 5 (words_of c.args.line.now))) c.in_ok-collect.was
       (map_from_collect _ c.collect.ensures.ran
-      (YieldsList-from_take 4
+      (YieldsList-from_take 5
       (YieldsList-at c.take.ensures.source
       (YieldsList-from_filter _ (λ word. not (length word == 0))
       (YieldsList-at c.filter-words.ensures.source

@@ -24,7 +24,7 @@ returns-in-Step c = record {
       let was : length ps ≡ length before = subst (HasBefore ps) c.in-Step.is board.before in
       let inside = subst (AllByRecursion (IsWritePortWithin (length ps))) (sym c.as_slice.ensures.value) words.ports in
       subst (λ m. value_of (word_row ps c.args.words.now b).driver (time_of ps m) (shown ps c.args.now.now) ≡ value) (sym c.in-Step.is)
-      (remembered_same ps before c.in-Step.inputs.now c.args.now.now c.in-Step.first c.args.words.now b edge value board.apart was within (c.edge_at-edge.ensures.value ps board.apart was board.now words.clock)
+      (remembered_same ps before c.in-Step.inputs.now c.args.now.now (record { first = c.in-Step.first; order = c.in-Step.order }) c.args.words.now b edge value board.apart was within (c.edge_at-edge.ensures.value ps board.apart was board.now words.clock)
       (k ps board.apart was inside ∙ (λ i. pick_of edge (after_ports (shown ps before) b.address [] (ports_at b.at [] (map (ported_of ps) (c.as_slice.ensures.value i))) old) old))))
       c.at_edge.ensures.value;
 }

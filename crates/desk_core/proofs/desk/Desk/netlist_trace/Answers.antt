@@ -70,7 +70,7 @@ returns-clause-ok g c = λ name there.
     ap (λ (fs : List (Option Built)). outcomes_of c.self.inside.present.design.design.modules fs) c.as_slice-found.ensures.value
     ∙ outcomes_cold c.self.inside.present.design.design c.self.inside.present.script c.tell.new.results c.tell.ensures.sound c.in_ok-told.ensures.found in
     let place : place_named c.self.inside.present.design.design.modules name ≡ Some c.args.at = ap (λ (t : State). place_named t.design.modules name) same ∙ there in
-    let reply_of = λ (t : State). netlist_reply t name c.args.stimulus.now (module_named (netlist_of t).modules name) in
+    let reply_of = λ (t : State). netlist_reply t c.args.order name c.args.stimulus.now (module_named (netlist_of t).modules name) in
     subst (λ (t : State). answer c.in_ok-reply.reply after ≡ netlist_answer t (reply_of t)) same
     (answered s after c.in_ok-reply.reply (reply_of s) (c.in_ok-reply.ensures.value s name c.in_ok-told.ensures.told outcomes place) kept)
 

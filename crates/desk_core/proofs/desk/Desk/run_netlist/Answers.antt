@@ -33,7 +33,7 @@ returns-in-Ok-clause-ok g c =
     let own : m ≡ get_or s.design.modules at m = c.index-modules-at.is ∙ ap (λ (l : List Module). get_or l at m) here in
     let reads : stimulus_of m c.args.ask.now.steps ≡ Ok steps =
     ap (stimulus_of m) (sym c.as_slice-2.ensures.value) ∙ c.in-Ok.ensures.reads ∙ ap Ok (sym c.as_slice-in-Ok.ensures.value) in
-    simulated s c.netlist_trace.new.self.state name c.args.ask.now.steps at m steps c.netlist_trace.result place own reads (c.netlist_trace.ensures.ok name (sym place))
+    simulated s c.netlist_trace.new.self.state c.args.ask.now.order name c.args.ask.now.steps at m steps c.netlist_trace.result place own reads (c.netlist_trace.ensures.ok name (sym place))
 
 pub returns-in-Err-Bad-clause-ok : goal.returns-in-Err-Bad-clause-ok
 returns-in-Err-Bad-clause-ok g c =
@@ -50,7 +50,7 @@ returns-in-Err-Bad-clause-ok g c =
     let bad : stimulus_of m c.args.ask.now.steps ≡ Err c.in-Err-Bad.number =
     ap (stimulus_of m) (sym c.as_slice-2.ensures.value) ∙ c.in-Err-Bad.ensures.bad c.in-Err-Bad.number cc in
     bad_line s name c.args.ask.now.steps at m c.in-Err-Bad.number
-    (λ n steps. netlist_answer s (netlist_reply s name steps (module_named (netlist_of s).modules name)))
+    (λ n steps. netlist_answer s (netlist_reply s c.args.ask.now.order name steps (module_named (netlist_of s).modules name)))
     c.number_reply.result place own bad c.number_reply.ensures.value
 
 pub returns-in_default-clause-claims : goal.returns-in_default-clause-claims

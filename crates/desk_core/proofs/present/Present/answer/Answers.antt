@@ -2,9 +2,9 @@ use Rattle.std.proofs.Common.{◌≡◌, ℕ, List, Result, sym, subst}
 use Rattle.std.specs.Prelude.{IfOk}
 use Rattle.rtl_bits.specs.declared.memory.Memory.{Memory}
 use Rattle.desk_read.specs.declared.command.Command.{Command}
-use Rattle.desk_read.specs.declared.command.Command.TheVariants.{Load, Edit, Remove, Script, Show, SimSource}
+use Rattle.desk_read.specs.declared.command.Command.TheVariants.{Load, Edit, Remove, Script, Show, Version, Modules, Ports, SimSource}
 use Rattle.reply_lines.specs.declared.reply.Reply.{Reply}
-use Rattle.desk_core.specs.Answers.{IsEditAnswer, IsLoadAnswer, remove_answer, script_answer, show_answer}
+use Rattle.desk_core.specs.Answers.{IsEditAnswer, IsLoadAnswer, modules_answer, ports_answer, remove_answer, script_answer, show_answer, version_answer}
 use Rattle.desk_core.specs.Present.{state_with}
 use Rattle.desk_core.specs.State.{State, answer}
 use Rattle.desk_core.specs.Step.{IsStep}
@@ -38,6 +38,19 @@ pub returns-in-Show-clause-step : goal.returns-in-Show-clause-step
 returns-in-Show-clause-step c = λ kept.
     answered c.args.command.now (Show c.in-Show.name) (state_with kept c.args.self.now) (state_with kept c.args.self.now) c.show.result c.in-Show.is
     (subst (λ (t : List ℕ). IfOk c.show.result (λ reply. answer reply (state_with kept c.args.self.now) ≡ show_answer (state_with kept c.args.self.now) t)) c.as_slice-in-Show.ensures.value (c.show.ensures.ok kept))
+
+pub returns-in-Version-clause-step : goal.returns-in-Version-clause-step
+returns-in-Version-clause-step c = λ kept.
+    answered c.args.command.now Version (state_with kept c.args.self.now) (state_with kept c.args.self.now) c.version.result c.in-Version.is (c.version.ensures.ok kept)
+
+pub returns-in-Modules-clause-step : goal.returns-in-Modules-clause-step
+returns-in-Modules-clause-step c = λ kept.
+    answered c.args.command.now Modules (state_with kept c.args.self.now) (state_with kept c.args.self.now) c.modules.result c.in-Modules.is (c.modules.ensures.ok kept)
+
+pub returns-in-Ports-clause-step : goal.returns-in-Ports-clause-step
+returns-in-Ports-clause-step c = λ kept.
+    answered c.args.command.now (Ports c.in-Ports.name) (state_with kept c.args.self.now) (state_with kept c.args.self.now) c.ports.result c.in-Ports.is
+    (subst (λ (t : List ℕ). IfOk c.ports.result (λ reply. answer reply (state_with kept c.args.self.now) ≡ ports_answer (state_with kept c.args.self.now) t)) c.as_slice-in-Ports.ensures.value (c.ports.ensures.ok kept))
 
 pub returns-in-SimSource-clause-step : goal.returns-in-SimSource-clause-step
 returns-in-SimSource-clause-step c = λ kept.

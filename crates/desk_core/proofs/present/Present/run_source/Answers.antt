@@ -23,7 +23,7 @@ returns-in_default c =
     record {
       ok = λ kept.
           let s = state_with kept c.args.self.now in
-          unknown s name (λ m. by_stimulus s (stimulus_of m c.args.ask.now.steps) (λ stimulus. unchanged s (source_reply s m stimulus))) c.told_reply.result place
+          unknown s name (λ m. by_stimulus s (stimulus_of m c.args.ask.now.steps) (λ stimulus. unchanged s (source_reply s c.args.ask.now.order m stimulus))) c.told_reply.result place
           (told_same c.told_reply.result _ _ same c.told_reply.ensures.value);
     }
 
@@ -44,8 +44,8 @@ returns-in-Ok c =
     record {
       ok = λ kept.
           let s = state_with kept c.args.self.now in
-          let same = ap (source_reply s m) c.as_slice-in-Ok.ensures.value in
-          sourced s name c.args.ask.now.steps at m c.in-Ok.stimulus c.source_trace.result place own reads (told_same c.source_trace.result _ _ same (c.source_trace.ensures.value kept m there));
+          let same = ap (source_reply s c.args.ask.now.order m) c.as_slice-in-Ok.ensures.value in
+          sourced s c.args.ask.now.order name c.args.ask.now.steps at m c.in-Ok.stimulus c.source_trace.result place own reads (told_same c.source_trace.result _ _ same (c.source_trace.ensures.value kept m there));
     }
 
 pub returns-in-Err-Bad : goal.returns-in-Err-Bad
@@ -64,5 +64,5 @@ returns-in-Err-Bad c =
     record {
       ok = λ kept.
           let s = state_with kept c.args.self.now in
-          bad_line s name c.args.ask.now.steps at m c.in-Err-Bad.number (λ n stimulus. unchanged s (source_reply s n stimulus)) c.number_reply.result place own bad c.number_reply.ensures.value;
+          bad_line s name c.args.ask.now.steps at m c.in-Err-Bad.number (λ n stimulus. unchanged s (source_reply s c.args.ask.now.order n stimulus)) c.number_reply.result place own bad c.number_reply.ensures.value;
     }

@@ -15,7 +15,7 @@ returns c = record {
       let line : c.in_ok-text.text ≡ ok_line (counted (codes "steps") (length steps)) = c.in_ok-text.ensures.value ∙ ap ok_line words in
       c.ok_reply.ensures.value
       ∙ ap ok_reply
-      (c.in_ok-put_trace.ensures.ok m (ap (λ (d : Design). slice_get d.modules c.args.at) here ∙ there)
-      ∙ ap (λ (d : Design). c.in_ok-text.text ++ trace_text d m steps) here
-      ∙ ap (λ (t : List ℕ). t ++ trace_text design m steps) line);
+      (c.in_ok-put_trace_in.ensures.ok m (ap (λ (d : Design). slice_get d.modules c.args.at) here ∙ there)
+      ∙ ap (λ (d : Design). c.in_ok-text.text ++ trace_text c.args.order d m steps) here
+      ∙ ap (λ (t : List ℕ). t ++ trace_text c.args.order design m steps) line);
 }

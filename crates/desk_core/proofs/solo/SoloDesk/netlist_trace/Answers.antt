@@ -70,7 +70,7 @@ returns-clause-ok g c = λ name there.
     ap (λ (fs : List (Option Built)). outcomes_of c.self.inside.present.design.design.modules fs) c.as_slice-found.ensures.value
     ∙ outcomes_beside (filled_keys c.tell.new.results.shard) c.self.inside.present.design.design c.self.inside.present.script c.tell.new.results.found.items c.tell.ensures.own.stand c.in_ok-told.ensures.found in
     let place : place_named c.self.inside.present.design.design.modules name ≡ Some c.args.at = ap (λ (t : State). place_named t.design.modules name) c.self.view_is ∙ there in
-    let reply_of = λ (t : State). netlist_reply t name c.args.stimulus.now (module_named (netlist_of t).modules name) in
+    let reply_of = λ (t : State). netlist_reply t c.args.order name c.args.stimulus.now (module_named (netlist_of t).modules name) in
     subst (λ (t : State). answer c.in_ok-reply.reply after ≡ netlist_answer t (reply_of t)) c.self.view_is
     (answered s after c.in_ok-reply.reply (reply_of s) (c.in_ok-reply.ensures.value s name c.in_ok-told.ensures.told outcomes place) kept)
 

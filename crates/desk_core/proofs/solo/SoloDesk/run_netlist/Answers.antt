@@ -34,7 +34,7 @@ returns-in-Ok-clause-ok g c =
     let own : m ≡ get_or s.design.modules at m = c.index-modules-at.is ∙ ap (λ (l : List Module). get_or l at m) here in
     let reads : stimulus_of m ask.steps ≡ Ok c.as_slice-in-Ok.result.now =
     ap (stimulus_of m) (sym c.as_slice-2.ensures.value) ∙ c.in-Ok.ensures.reads ∙ ap Ok (sym c.as_slice-in-Ok.ensures.value) in
-    simulated s c.netlist_trace.new.self ask.module ask.steps at m c.as_slice-in-Ok.result.now c.netlist_trace.result place own reads (c.netlist_trace.ensures.ok ask.module (sym place))
+    simulated s c.netlist_trace.new.self ask.order ask.module ask.steps at m c.as_slice-in-Ok.result.now c.netlist_trace.result place own reads (c.netlist_trace.ensures.ok ask.module (sym place))
 
 pub returns-in-Ok-clause-built : goal.returns-in-Ok-clause-built
 returns-in-Ok-clause-built g c =
@@ -85,7 +85,7 @@ returns-in-Err-Bad-clause-ok g c =
     let bad : stimulus_of m ask.steps ≡ Err c.in-Err-Bad.number =
     ap (stimulus_of m) (sym c.as_slice-2.ensures.value) ∙ c.in-Err-Bad.ensures.bad c.in-Err-Bad.number cc in
     bad_line s ask.module ask.steps at m c.in-Err-Bad.number
-    (λ n steps. netlist_answer s (netlist_reply s ask.module steps (module_named (netlist_of s).modules ask.module)))
+    (λ n steps. netlist_answer s (netlist_reply s ask.order ask.module steps (module_named (netlist_of s).modules ask.module)))
     c.number_reply.result place own bad c.number_reply.ensures.value
 
 pub returns-in-Err-Bad-clause-built : goal.returns-in-Err-Bad-clause-built

@@ -45,8 +45,9 @@ returns c = record {
           counting = counting;
           outputs = net.outputs;
           outputs_within = subst (λ z. AllByRecursion (λ number. number < z) c.args.net.outputs) (sym net.count) net.outputs_within;
-          values = start_at d m ps parts values counting (net.count ∙ sym c.in_ok-values.ensures.count) least;
+          values = start_at c.args.order d m ps parts values counting (net.count ∙ sym c.in_ok-values.ensures.count) least;
           started = refl;
+          ordered = refl;
         },
       );
 }

@@ -1,0 +1,1 @@
+"""The rows of the tables in `rows/`: how they are read, and whether the program answers as they say."""

@@ -1,0 +1,9 @@
+pub mod Filters
+pub mod Faces
+pub mod Outcomes
+pub mod Gathering
+pub mod Names
+pub mod FaceFaults
+pub mod Types
+pub mod Recursion
+pub mod Accepting

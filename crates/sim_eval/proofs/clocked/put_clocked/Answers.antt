@@ -1,0 +1,18 @@
+use Rattle.std.proofs.Common.{◌∙◌, length, sym}
+use Rattle.net_model.specs.declared.order.Order.TheVariants.{Released}
+use Rattle.flat_net.specs.declared.leaves.HeldBit.{HeldBit}
+use Rattle.flat_net.specs.Within.{IsHeldBitWithin}
+use Rattle.sim_eval.specs.Race.{raced_fact}
+use Rattle.sim_eval.proofs.Firsts.{held_within}
+use Rattle.sim_eval.proofs.Taking.{all_at, fewer_more, takes_next}
+use Rattle.sim_eval.proofs.clocked.put_clocked.Goals as goal
+
+pub loop-bit-preserved : goal.loop-bit-preserved
+loop-bit-preserved c = record {
+  fewer = fewer_more _ _ _ _ _ c.loop-bit.invariant.fewer c.put-changed.ensures.fewer;
+  takes = λ ps first was apart before same clocked tree within.
+      let raced = c.args.raced.now in
+      takes_next ps (λ (b : HeldBit). b.number) (λ (b : HeldBit). (raced_fact ps c.args.before.now Released first raced was b).value) c.args.bits.now c.loop-bit.bit-index _ _ _ _ _ _ _ c.loop-bit-test.true apart (same ∙ sym c.loop-bit.auto.now) (held_within (length ps) raced.tree.width c.args.bits.now within)
+      (c.in_ok-value.ensures.value ps first was apart before clocked tree (all_at (IsHeldBitWithin (length ps) raced.tree.width) c.args.bits.now c.loop-bit.bit-index _ within c.loop-bit-test.true))
+      c.put-changed.ensures.value c.put-changed.ensures.gains (c.loop-bit.invariant.takes ps first was apart before same clocked tree within);
+}

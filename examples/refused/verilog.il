@@ -1,0 +1,3 @@
+module verilog(input a, output y);
+  assign y = ~a;
+endmodule
