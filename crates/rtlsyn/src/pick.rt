@@ -1,6 +1,6 @@
 //! Which row of the table of causes an error has.
 
-use crate::causes::{CAUSES, Cause};
+use crate::causes::{Cause, causes_of};
 use crate::drivers::{Driver, are_processes, are_tristate};
 use crate::found::{Found, Item, module_named};
 use crate::memory_cause::{line_cause, memory_cell_cause, store_cause};
@@ -13,26 +13,18 @@ use std::alloc::Global;
 
 /// The row of this error and name.
 pub(crate) fn row_named(error: u32, name: &str) -> Option<&'static Cause> {
-    for cause in &CAUSES {
-        if cause.error == error && cause.name == name {
-            return Some(cause);
-        }
-    }
-    None
+    causes_of(error).iter().find(|cause| cause.name == name)
 }
 
 /// The row of this error for cells of this type, else the one for all: the last.
 pub(crate) fn row_for_type(error: u32, kind: &[u8]) -> Option<&'static Cause> {
-    let mut general = None;
-    for cause in &CAUSES {
-        if cause.error == error {
-            if has_type(cause.types, kind) {
-                return Some(cause);
-            }
-            general = Some(cause);
+    let causes = causes_of(error);
+    for cause in causes {
+        if has_type(cause.types, kind) {
+            return Some(cause);
         }
     }
-    general
+    causes.last()
 }
 
 /// Whether the type is one of these, which stand between blanks.
