@@ -11,7 +11,7 @@ use Rattle.gate_cones.specs.declared.row.Leaf.TheVariants.{L0, L1, L2, L3, L4}
 use Rattle.gate_cones.specs.declared.row.Row.{Row}
 use Rattle.gate_cones.specs.Below.{IsBelow, bit_below, below_over}
 use Rattle.gate_cones.specs.Cone.{cone_value}
-use Rattle.gate_cones.specs.Row.{IsPlainRow, bit_at, with_bit}
+use Rattle.gate_cones.specs.Row.{IsPlainRow, with_bit}
 
 below_from : (a b : Bit) → bit_below a b ≡ true → Below a b
 below_from S0 S0 e = refl

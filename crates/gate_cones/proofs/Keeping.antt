@@ -1,15 +1,14 @@
 -- Cones keep the order of knowledge, and so a cone that says no less in each plain row says no less in any.
-use Rattle.std.proofs.Common.{◌≡◌, refl}
+use Rattle.std.proofs.Common.{refl}
 use Rattle.rtl_bits.specs.declared.bit.Bit.{Bit}
 use Rattle.rtl_bits.specs.declared.bit.Bit.TheVariants.{S0, S1, X}
-use Rattle.rtl_bits.specs.Knowledge.{Below, FlatBelow, IsMonotone3}
-use Rattle.rtl_bits.specs.Tables.{IsPlain, seen_of}
+use Rattle.rtl_bits.specs.Knowledge.{Below}
+use Rattle.rtl_bits.specs.Tables.{seen_of}
 use Rattle.rtl_bits.proofs.Orders.{Below_refl, Below_trans}
 use Rattle.rtl_bits.proofs.Tables.{seen_of_plain}
 use Rattle.cell_gate.proofs.Monotone.{output_below}
 use Rattle.gate_cones.specs.declared.cone.Cone.{Cone}
 use Rattle.gate_cones.specs.declared.cone.Cone.TheVariants.{At, Fixed, One', Two', Three'}
-use Rattle.gate_cones.specs.declared.row.Leaf.{Leaf}
 use Rattle.gate_cones.specs.declared.row.Leaf.TheVariants.{L0, L1, L2, L3, L4}
 use Rattle.gate_cones.specs.declared.row.Row.{Row}
 use Rattle.gate_cones.specs.Below.{IsBelow}

@@ -1,2 +1,5 @@
 pub mod Exact
 pub mod Keeping
+pub mod Standing
+pub mod Exchanging
+pub mod Adding

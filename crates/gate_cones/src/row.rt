@@ -40,7 +40,7 @@ impl Row {
     }
 
     /// The row with another bit at a leaf.
-    pub fn with(self, leaf: Leaf, bit: Bit) -> Row
+    pub(crate) fn with(self, leaf: Leaf, bit: Bit) -> Row
         ensures value { result ≡ with_bit self leaf bit }
     {
         match leaf {
