@@ -1,0 +1,5 @@
+pub mod Lines
+pub mod Owning
+pub mod Desks
+pub mod Alone
+pub mod Out
