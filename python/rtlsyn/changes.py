@@ -4,6 +4,7 @@ from __future__ import annotations
 from typing import Mapping, NamedTuple, Optional
 
 from .stable import Module
+from .tables import counted
 
 
 class Change(NamedTuple):
@@ -18,7 +19,7 @@ class Change(NamedTuple):
 def changes_between(held: Mapping[str, Module], modules: Mapping[str, Module]) -> list[Change]:
     """The commands by which a session that has the modules `held` comes to have `modules`."""
     if not held:
-        told = f'loaded {len(modules)} module{"" if len(modules) == 1 else "s"}'
+        told = f'loaded {counted(len(modules), "module")}'
         return [Change(told, 'load', text_of(modules), dict(modules))]
     changes, after = [], dict(held)
     edited = {name: it for name, it in modules.items() if name not in held or held[name].text != it.text}

@@ -5,11 +5,19 @@ import re
 from typing import Mapping, NamedTuple, Optional
 
 from .causes import Cause, cause_of
-from .errors import Failed, Refused
+from .changes import text_of
+from .errors import IN_TEXT, Failed, Refused
 from .netlist import Body, Cell, design_of, number_of
-from .places import PLACE
+from .places import PLACE, placed
+from .stable import Module
 
 MEMORY_BITS = 65_536
+#: An error line, which may have its cause after it, as `refusal` says it.
+BARE = re.compile(r'error (?P<number>[0-9]+)(?P<rest>(?: [^ ]+?)*?)(?:: [a-z`].*)?')
+#: What the program says of one on standard error: `pow.v:3:14: error 9: .. (module \\cube, cell $pow$pow.v:3$1)`.
+TOLD = re.compile(r'(?:.*?(?P<place>[0-9]+:[0-9]+): )?error (?P<number>[0-9]+): .*?'
+                  r'(?: \(module (?P<module>\S+?)(?:, (?P<kind>wire|memory|cell|process|connection|pass) (?P<name>\S+?))?'
+                  r'(?:, bit (?P<bit>[0-9]+))?(?:; .*)?\))?')
 
 
 class Explanation(NamedTuple):
@@ -23,11 +31,9 @@ class Explanation(NamedTuple):
 
 
 def explanation(line: str, text: Optional[str] = None) -> Explanation:
-    """What the error line means; with the text of the design also where."""
-    found = re.search(r'error [0-9]+(?: .*)?', line.strip())
-    if not found:
-        raise Failed(f'this is no error line: {line}')
-    refused = Refused(found[0])
+    """What the error line means; with the text of the design also where. The line may stand between a place and a cause,
+    and it may be what the program says of it on standard error."""
+    refused = Refused(bare(line.strip()))
     if text is None:
         return Explanation(refused.line, cause_of(refused.line))
     if refused.place:
@@ -38,10 +44,32 @@ def explanation(line: str, text: Optional[str] = None) -> Explanation:
         return Explanation(refused.line, cause_of(refused.line))
 
 
-def in_a_line(line: str, text: Optional[str] = None) -> str:
-    """The error line between its place in the source and its cause."""
+def bare(line: str) -> str:
+    """The error line alone: `error 9 \\cube $pow$pow.v:3$1`."""
+    found = TOLD.fullmatch(line)
+    if found:
+        name = f'connect {found["name"]}' if found['kind'] == 'connection' else found['name']
+        place = found['place'] if int(found['number']) in IN_TEXT else None
+        return ' '.join(filter(None, ('error', found['number'], place, found['module'], name, found['bit'])))
+    at = line.find('error ')
+    found = BARE.fullmatch(line[at:]) if at >= 0 else None
+    if not found:
+        raise Failed(f'this is no error line: {line}')
+    return f'error {found["number"]}{found["rest"]}'
+
+
+def refusal(line: str, text: Optional[str] = None) -> str:
+    """The error line between its place in the source and its cause; below it what takes the cause away."""
     found = explanation(line, text)
-    return ': '.join(filter(None, (found.place, found.line, found.cause.words)))
+    hint = f'\nhint: {found.cause.hint}' if found.cause.hint else ''
+    return ': '.join(filter(None, (found.place, found.line, found.cause.words))) + hint
+
+
+def refusal_of(refused: Refused, modules: Mapping[str, Module], block: Optional[str]) -> str:
+    """The same for a design whose modules have stable texts, without the hint. `block` is the text in which a fault of a
+    text is counted."""
+    text = block if refused.place else text_of(modules)
+    return f'{placed(refused, modules, block)}: {explanation(refused.line, text).cause.words}'
 
 
 # A fault of the text
@@ -91,7 +119,9 @@ def about(body: Body, refused: Refused, cell: Optional[Cell]) -> str:
     for words, names in kinds.items():
         if refused.name in names:
             return f'{words} {refused.name} of module {body.name}'
-    return f'module {body.name}'
+    if refused.name is None or refused.name.startswith('connect '):
+        return f'module {body.name}'
+    return f'module {body.name}, which has no {refused.name} in this text'
 
 
 def place_in(body: Body, name: str, cell: Optional[Cell]) -> str:

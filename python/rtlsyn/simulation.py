@@ -58,7 +58,8 @@ def simulate(session: Session, body: Body, steps: Sequence[str], order: str = 't
 
 def vcd_of(run: Simulation, comment: str = '') -> str:
     """The VCD: a scope `source` and a scope `netlist` with all ports, and a scope `differences`, where the line
-    `only_netlist` is 1 at each step at which the netlist knows a bit that the source does not; below it the bits."""
+    `only_netlist` is 1 at each step at which the netlist knows a bit that the source does not; below it the bits. The
+    times are the numbers of the steps, from 1."""
     signals: list[vcd.Signal] = []
     for side in ('source', 'netlist'):
         for port in [*run.inputs, *run.outputs]:
@@ -68,7 +69,7 @@ def vcd_of(run: Simulation, comment: str = '') -> str:
     whole = ['1' if any('1' in values[at] for _, values in differences) else '0' for at in range(len(run.rows))]
     signals.append(vcd.Signal(('differences',), 'only_netlist', 1, whole))
     signals += [vcd.Signal(('differences',), plain(port.name), port.width, values) for port, values in differences]
-    return vcd.written(signals, range(len(run.rows)), comment)
+    return vcd.written(signals, range(1, len(run.rows) + 1), comment)
 
 
 def first_difference(run: Simulation) -> Optional[int]:

@@ -17,13 +17,14 @@ from .yosys import Say, quiet, run
 @dataclass
 class Module:
     """A module alone: how often it stands in the hierarchy, its cells by their types, the bits of its flip-flops and
-    latches, its instances, the area of its cells, and its longest path."""
+    latches, its processes, which no netlist has, its instances, the area of its cells, and its longest path."""
     name: str
     uses: int = 0
     cells: dict[str, int] = field(default_factory=dict)
     flip_flops: int = 0
     latches: int = 0
     memory_bits: int = 0
+    processes: int = 0
     instances: int = 0
     area: Optional[float] = None
     path: Path = field(default_factory=Path)
@@ -68,6 +69,7 @@ def module_of(design: Mapping[str, Body], name: str, uses: int, library: Mapping
         if module.area is not None and cell.type.lstrip('\\') in library:
             module.area += library[cell.type.lstrip('\\')].area
     module.memory_bits = sum(memory.width * memory.size for memory in body.memories.values())
+    module.processes = len(body.processes)
     module.path = longest(design, name, library, False)
     return module
 
@@ -80,7 +82,7 @@ def sum_of(design: Mapping[str, Body], tops: Sequence[str], modules: Sequence[Mo
     for module in modules:
         for name, count in module.cells.items():
             whole.cells[name] = whole.cells.get(name, 0) + count * module.uses
-        for part in ('flip_flops', 'latches', 'memory_bits', 'instances'):
+        for part in ('flip_flops', 'latches', 'memory_bits', 'processes', 'instances'):
             setattr(whole, part, getattr(whole, part) + getattr(module, part) * module.uses)
         if whole.area is not None:
             whole.area += (module.area or 0.0) * module.uses

@@ -1,4 +1,4 @@
-"""Tables on a terminal and in a pipe, by `rich`."""
+"""Tables on a terminal and in a pipe, by `rich`; numbers with their nouns."""
 from __future__ import annotations
 
 from typing import Iterable, Sequence
@@ -22,3 +22,8 @@ def lines_of(heads: Sequence[str], rows: Iterable[Sequence[str]], words: Sequenc
     with out.capture() as captured:
         out.print(table)
     return [line.rstrip() for line in captured.get().rstrip('\n').split('\n')]
+
+
+def counted(number: int, one: str, many: str = '') -> str:
+    """A number with its noun: `1 cell`, `2 cells`."""
+    return f'{number} {one if number == 1 else many or f"{one}s"}'

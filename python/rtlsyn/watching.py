@@ -16,7 +16,8 @@ from typing import Optional, Sequence
 from . import files
 from .changes import Change, changes_between
 from .errors import Ended, Failed, Refused
-from .places import files_of, placed
+from .explaining import refusal_of
+from .places import files_of
 from .session import LIMIT, Reply, Session, command_bytes, sim_command
 from .stable import Module, NotStatements, modules_of
 from .stamps import Stamp, stamps_of, wait_for_change
@@ -196,10 +197,11 @@ class Watch:
             raise Failed(self.explained(refused, block)) from refused
 
     def explained(self, refused: Refused, block: Optional[str]) -> str:
-        """The error line, after the place in the stimulus or in the source."""
+        """The error line between the place in the stimulus or in the source and the cause."""
         if refused.number == 23:
-            return f'{self.options.simulate}:{self.stimulus[int(refused.words[0]) - 1][0]}: {refused.line}'
-        return placed(refused, self.modules, block)
+            line = self.stimulus[int(refused.words[0]) - 1][0]
+            return f'{self.options.simulate}:{line}: {refused.line}: {refused.cause}'
+        return refusal_of(refused, self.modules, block)
 
     # Simulation
 

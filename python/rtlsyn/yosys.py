@@ -36,7 +36,7 @@ def run(commands: Sequence[str], say: Say = quiet, folder: Optional[str] = None)
         if line.strip():
             say(line)
     if done.returncode:
-        errors = [line for line in told.split('\n') if line.startswith('ERROR')]
+        errors = [line for line in told.split('\n') if 'ERROR' in line]
         beside = f': {errors[-1]}' if errors and say is quiet else ''
         raise YosysFailed(f'yosys ended with status {done.returncode}{beside}', told)
     return told

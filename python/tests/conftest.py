@@ -16,9 +16,9 @@ BUILT = os.path.join(TOP, 'crates/rtlsyn/out/rtlsyn')
 
 
 def pytest_configure() -> None:
-    """The program that is built stands in for none: the script of the clone would begin to prove."""
-    if 'RTLSYN_PROGRAM' not in os.environ and os.access(BUILT, os.X_OK):
-        os.environ['RTLSYN_PROGRAM'] = BUILT
+    """Where no program is named it is the one that is built, be it there or not: the script of the clone would begin to
+    prove one."""
+    os.environ.setdefault('RTLSYN_PROGRAM', BUILT)
 
 
 @pytest.fixture(scope='session')

@@ -1,8 +1,9 @@
-"""What docs/FRONTENDS.md and the scripts of examples show."""
+"""What README.md, docs/FRONTENDS.md and the scripts of examples show."""
 from __future__ import annotations
 
 import os
 import re
+import shutil
 import subprocess
 import sys
 
@@ -42,3 +43,29 @@ def test_the_scripts_of_examples(program):
         done = subprocess.run([sys.executable, '-B', example(words[0]), *words[1:]], capture_output=True, text=True,
                               check=True)
         assert said in done.stdout
+
+
+def shown_by_readme() -> list[tuple[str, str]]:
+    """The commands of the part "Every day" of README.md, each with a pattern of what it prints: `..` is any text, and a
+    line of it alone any lines."""
+    with open(os.path.join(TOP, 'README.md'), encoding='utf-8') as file:
+        block = re.search(r'^## Every day$.*?^```\n(.*?)^```', file.read(), re.M | re.S)
+    commands = []
+    for part in re.split(r'^\$ ', block[1], flags=re.M)[1:]:
+        command, *lines = part.split('\n')[:-1]
+        forms = [r'(.*\n)*' if line.strip() == '..' else f'{re.escape(line)}\n'.replace(r'\.\.', '.*') for line in lines]
+        commands.append((command, ''.join(forms)))
+    return commands
+
+
+def test_the_commands_of_the_readme(program, yosys, tmp_path):
+    shutil.copytree(os.path.join(TOP, 'examples'), tmp_path / 'examples')
+    (tmp_path / 'rtlsyn').symlink_to(os.path.join(TOP, 'rtlsyn'))
+    (watch, watched), *commands = shown_by_readme()
+    # The watch would go on; its later lines are those of edits, which .ci/watch makes.
+    commands.insert(0, (f'{watch} --once'.replace('cd examples/system; ', ''), watched.split('\n')[0] + '\n'))
+    assert len(commands) == 4
+    for command, form in commands:
+        done = subprocess.run(['bash', '-c', command], cwd=tmp_path / 'examples' / 'system', capture_output=True, text=True,
+                              check=False)
+        assert re.fullmatch(form, done.stdout), f'{command}:\n{done.stdout}{done.stderr}'

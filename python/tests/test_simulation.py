@@ -42,7 +42,7 @@ def test_a_vcd_is_read_as_it_was_written(tmp_path):
     path = tmp_path / 'small.vcd'
     path.write_text(vcd_of(small()), encoding='utf-8')
     found = vcd.read(path.read_text(encoding='utf-8'))
-    assert found.times == [0, 1]
+    assert found.times == [1, 2]
     assert found.signal('q', 2, 'source') == ['0x', 'x1'] and found.signal('q', 2, 'netlist') == ['0x', '01']
     assert found.signal('only_netlist', 1) == ['0', '1'] and found.signal('q', 2, 'differences') == ['00', '10']
     assert from_file(str(path), [CLOCK]).steps == ['0', '1']

@@ -9,7 +9,7 @@ import click
 
 from .. import equivalence
 from ..errors import Failed, Refused
-from ..explaining import in_a_line
+from ..explaining import refusal
 from ..files import read as read_file
 from ..words import complain, json_word, reading_of, reading_words
 from ..yosys import rtlil_of
@@ -38,7 +38,7 @@ def check(design: str, netlist: Optional[str], top: str, read: str, then: str, s
     try:
         found = equivalence.check(text, gates, script, top)
     except Refused as refused:
-        raise Failed(in_a_line(refused.line, text)) from refused
+        raise Failed(refusal(refused.line, text)) from refused
     if as_json:
         click.echo(json.dumps(asdict(found), indent=2))
     else:

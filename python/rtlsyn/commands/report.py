@@ -12,14 +12,15 @@ from .. import files
 from ..changes import text_of
 from ..drawing import schematic, waveform
 from ..errors import Failed, Refused
+from ..explaining import refusal_of
 from ..netlist import Body, Port, design_of, plain, shown, tops_of
 from ..page import Report, page_of
-from ..places import placed
 from ..session import Session
 from ..simulation import Simulation, simulate
 from ..stable import Module, modules_of
 from ..statistics import statistics
 from ..stimuli import at_random, from_file
+from ..tables import counted
 from ..words import complain, reading_of, reading_words, script_words, sources_word
 from ..yosys import Reading, rtlil_of
 
@@ -56,7 +57,7 @@ def report(sources: tuple[str, ...], output: str, before: Optional[str], simulat
             design = design_of(text)
             run, note = simulated(session, design, simulate, module)
         except Refused as refused:
-            raise Failed(f'{placed(refused, modules, text)}: {refused.cause}') from refused
+            raise Failed(refusal_of(refused, modules, text)) from refused
     title = ' '.join(os.path.basename(path) for path in sources)
     made = Report(title, design, tops_of(design), statistics(netlist), done, waveform(run) if run else None, note)
     draw(made, netlist, cells)
@@ -72,7 +73,8 @@ def built(session: Session, text: str) -> str:
     begun = time.monotonic()
     modules = session.load(text)
     counts = session.run()
-    return f'{modules} modules, built {counts["built"]} reused {counts["reused"]}, {time.monotonic() - begun:.2f} s'
+    return f'{counted(modules, "module")}, built {counts["built"]} reused {counts["reused"]}, ' \
+           f'{time.monotonic() - begun:.2f} s'
 
 
 def built_before(session: Session, before: Optional[str], reading: Reading, modules: Mapping[str, Module]) -> list[str]:
@@ -104,7 +106,7 @@ def simulated(session: Session, design: Mapping[str, Body], steps: Optional[str]
         return None, f'{shown(tops[0], body)} has no ports, or the stimulus no steps.'
     run = simulate(session, body, stimulus.steps[:DRAWN])
     how = steps or f'inputs drawn at random, clock {clock or "none"}, reset {reset or "none"}'
-    differ = f'{run.only_netlist} bits are known to the netlist alone' if run.only_netlist else \
+    differ = f'bits that the netlist alone knows: {run.only_netlist}' if run.only_netlist else \
         'source and netlist are equal at each step'
     return run, f'{shown(tops[0], body)}, {len(run.rows)} steps: {how}. Grey is unknown; {differ}.'
 

@@ -10,7 +10,7 @@ import click
 
 from .. import files
 from ..errors import Failed, Refused
-from ..explaining import in_a_line
+from ..explaining import refusal
 from ..netlist import Port, design_of, plain, top_of
 from ..session import Session
 from ..simulation import Simulation, simulate, vcd_of
@@ -25,7 +25,7 @@ from ..yosys import rtlil_of
 @click.argument('design', metavar='DESIGN')
 @click.argument('steps', required=False, metavar='[STEPS]')
 @click.option('--module', metavar='NAME', help='The module to run: the top module.')
-@click.option('--vcd', 'vcd_path', metavar='FILE', help='Write the waveforms as VCD, for GTKWave.')
+@click.option('--vcd', 'vcd_path', metavar='FILE', help='Write the waveforms as VCD, for GTKWave: step N at N ns.')
 @click.option('--scope', metavar='NAME', help='Where STEPS is a VCD: the scope of the inputs, as tb.dut.')
 @click.option('--random', 'count', type=click.IntRange(1), metavar='N', help='N steps drawn at random, for STEPS.')
 @click.option('--seed', type=int, default=1, show_default=True, metavar='S', help='What the random steps begin from.')
@@ -82,7 +82,7 @@ def explained(refused: Refused, text: str, steps: Optional[str], stimulus: Stimu
         return f'{steps}:{line}: {refused.line}: {refused.cause}'
     if refused.number == 21 and order != 'together':
         return f'the program does not know the order {order}'
-    return in_a_line(refused.line, text)
+    return refusal(refused.line, text)
 
 
 def show(run: Simulation, as_table: Optional[bool], as_json: bool) -> None:

@@ -10,7 +10,7 @@ from .. import statistics as counting
 from ..files import read
 from ..netlist import plain
 from ..statistics import Module, Statistics, has_gates, mapped, told
-from ..tables import lines_of
+from ..tables import counted, lines_of
 from ..words import json_word
 
 
@@ -87,6 +87,9 @@ def notes_on(found: Statistics, with_path: bool) -> list[str]:
     notes = []
     if found.hierarchy.memory_bits:
         notes.append(f'memories: {found.hierarchy.memory_bits} bits')
+    if found.hierarchy.processes:
+        notes.append(f'{counted(found.hierarchy.processes, "process", "processes")} not counted: this is a source, whose '
+                     'netlist has cells in their place')
     if found.hierarchy.path.loops:
         notes.append(f'loops of combinational cells were cut at {found.hierarchy.path.loops} cells')
     if found.unknown:

@@ -10,7 +10,8 @@ from typing import Iterator, Optional
 import click
 
 from ..errors import Failed, Refused
-from ..explaining import in_a_line
+from ..explaining import refusal
+from ..tables import counted
 from ..synthesis import Progress, Synthesis, of_text
 from ..words import complain, json_word, reading_of, reading_words, script_words, sources_word
 from ..writers import write_netlist
@@ -45,21 +46,21 @@ def synth(sources: tuple[str, ...], output: str, top: str, read: str, then: str,
     if as_json:
         click.echo(json.dumps(told, indent=2))
     elif sys.stderr.isatty() and output != '-':
-        click.echo(f'{output}: {done.modules} modules, built {done.built} reused {done.reused}, '
+        click.echo(f'{output}: {counted(done.modules, "module")}, built {done.built} reused {done.reused}, '
                    f'{told["seconds"]:.2f} s', err=True)
 
 
 def built(text: str, script: Optional[str], workers: Optional[int]) -> Synthesis:
     """The netlist, with the progress told where somebody sees it."""
     try:
-        with counted(text) as progress:
+        with modules_told(text) as progress:
             return of_text(text, script=script, workers=workers, progress=progress)
     except Refused as refused:
-        raise Failed(in_a_line(refused.line, text)) from refused
+        raise Failed(refusal(refused.line, text)) from refused
 
 
 @contextmanager
-def counted(text: str) -> Iterator[Optional[Progress]]:
+def modules_told(text: str) -> Iterator[Optional[Progress]]:
     """What counts the modules on a terminal; nothing in a pipe, and where they are few."""
     if not sys.stderr.isatty() or text.count('\nmodule ') < FEWEST:
         yield None

@@ -7,10 +7,11 @@ import click
 
 from .. import equivalence
 from ..errors import Failed, Refused
-from ..explaining import in_a_line
+from ..explaining import refusal
 from ..netlist import design_of, shown
 from ..statistics import has_gates, mapped, statistics
 from ..synthesis import of_text
+from ..tables import counted
 from ..words import complain, reading_of, reading_words, script_words, sources_word
 from ..writers import write_netlist
 from ..yosys import rtlil_of
@@ -36,15 +37,15 @@ def verilog(sources: tuple[str, ...], output: str, liberty: Optional[str], is_ch
     try:
         done = of_text(text, script=script, workers=workers)
     except Refused as refused:
-        raise Failed(in_verilog(in_a_line(refused.line, text), text)) from refused
-    click.echo(f'{len(design_of(text))} modules, built {done.built} reused {done.reused}')
+        raise Failed(in_verilog(refusal(refused.line, text), text)) from refused
+    click.echo(f'{counted(len(design_of(text)), "module")}, built {done.built} reused {done.reused}')
     for line in figures(done.netlist):
         click.echo(f'  {line}')
     is_proven = not is_checked or checked(text, done.netlist, script, top)
     gates = mapped(done.netlist, liberty, complain) if liberty and has_gates(done.netlist, liberty) else done.netlist
     if liberty:
         whole = statistics(gates, liberty).hierarchy
-        click.echo(f'  mapped: {sum(whole.cells.values())} cells, area {whole.area:g}')
+        click.echo(f'  mapped: {counted(sum(whole.cells.values()), "cell")}, area {whole.area:g}')
     write_netlist(output, gates, complain)
     click.echo(f'wrote {output}')
     click.get_current_context().exit(0 if is_proven else 1)
@@ -53,8 +54,8 @@ def verilog(sources: tuple[str, ...], output: str, liberty: Optional[str], is_ch
 def figures(netlist: str) -> list[str]:
     """A line for each module of the netlist."""
     found = statistics(netlist)
-    return [f'{it.name}: {sum(it.cells.values())} cells, {it.flip_flops} flip-flops, depth {it.path.depth}'
-            for it in found.modules]
+    return [f'{it.name}: {counted(sum(it.cells.values()), "cell")}, {counted(it.flip_flops, "flip-flop")}, '
+            f'depth {it.path.depth}' for it in found.modules]
 
 
 def checked(text: str, netlist: str, script: Optional[str], top: Optional[str]) -> bool:
