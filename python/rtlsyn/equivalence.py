@@ -25,6 +25,8 @@ PREPARE = {'gold': ['proc', 'flatten', 'memory_map', 'opt_clean'], 'gate': ['fla
 #: How far `sat` looks for an induction, and how long in seconds.
 DEPTH, SECONDS = 12, 60
 COUNTS = re.compile(r'Of those cells (\d+) are proven and (\d+) are unproven')
+#: The head of the line of a pin.
+PIN = re.compile(r'    connect \S+ ')
 UNPROVEN = re.compile(r'Unproven \$equiv \S+: (\S+) (\S+)')
 
 
@@ -66,10 +68,11 @@ def path(room: str, name: str) -> str:
 
 
 def flat(room: str, side: str, text: str, top: str) -> None:
-    """Writes a side as one flat module of its name."""
+    """Writes a side as one flat module of its name, and beside it the black boxes that it has instances of."""
     files.write(path(room, f'{side}.in'), text)
     run([f'read_rtlil "{path(room, f"{side}.in")}"', f'hierarchy -top {top}', *PREPARE[side], f'rename -top {side}',
-         f'write_rtlil "{path(room, f"{side}.flat")}"'])
+         f'select {side}', f'write_rtlil -selected "{path(room, f"{side}.flat")}"',
+         'select =A:blackbox', f'write_rtlil -selected "{path(room, "boxes")}"'])
 
 
 # Names
@@ -89,8 +92,12 @@ def renamed_modules(text: str, matches: Mapping[str, Match]) -> str:
 
 
 def renamed(line: str, names: Mapping[str, str]) -> str:
-    """The line with names in the place of others."""
-    return NAME.sub(lambda found: names.get(found[0], found[0]), line) if names else line
+    """The line with names of wires in the place of others. Pins and types of cells have names of their own."""
+    if not names or line.lstrip().startswith(('attribute ', 'parameter ', 'module ', 'cell ')):
+        return line
+    pin = PIN.match(line)
+    begin = pin.end() if pin else 0
+    return line[:begin] + NAME.sub(lambda found: names.get(found[0], found[0]), line[begin:])
 
 
 def wire_for(state: str) -> str:
@@ -150,7 +157,7 @@ def lines_of(text: str, body: Body, shown: set[str], extra: Sequence[str]) -> It
                 yield from output_lines(port.name, port.width, port.number, names) if port.direction == 'output' else ()
             yield 'end\n'
         elif words:
-            yield f'{line if words[0] in ("attribute", "parameter", "module") else renamed(line, names)}\n'
+            yield f'{renamed(line, names)}\n'
 
 
 def output_lines(name: str, width: int, number: int, names: Mapping[str, str]) -> Iterator[str]:
@@ -188,8 +195,8 @@ def decoders(body: Body, machines: Sequence[Machine]) -> list[str]:
 
 
 def both(room: str) -> list[str]:
-    """The commands that read the two modules."""
-    return [f'read_rtlil "{path(room, side)}"' for side in ('gold', 'gate')]
+    """The commands that read the two modules and their black boxes."""
+    return [f'read_rtlil "{path(room, side)}"' for side in ('boxes', 'gold', 'gate')]
 
 
 def by_induction(room: str) -> Verdict:

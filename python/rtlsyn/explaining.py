@@ -12,6 +12,8 @@ from .places import PLACE, placed
 from .stable import Module
 
 MEMORY_BITS = 65_536
+#: The errors whose first word is a module of the design.
+IN_DESIGN = (*range(7, 17), 20)
 #: An error line, which may have its cause after it, as `refusal` says it.
 BARE = re.compile(r'error (?P<number>[0-9]+)(?P<rest>(?: [^ ]+?)*?)(?:: [a-z`].*)?')
 #: What the program says of one on standard error: `pow.v:3:14: error 9: .. (module \\cube, cell $pow$pow.v:3$1)`.
@@ -105,7 +107,8 @@ def in_design(refused: Refused, design: Mapping[str, Body]) -> Explanation:
     """A fault of what the error line names."""
     body = design.get(refused.module or '')
     if body is None:
-        return Explanation(refused.line, cause_of(refused.line))
+        about_it = f'no module {refused.module} is in this text' if refused.number in IN_DESIGN else ''
+        return Explanation(refused.line, cause_of(refused.line), '', about_it)
     cell = next((it for it in body.cells if it.name == refused.name), None)
     cause = cause_of(refused.line, cell.type if cell else None, cause_in(refused, design, body, cell))
     return Explanation(refused.line, cause, place_in(body, refused.name or '', cell), about(body, refused, cell))

@@ -8,7 +8,7 @@ from conftest import example, rtlsyn, text
 
 from rtlsyn.causes import cause_of, causes
 from rtlsyn.errors import Failed
-from rtlsyn.explaining import explanation
+from rtlsyn.explaining import bare, explanation
 
 CASES = [[field.strip() for field in line.split('|')] for line in text('refused', 'cases').split('\n')
          if line.count('|') == 3 and not line.startswith('#')]
@@ -39,6 +39,25 @@ def test_a_type_stands_in_its_words():
 def test_lines_that_are_none():
     with pytest.raises(Failed):
         explanation('ok built 1')
+
+
+@pytest.mark.parametrize('line, alone', [
+    ('rtlsyn: pow.v:3:16: error 9 \\cube $pow$pow.v:3$1: cell type $pow is not supported: a power',
+     'error 9 \\cube $pow$pow.v:3$1'),
+    ('pow.v:3:14: error 9: cell type $pow is not supported: a power (module \\cube, cell $pow$pow.v:3$1)',
+     'error 9 \\cube $pow$pow.v:3$1'),
+    ('a.v:2:39: error 12: a bit has two drivers (module \\m, wire \\y, bit 0; driven by connection 1 and cell \\c)',
+     'error 12 \\m \\y 0'),
+    ('error 7: the sides of a connection have unequal widths (module \\m, connection 3)', 'error 7 \\m connect 3'),
+    ('in.il:18:15: error 2: a parameter that is a real number', 'error 2 18:15'),
+    ('error 20 \\m techmap built 1 reused 0', 'error 20 \\m techmap built 1 reused 0'), ('error 22', 'error 22')])
+def test_what_stands_around_an_error_line(line, alone):
+    assert bare(line) == alone
+
+
+def test_what_the_text_does_not_have_is_told():
+    assert 'no module \\cubes' in explanation('error 9 \\cubes $1', text('refused', 'pow.il')).about
+    assert 'has no $1 ' in explanation('error 9 \\cube $1', text('refused', 'pow.il')).about
 
 
 def test_the_command_reads_a_pipe():

@@ -67,6 +67,8 @@ def test_the_picture():
     assert lines[1].endswith('▁▁╱▔') and lines[-1].rstrip().endswith('^')
     assert waves.word_line(['0' * 8] * 3 + ['1' * 8] * 3, 8) == '│00   │ff   '
     assert waves.hexadecimal('xxxx01x0', 8) == 'xX'
+    assert (waves.step_of([1, 32, 8], 60), waves.step_of([1, 32, 8], 50), waves.step_of([1], 60)) == (9, 2, 2)
+    assert (waves.bit_line('01', 3), waves.word_line(['00', '11'], 2, 3)) == ('▁▁▁╱▔▔', '│0 │3 ')
 
 
 def test_the_table_is_the_recorded_one(program, capsys):

@@ -10,6 +10,7 @@ import pytest
 from conftest import PYTHON, example, rtlsyn, text
 
 import rtlsyn as package
+from rtlsyn import equivalence
 from rtlsyn.cli import run
 from rtlsyn.drawing import schematic
 from rtlsyn.errors import Failed
@@ -69,7 +70,8 @@ def test_the_command_tells_what_was_done(program, tmp_path, capsys):
     told = json.loads(capsys.readouterr().out)
     assert (told['modules'], told['built'], told['netlist']) == (1, 1, path)
     assert run(['synth', example('refused', 'pow.il')]) == 1
-    assert capsys.readouterr().err.startswith('rtlsyn: pow.v:3:16: error 9 \\cube')
+    said = capsys.readouterr().err
+    assert said.startswith('rtlsyn: pow.v:3:16: error 9 \\cube') and '\nhint: write the product' in said
     assert run(['synth', example('and.il'), '--wrong']) == 2
 
 
@@ -87,6 +89,33 @@ def test_a_netlist_of_another_design_is_not_proven(program, yosys, tmp_path, cap
     assert run(['check', example('designs', 'gray_counter.il'), str(path)]) == 1
     said = capsys.readouterr().out.split('\n')
     assert 'proven by induction' in said[0] and 'not proven' in said[1]
+
+
+#: Wires and a module that have the names of pins.
+PINS = '''
+module \\Q
+  wire input 1 \\CLK
+  wire input 2 \\A
+  wire input 3 \\D
+  wire output 4 \\Y
+  wire \\Q
+  cell $_DFF_P_ \\S
+    connect \\C \\CLK
+    connect \\D \\D
+    connect \\Q \\Q
+  end
+  cell $_XOR_ \\B
+    connect \\A \\A
+    connect \\B \\Q
+    connect \\Y \\Y
+  end
+end
+'''
+
+
+@pytest.mark.parametrize('given', [PINS, text('refused', 'black_box.ok.il')])
+def test_names_of_pins_and_black_boxes_are_proven(program, yosys, given):
+    assert equivalence.check(given).is_proven
 
 
 def test_watch_once(program, tmp_path):
@@ -127,6 +156,13 @@ def test_a_page_about_a_design(program, tmp_path, capsys):
     for part in ('6 modules, built 1 reused 5', 'changed: \\prescaler', '<svg', 'scratch', '20 steps'):
         assert part in page
     assert 'src=' not in page and 'href=' not in page and 'http' not in page
+
+
+def test_a_page_says_the_cause_as_the_other_commands_do(program, tmp_path, capsys):
+    for words in (['synth'], ['report', '-o', str(tmp_path / 'page.html')], ['watch', '--once']):
+        assert run([*words, example('refused', 'black_box.il')]) == 1
+        said = ''.join(capsys.readouterr())
+        assert 'black_box.v:5:23: error 10 \\top \\u: an instance of a black box has a parameter' in said, words
 
 
 def test_a_schematic(program, yosys):

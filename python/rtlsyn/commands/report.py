@@ -105,7 +105,8 @@ def simulated(session: Session, design: Mapping[str, Body], steps: Optional[str]
     if not body.ports() or not stimulus.steps:
         return None, f'{shown(tops[0], body)} has no ports, or the stimulus no steps.'
     run = simulate(session, body, stimulus.steps[:DRAWN])
-    how = steps or f'inputs drawn at random, clock {clock or "none"}, reset {reset or "none"}'
+    drawn = f'inputs drawn at random, clock {clock or "none"}, reset {reset or "none"}'
+    how = f'inputs of the file {steps}' if steps else drawn
     differ = f'bits that the netlist alone knows: {run.only_netlist}' if run.only_netlist else \
         'source and netlist are equal at each step'
     return run, f'{shown(tops[0], body)}, {len(run.rows)} steps: {how}. Grey is unknown; {differ}.'
