@@ -21,8 +21,9 @@ STEP, ROW, HEIGHT, HEAD = 22, 24, 14, 20
 CHARACTER = 7.3
 #: What a value of a waveform is drawn as.
 COLOURS = {'both': '#1a7f37', 'input': '#0550ae', 'source': '#8250df', 'netlist': '#1a7f37'}
-#: How long `dot` may take for one schematic, in seconds.
+#: How long `dot` may take for one schematic, in seconds; with these words it takes a quarter of the time.
 SECONDS = 60
+SOONER = ['-Gnslimit=1', '-Gnslimit1=1', '-Gmclimit=0.5']
 
 
 def waveform(simulated: Simulation) -> str:
@@ -88,10 +89,15 @@ def word(values: Sequence[str], bits: int, left: float, top: float, colour: str)
     return parts
 
 
+def can_draw() -> bool:
+    """Whether the tools that draw schematics are there."""
+    return bool(shutil.which('dot') and shutil.which('yosys'))
+
+
 def schematic(netlist: str, module: str) -> Optional[str]:
-    """The schematic of a module, drawn by `dot` from what Yosys shows; nothing where one of the two is missing or does
-    not take the module."""
-    if not shutil.which('dot') or not shutil.which('yosys'):
+    """The schematic of a module, drawn by `dot` from what Yosys shows; nothing where one of the two is missing, or takes
+    too long or does not take the module."""
+    if not can_draw():
         return None
     with tempfile.TemporaryDirectory() as room:
         path = os.path.join(room, 'netlist.il')
@@ -107,7 +113,7 @@ def schematic(netlist: str, module: str) -> Optional[str]:
 def svg_of(path: str) -> Optional[str]:
     """The drawing of a graph, without the head of its file; nothing where `dot` takes too long."""
     try:
-        done = subprocess.run(['dot', '-Tsvg', path], capture_output=True, timeout=SECONDS, check=False)
+        done = subprocess.run(['dot', *SOONER, '-Tsvg', path], capture_output=True, timeout=SECONDS, check=False)
     except subprocess.TimeoutExpired:
         return None
     if done.returncode:

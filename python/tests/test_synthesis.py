@@ -118,6 +118,15 @@ def test_names_of_pins_and_black_boxes_are_proven(program, yosys, given):
     assert equivalence.check(given).is_proven
 
 
+def test_what_newer_versions_of_yosys_write(program):
+    newer = ('module \\m\n  wire width 4 signed output 1 \\y\n  cell $buf $1\n    parameter \\WIDTH 4\n'
+             "    connect \\A 4's1010\n    connect \\Y \\y\n  end\nend\n")
+    assert package.synth(newer).netlist == \
+        "module \\m\n  wire width 4 output 1 signed \\y\n  connect \\y 4'1010\nend\n"
+    with pytest.raises(package.Refused, match='error 2 5:19'):
+        package.synth(newer.replace("4's1010", "4'sd5"))
+
+
 def test_watch_once(program, tmp_path):
     done = rtlsyn('watch', '--once', '--simulate', example('system', 'steps'), '-o', 'a.il',
                   example('system', 'system.il'), folder=str(tmp_path))

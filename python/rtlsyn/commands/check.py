@@ -2,6 +2,7 @@
 from __future__ import annotations
 
 import json
+import sys
 from dataclasses import asdict
 from typing import Optional
 
@@ -35,6 +36,8 @@ def check(design: str, netlist: Optional[str], top: str, read: str, then: str, s
     """
     text = rtlil_of([design], reading_of(top, read, then), complain)
     gates = None if netlist is None else read_file(netlist)
+    if sys.stderr.isatty():
+        click.echo('Yosys compares source and netlist: some seconds, or minutes for thousands of registers', err=True)
     try:
         found = equivalence.check(text, gates, script, top)
     except Refused as refused:

@@ -10,7 +10,7 @@ import click
 
 from .. import files
 from ..changes import text_of
-from ..drawing import schematic, waveform
+from ..drawing import SECONDS, can_draw, schematic, waveform
 from ..errors import Failed, Refused
 from ..explaining import refusal_of
 from ..netlist import Body, Port, design_of, plain, shown, tops_of
@@ -125,10 +125,24 @@ def draw(made: Report, netlist: str, most: int) -> None:
     design = design_of(netlist)
     small = [body for body in design.values() if 0 < len(body.cells) <= most]
     small.sort(key=lambda body: (body.name not in made.tops, len(body.cells)))
-    for body in small[:SCHEMATICS]:
+    late = []
+    for body in small[:SCHEMATICS] if can_draw() else ():
         drawing = schematic(netlist, body.name)
         if drawing:
             made.schematics[shown(body.name, body)] = drawing
-    left = len(design) - len(made.schematics)
-    made.schematics_note = f'Modules of the netlist of up to {most} cells, at most {SCHEMATICS}.' + \
-        (f' {left} of {len(design)} modules are not drawn.' if left else '')
+        else:
+            late.append(shown(body.name, body))
+    made.schematics_note = ' '.join([f'Modules of the netlist of up to {most} cells, the top first, at most {SCHEMATICS}.',
+                                     *left_out(design, len(small), most, late)])
+
+
+def left_out(design: Mapping[str, Body], small: int, most: int, late: Sequence[str]) -> list[str]:
+    """Which modules are not drawn, and why."""
+    if small and not can_draw():
+        return ['None is drawn: Yosys or Graphviz is not installed.']
+    counts = [(sum(len(body.cells) > most for body in design.values()), 'larger'),
+              (sum(not body.cells for body in design.values()), 'without cells'),
+              (max(0, small - SCHEMATICS), f'beyond the first {SCHEMATICS}')]
+    told = [f'{count} {why}' for count, why in counts if count]
+    told += [f'{" ".join(late)}, for which Graphviz took more than {SECONDS} s'] if late else []
+    return [f'Not drawn: {", ".join(told)}.'] if told else []

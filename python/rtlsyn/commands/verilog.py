@@ -9,7 +9,7 @@ from .. import equivalence
 from ..errors import Failed, Refused
 from ..explaining import refusal
 from ..netlist import design_of, shown
-from ..statistics import has_gates, mapped, statistics
+from ..statistics import Statistics, has_gates, mapped, statistics
 from ..synthesis import of_text
 from ..tables import counted
 from ..words import complain, reading_of, reading_words, script_words, sources_word
@@ -44,8 +44,7 @@ def verilog(sources: tuple[str, ...], output: str, liberty: Optional[str], is_ch
     is_proven = not is_checked or checked(text, done.netlist, script, top)
     gates = mapped(done.netlist, liberty, complain) if liberty and has_gates(done.netlist, liberty) else done.netlist
     if liberty:
-        whole = statistics(gates, liberty).hierarchy
-        click.echo(f'  mapped: {counted(sum(whole.cells.values()), "cell")}, area {whole.area:g}')
+        click.echo(mapped_told(statistics(gates, liberty)))
     write_netlist(output, gates, complain)
     click.echo(f'wrote {output}')
     click.get_current_context().exit(0 if is_proven else 1)
@@ -56,6 +55,13 @@ def figures(netlist: str) -> list[str]:
     found = statistics(netlist)
     return [f'{it.name}: {counted(sum(it.cells.values()), "cell")}, {counted(it.flip_flops, "flip-flop")}, '
             f'depth {it.path.depth}' for it in found.modules]
+
+
+def mapped_told(found: Statistics) -> str:
+    """What the netlist is in cells of the library, and which of its cells the library does not have."""
+    whole = found.hierarchy
+    beside = f'; not in the library: {" ".join(found.unknown)}' if found.unknown else ''
+    return f'  mapped: {counted(sum(whole.cells.values()), "cell")}, area {whole.area:g}{beside}'
 
 
 def checked(text: str, netlist: str, script: Optional[str], top: Optional[str]) -> bool:
