@@ -20,6 +20,8 @@ tr.sum td { border-top: 1px solid #d1d9e0; font-weight: 600; } td.bar { width: 3
 td.bar div { background: #54aeff; height: 12px; margin-top: 5px; } ul { padding-left: 20px; margin: 2px 0; }
 .scroll { overflow: auto; max-height: 640px; border: 1px solid #d1d9e0; border-radius: 6px; padding: 8px; }
 details { margin: 6px 0; } summary { cursor: pointer; } svg { display: block; }
+label { font-size: 13px; color: #59636e; } .fit svg { max-width: 100%; max-height: 620px; }
+input:checked ~ .fit svg { max-width: none; max-height: none; }
 svg .name, svg .value, svg .step { font: 12px ui-monospace, monospace; fill: #1f2328; } svg .name { text-anchor: end; }
 svg .value { font-size: 10px; text-anchor: middle; } svg .step { font-size: 10px; text-anchor: middle; fill: #59636e; }
 svg .grid { stroke: #eaeef2; } svg .line { fill: none; stroke-width: 1.6; }
@@ -120,9 +122,10 @@ def waveform(report: Report) -> Iterator[str]:
 
 
 def schematics(report: Report) -> Iterator[str]:
-    """The schematics, the first of them open."""
+    """The schematics, the first of them open. Each is seen whole, or with a tick in its full size."""
     yield f'<h2>Schematics</h2><p class="note">{escape(report.schematics_note)}</p>'
     for number, (name, drawing) in enumerate(report.schematics.items()):
         is_open = ' open' if number == 0 else ''
         yield f'<details{is_open}><summary><code>{escape(name)}</code></summary>'
-        yield f'<div class="scroll">{drawing}</div></details>'
+        yield f'<input type="checkbox" id="full{number}"><label for="full{number}"> full size</label>'
+        yield f'<div class="scroll fit">{drawing}</div></details>'
