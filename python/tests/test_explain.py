@@ -2,11 +2,13 @@
 from __future__ import annotations
 
 import json
+import re
 
 import pytest
 from conftest import example, rtlsyn, text
 
 from rtlsyn.causes import cause_of, causes
+from rtlsyn.cli import run
 from rtlsyn.errors import Failed
 from rtlsyn.explaining import bare, explanation
 
@@ -64,3 +66,14 @@ def test_the_command_reads_a_pipe():
     done = rtlsyn('explain', '-', example('refused', 'pow.il'), '--json', given='error 9 \\cube $pow$pow.v:3$1\n')
     assert done.returncode == 0, done.stderr
     assert json.loads(done.stdout)['cause'] == 'power'
+
+
+@pytest.mark.parametrize('name', [name for name, *_ in CASES if name != 'too_large'])
+def test_each_command_takes_each_text(program, name, tmp_path, capsys):
+    """No command breaks; one that is refused says the error line with its cause."""
+    path, out = example('refused', f'{name}.il'), ['-o', str(tmp_path / 'gates.il')]
+    for words in (['synth', path, *out], ['watch', '--once', path, *out], ['sim', path, '--random', '2'], ['stat', path]):
+        status = run(words)
+        said = ''.join(capsys.readouterr())
+        assert status in (0, 1) and (status == 0 or said)
+        assert 'error' not in said or re.search(r'error \d+ .*: [a-z`]', said), said

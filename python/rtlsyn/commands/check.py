@@ -12,6 +12,7 @@ from .. import equivalence
 from ..errors import Failed, Refused
 from ..explaining import refusal
 from ..files import read as read_file
+from ..tables import counted
 from ..words import complain, json_word, reading_of, reading_words
 from ..yosys import rtlil_of
 
@@ -51,10 +52,10 @@ def check(design: str, netlist: Optional[str], top: str, read: str, then: str, s
 
 def told(found: equivalence.Verdict) -> str:
     """The verdict in a line."""
-    matched = [f'{found.words} words of memories'] if found.words else []
-    matched += [f'{found.machines} state machine{"s" if found.machines > 1 else ""}'] if found.machines else []
+    matched = [counted(found.words, 'word of a memory', 'words of memories')] if found.words else []
+    matched += [counted(found.machines, 'state machine')] if found.machines else []
     beside = f' ({" and ".join(matched)} matched)' if matched else ''
     if found.is_proven:
-        return f'proven by {found.by}, {found.pairs} bits compared{beside}'
+        return f'proven by {found.by}, {counted(found.pairs, "bit")} compared{beside}'
     names = ' '.join(found.left[:SAID]) + (' ..' if len(found.left) > SAID else '')
-    return f'not proven: of {found.pairs} bits compared {len(found.left)} are left{beside}: {names}'
+    return f'not proven: of {counted(found.pairs, "bit")} compared {len(found.left)} are left{beside}: {names}'
