@@ -95,7 +95,7 @@ def can_draw() -> bool:
 
 
 def schematic(netlist: str, module: str) -> Optional[str]:
-    """The schematic of a module, drawn by `dot` from what Yosys shows; nothing where one of the two is missing, or takes
+    """The schematic of a module, drawn by `dot` from what Yosys shows; nothing where one of the two is missing, takes
     too long or does not take the module."""
     if not can_draw():
         return None

@@ -18,8 +18,8 @@ IN_DESIGN = (*range(7, 17), 20)
 BARE = re.compile(r'error (?P<number>[0-9]+)(?P<rest>(?: [^ ]+?)*?)(?:: [a-z`].*)?')
 #: What the program says of one on standard error: `pow.v:3:14: error 9: .. (module \\cube, cell $pow$pow.v:3$1)`.
 TOLD = re.compile(r'(?:.*?(?P<place>[0-9]+:[0-9]+): )?error (?P<number>[0-9]+): .*?'
-                  r'(?: \(module (?P<module>\S+?)(?:, (?P<kind>wire|memory|cell|process|connection|pass) (?P<name>\S+?))?'
-                  r'(?:, bit (?P<bit>[0-9]+))?(?:; .*)?\))?')
+                  r'(?: \(module (?P<module>\S+?)'
+                  r'(?:, (?P<kind>wire|memory|cell|process|connection|pass) (?P<name>\S+?))?(?:, bit (?P<bit>[0-9]+))?(?:; .*)?\))?')
 
 
 class Explanation(NamedTuple):
@@ -33,8 +33,8 @@ class Explanation(NamedTuple):
 
 
 def explanation(line: str, text: Optional[str] = None) -> Explanation:
-    """What the error line means; with the text of the design also where. The line may stand between a place and a cause,
-    and it may be what the program says of it on standard error."""
+    """What the error line means; with the text of the design also where. The line may stand between a place and a
+    cause, and it may be what the program says of it on standard error."""
     refused = Refused(bare(line.strip()))
     if text is None:
         return Explanation(refused.line, cause_of(refused.line))
@@ -68,8 +68,8 @@ def refusal(line: str, text: Optional[str] = None) -> str:
 
 
 def refusal_of(refused: Refused, modules: Mapping[str, Module], block: Optional[str]) -> str:
-    """The same for a design whose modules have stable texts, without the hint. `block` is the text in which a fault of a
-    text is counted."""
+    """The same for a design whose modules have stable texts, without the hint. `block` is the text in which a fault of
+    a text is counted."""
     text = block if refused.place else text_of(modules)
     return f'{placed(refused, modules, block)}: {explanation(refused.line, text).cause.words}'
 

@@ -53,9 +53,13 @@ def shown_by_readme() -> list[tuple[str, str]]:
     commands = []
     for part in re.split(r'^\$ ', block[1], flags=re.M)[1:]:
         command, *lines = part.split('\n')[:-1]
-        forms = [r'(.*\n)*' if line.strip() == '..' else f'{re.escape(line)}\n'.replace(r'\.\.', '.*') for line in lines]
-        commands.append((command, ''.join(forms)))
+        commands.append((command, ''.join(map(form_of, lines))))
     return commands
+
+
+def form_of(line: str) -> str:
+    """The pattern of a line of what is printed."""
+    return r'(.*\n)*' if line.strip() == '..' else f'{re.escape(line)}\n'.replace(r'\.\.', '.*')
 
 
 def test_the_commands_of_the_readme(program, yosys, tmp_path):
@@ -66,6 +70,6 @@ def test_the_commands_of_the_readme(program, yosys, tmp_path):
     commands.insert(0, (f'{watch} --once'.replace('cd examples/system; ', ''), watched.split('\n')[0] + '\n'))
     assert len(commands) == 4
     for command, form in commands:
-        done = subprocess.run(['bash', '-c', command], cwd=tmp_path / 'examples' / 'system', capture_output=True, text=True,
-                              check=False)
+        done = subprocess.run(['bash', '-c', command], cwd=tmp_path / 'examples' / 'system', capture_output=True,
+                              text=True, check=False)
         assert re.fullmatch(form, done.stdout), f'{command}:\n{done.stdout}{done.stderr}'

@@ -72,7 +72,8 @@ def test_the_command_reads_a_pipe():
 def test_each_command_takes_each_text(program, name, tmp_path, capsys):
     """No command breaks; one that is refused says the error line with its cause."""
     path, out = example('refused', f'{name}.il'), ['-o', str(tmp_path / 'gates.il')]
-    for words in (['synth', path, *out], ['watch', '--once', path, *out], ['sim', path, '--random', '2'], ['stat', path]):
+    for words in (['synth', path, *out], ['watch', '--once', path, *out], ['sim', path, '--random', '2'],
+                  ['stat', path]):
         status = run(words)
         said = ''.join(capsys.readouterr())
         assert status in (0, 1) and (status == 0 or said)

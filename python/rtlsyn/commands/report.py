@@ -132,8 +132,8 @@ def draw(made: Report, netlist: str, most: int) -> None:
             made.schematics[shown(body.name, body)] = drawing
         else:
             late.append(shown(body.name, body))
-    made.schematics_note = ' '.join([f'Modules of the netlist of up to {most} cells, the top first, at most {SCHEMATICS}.',
-                                     *left_out(design, len(small), most, late)])
+    drawn = f'Modules of the netlist of up to {most} cells, the top first, at most {SCHEMATICS}.'
+    made.schematics_note = ' '.join([drawn, *left_out(design, len(small), most, late)])
 
 
 def left_out(design: Mapping[str, Body], small: int, most: int, late: Sequence[str]) -> list[str]:

@@ -88,8 +88,8 @@ def notes_on(found: Statistics, with_path: bool) -> list[str]:
     if found.hierarchy.memory_bits:
         notes.append(f'memories: {found.hierarchy.memory_bits} bits')
     if found.hierarchy.processes:
-        notes.append(f'{counted(found.hierarchy.processes, "process", "processes")} not counted: this is a source, whose '
-                     'netlist has cells in their place')
+        processes = counted(found.hierarchy.processes, 'process', 'processes')
+        notes.append(f'{processes} not counted: this is a source, whose netlist has cells in their place')
     if found.hierarchy.path.loops:
         notes.append(f'loops of combinational cells were cut at {found.hierarchy.path.loops} cells')
     if found.unknown:
